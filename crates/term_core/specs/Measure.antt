@@ -1,0 +1,26 @@
+-- A number that falls from a term to its list of arguments, and from a list to its members and its rest.
+use Rattle.std.specs.Prelude.{◌≡◌, ℕ, ◌+◌, ◌≤◌, List, [], ◌∷◌}
+use Rattle.std.proofs.Common.{arith, refl}
+use denote.Param.Weighed.{most}
+use Rattle.term_core.specs.Tree.{Tree, Trees, var, app, none, some, trees_of}
+
+abbrev mutual
+  pub weight : Tree → ℕ
+  weight (var n) = 1
+  weight (app f ts) = weights ts + 1
+
+  pub weights : Trees → ℕ
+  weights none = 0
+  weights (some t ts) = weight t + weights ts + 1
+
+abbrev pub list_weight : List Tree → ℕ
+list_weight [] = 0
+list_weight (t ∷ ts) = weight t + list_weight ts + 1
+
+pub list_weight_is : (ts : List Tree) → list_weight ts ≡ weights (trees_of ts)
+list_weight_is [] = refl
+list_weight_is (t ∷ ts) = omega (arith, list_weight_is ts)
+
+pub most_le : (ts : List Tree) → most (λ t. weight t + 1) ts ≤ list_weight ts
+most_le [] = omega arith
+most_le (t ∷ ts) = omega (arith, most_le ts)

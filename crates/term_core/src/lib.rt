@@ -1,0 +1,19 @@
+//! Terms as trees: what every other crate of the prover speaks of.
+//!
+//! It stands on std alone. A [`Term`] is seen by contracts as a tree (`specs/Tree.antt`), a
+//! [`Seq`] as the list of its items and a [`Name`] as the list of its bytes. The layers above use
+//! that each call on terms is exact against that tree, and [`OutOfMemory`] as the one answer that
+//! no contract ties to a cause.
+#![tactic(auto)]
+
+mod ids;
+mod lists;
+mod memory;
+mod names;
+mod tree;
+
+pub use ids::{SortId, SymId, VarId};
+pub use lists::{Seq, front};
+pub use memory::OutOfMemory;
+pub use names::Name;
+pub use tree::{Node, Term, Terms, copy_all};
