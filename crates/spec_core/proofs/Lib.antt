@@ -1,0 +1,12 @@
+pub mod Instances
+pub mod Keeps
+pub mod Groups
+pub mod Determined
+pub mod Values
+pub mod Names
+pub mod Guarded
+pub mod OneSort
+pub mod Table
+pub mod OneVerdict
+pub mod Fresh
+pub mod SmallConstants

@@ -1,0 +1,13 @@
+use Rattle.std.proofs.Common.{position, ℕ, ap, ◌∙◌, Vec, Global}
+use Rattle.std.specs.Str.{bytes_eq}
+use Rattle.spec_core.specs.Sig.{Sig, names_of}
+use Rattle.spec_core.proofs.Names.{position-keys}
+use Rattle.spec_core.proofs.symbols.Signature.symbol.Goals as goal
+
+pub returns-in-Some : goal.returns-in-Some
+returns-in-Some c =
+    c.in-Some.ensures.index ∙ position-keys (bytes_eq c.args.name.now) (λ (k : Vec ℕ Global). k.items) c.self.inside.table.entries ∙ ap (λ (s : Sig). position (bytes_eq c.args.name.now) (names_of s)) c.self.view_is
+
+pub returns-in-None : goal.returns-in-None
+returns-in-None c =
+    c.in-None.ensures.index ∙ position-keys (bytes_eq c.args.name.now) (λ (k : Vec ℕ Global). k.items) c.self.inside.table.entries ∙ ap (λ (s : Sig). position (bytes_eq c.args.name.now) (names_of s)) c.self.view_is

@@ -1,0 +1,17 @@
+-- The definitions that a reader of any answer of the prover has to believe, in the order in which to read them.
+pub mod Sig
+pub mod Sorts
+pub mod Small
+pub mod Declarations
+pub mod WellSorted
+pub mod Gives
+pub mod Truth
+pub mod Overlap
+pub mod Groups
+pub mod Verdict
+pub mod Order
+pub mod TermText
+pub mod Laws
+-- What only this crate's own contracts speak of.
+pub mod Constants
+pub mod Pairs

@@ -1,0 +1,20 @@
+//! Specifications, and the definitions on which every answer of the prover rests.
+//!
+//! It stands on term_core and on `indexmap`. The folder `specs/` has a file for each notion: what a
+//! signature declares, sorts and values, well sorted specifications, evaluation with its cost,
+//! truth, overlap, whole groups, the verdict within a budget, the order of a search and the text of
+//! a term. The layers above use these definitions, and of [`Signature`] that a symbol's number is
+//! its place in the table and that each call is exact against the lists of declarations.
+#![tactic(auto)]
+
+mod building;
+mod laws;
+mod printing;
+mod records;
+mod sorting;
+mod symbols;
+
+pub use building::BuildError;
+pub use laws::one_value;
+pub use records::{Equation, Goal, Guard, Rule, Spec, SymInfo, VarInfo, Verdict};
+pub use symbols::Signature;
