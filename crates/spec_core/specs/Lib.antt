@@ -12,6 +12,8 @@ pub mod Verdict
 pub mod Order
 pub mod TermText
 pub mod Laws
+pub mod Naturals
+pub mod Examples
 -- What only this crate's own contracts speak of.
 pub mod Constants
 pub mod Pairs

@@ -15,6 +15,6 @@ mod sorting;
 mod symbols;
 
 pub use building::BuildError;
-pub use laws::one_value;
+pub use laws::{one_value, worked_examples};
 pub use records::{Equation, Goal, Guard, Rule, Spec, SymInfo, VarInfo, Verdict};
 pub use symbols::Signature;

@@ -1,0 +1,3 @@
+-- Laws for callers that read or write more than once.
+pub mod Counts
+pub mod Pieces

@@ -1,0 +1,70 @@
+use Rattle.std.proofs.Common.{◌≡◌, ◌≢◌, ℕ, [], ◌∷◌, Some, ◌⊎◌, inl, inr, refl, ap, ◌∙◌, arith, ◌<◌}
+use Rattle.std.specs.Prelude.{codes, ◌++◌}
+use Rattle.std.specs.Fmt.{decimal}
+use Rattle.std.proofs.lemmas.Fmt.{decimal_digit}
+use Rattle.term_core.specs.Tree.{Tree, var, app, none}
+use Rattle.term_core.specs.declared.ids.SortId.{SortId}
+use Rattle.spec_core.specs.declared.records.SymInfo.{SymInfo}
+use Rattle.spec_core.specs.Sorts.{Sorted, IsBuilt}
+use Rattle.spec_core.specs.Declarations.{bool_sort}
+use Rattle.spec_core.specs.WellSorted.{Numbered}
+use Rattle.spec_core.specs.Gives.{Gives, built, called, no_terms, more_terms, no_guards}
+use Rattle.spec_core.specs.Groups.{alone}
+use Rattle.spec_core.specs.Naturals.{nat, naturals_sig, naturals, plus_zero_rule, plus_succ_rule, zero_term, succ_term, plus_term}
+use Rattle.spec_core.proofs.laws.worked_examples.Goals as goal
+
+zero_built : IsBuilt naturals_sig zero_term
+zero_built = (omega arith, tt)
+
+one_built : IsBuilt naturals_sig (succ_term zero_term)
+one_built = (omega arith, (zero_built, tt))
+
+zero_gives : Gives naturals zero_term zero_term 0
+zero_gives = built (omega arith) no_terms
+
+one_gives : Gives naturals (succ_term zero_term) (succ_term zero_term) 0
+one_gives = built (omega arith) (more_terms zero_gives no_terms refl)
+
+-- plus(zero, v) gives the value v by one rule use
+zero_plus : (v : Tree) → IsBuilt naturals_sig v → Gives naturals v v 0 → Gives naturals (plus_term zero_term v) v 1
+zero_plus v b g = called 0 plus_zero_rule (v ∷ []) (more_terms zero_gives (more_terms g no_terms refl) refl) refl (b, tt) refl no_guards g refl
+
+one_plus_zero : Gives naturals (plus_term (succ_term zero_term) zero_term) (succ_term zero_term) 2
+one_plus_zero =
+    called 1 plus_succ_rule (zero_term ∷ zero_term ∷ []) (more_terms one_gives (more_terms zero_gives no_terms refl) refl) refl (zero_built, (zero_built, tt)) refl no_guards (built (omega arith) (more_terms (zero_plus zero_term zero_built zero_gives) no_terms refl)) refl
+
+one_is_not_zero : succ_term zero_term ≢ zero_term
+one_is_not_zero e = let k : ◌≡◌ {A = ℕ} 3 2 = cc in omega arith
+
+zero_is_no_boolean : Sorted naturals_sig [] zero_term bool_sort → ⊥
+zero_is_no_boolean p =
+    let e : ◌≡◌ {A = SymInfo} (record { args = []; result = nat }) p.0 = let q : Some (record { args = []; result = nat }) ≡ Some p.0 = p.1 in cc in
+    let k : ◌≡◌ {A = ℕ} 1 0 = ap (λ (i : SymInfo). i.result.0) e ∙ ap (λ (s : SortId). s.0) p.2 in
+    omega arith
+
+not_numbered : Numbered 0 (plus_term (var 1) (var 0)) 2 → ⊥
+not_numbered p = by p.1
+  where
+    by : {A B : Type 0} → ((1 < 0) × A) ⊎ ((◌≡◌ {A = ℕ} 1 0) × B) → ⊥
+    by (inl h) = omega arith
+    by (inr h) = omega arith
+
+pub returns : goal.returns
+returns c = record {
+  one_is_a_value = ((_, refl, refl, ((_, refl, refl, tt), tt)), one_built);
+  open_sum_is_sorted = (_, refl, refl, (refl, ((_, refl, refl, tt), tt)));
+  zero_is_no_boolean = zero_is_no_boolean;
+  numbered = (1, inr (refl, refl), (2, inr (refl, refl), refl));
+  not_numbered = not_numbered;
+  one_plus_zero = one_plus_zero;
+  zero_gives_itself = zero_gives;
+  same_fails = (tt, ((_, _, _, _, one_is_not_zero, zero_plus (succ_term zero_term) one_built one_gives, zero_plus zero_term zero_built zero_gives), tt));
+  same_holds = λ _. inl (_, _, _, zero_plus zero_term zero_built zero_gives, zero_plus zero_term zero_built zero_gives);
+  verdict_fails = inr (inr ((_, _, one_is_not_zero, (1, zero_plus (succ_term zero_term) one_built one_gives, omega arith), (1, zero_plus zero_term zero_built zero_gives, omega arith)), refl));
+  verdict_holds = inr (inl ((_, (1, zero_plus zero_term zero_built zero_gives, omega arith), (1, zero_plus zero_term zero_built zero_gives, omega arith)), refl));
+  unguarded = alone;
+  three_values = refl;
+  no_values = refl;
+  four_substitutions = refl;
+  text = let e : decimal 1 ≡ 49 ∷ [] = decimal_digit 1 (omega arith) in rw e;
+}

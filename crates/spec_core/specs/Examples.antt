@@ -1,0 +1,40 @@
+-- What the definitions say of naturals with addition.
+use Rattle.std.specs.Prelude.{◌≡◌, [], ◌∷◌, codes}
+use Rattle.term_core.specs.Tree.{var}
+use Rattle.spec_core.specs.declared.records.Verdict.TheVariants.{Holds, Fails}
+use Rattle.spec_core.specs.Sorts.{Sorted, IsValue}
+use Rattle.spec_core.specs.Declarations.{bool_sort}
+use Rattle.spec_core.specs.WellSorted.{Numbered}
+use Rattle.spec_core.specs.Gives.{Gives}
+use Rattle.spec_core.specs.Truth.{GoalFails, GoalHolds}
+use Rattle.spec_core.specs.Groups.{Whole}
+use Rattle.spec_core.specs.Verdict.{IsVerdict}
+use Rattle.spec_core.specs.Order.{values, substitutions}
+use Rattle.spec_core.specs.TermText.{term_text}
+use Rattle.spec_core.specs.Naturals.{nat, naturals_sig, naturals, same_goal, zero_term, succ_term, plus_term}
+
+pub record WorkedExamples : Type 0 where
+  -- succ(zero) is a value of the sort Nat, and plus(x, zero) has this sort where x has it
+  pub one_is_a_value : IsValue naturals_sig nat (succ_term zero_term)
+  pub open_sum_is_sorted : Sorted naturals_sig (nat ∷ []) (plus_term (var 0) zero_term) nat
+  pub zero_is_no_boolean : Sorted naturals_sig [] zero_term bool_sort → ⊥
+  -- plus(x, y) is numbered by first occurrence, and plus(y, x) isn't
+  pub numbered : Numbered 0 (plus_term (var 0) (var 1)) 2
+  pub not_numbered : Numbered 0 (plus_term (var 1) (var 0)) 2 → ⊥
+  -- plus(succ(zero), zero) gives succ(zero) by two uses of rules
+  pub one_plus_zero : Gives naturals (plus_term (succ_term zero_term) zero_term) (succ_term zero_term) 2
+  pub zero_gives_itself : Gives naturals zero_term zero_term 0
+  -- plus(x, y) = plus(x, x) fails at x = zero, y = succ(zero), and holds at x = y = zero
+  pub same_fails : GoalFails naturals (zero_term ∷ succ_term zero_term ∷ []) same_goal
+  pub same_holds : GoalHolds naturals (zero_term ∷ zero_term ∷ []) same_goal
+  -- and so say its verdicts within a budget of one rule use for each side
+  pub verdict_fails : IsVerdict naturals (zero_term ∷ succ_term zero_term ∷ []) 1 same_goal Fails
+  pub verdict_holds : IsVerdict naturals (zero_term ∷ zero_term ∷ []) 1 same_goal Holds
+  -- one rule without guards is a whole group
+  pub unguarded : Whole ((0, []) ∷ [])
+  -- the values of Nat of depth at most 3, and the substitutions of two variables at depth 2
+  pub three_values : values naturals_sig 3 nat ≡ zero_term ∷ succ_term zero_term ∷ succ_term (succ_term zero_term) ∷ []
+  pub no_values : values naturals_sig 0 nat ≡ []
+  pub four_substitutions : substitutions naturals same_goal 2 ≡ (zero_term ∷ zero_term ∷ []) ∷ (zero_term ∷ succ_term zero_term ∷ []) ∷ (succ_term zero_term ∷ zero_term ∷ []) ∷ (succ_term zero_term ∷ succ_term zero_term ∷ []) ∷ []
+  -- the text of plus(x, ?1) where only the variable 0 has a name
+  pub text : term_text naturals_sig (codes "x" ∷ []) (plus_term (var 0) (succ_term (var 1))) ≡ codes "plus(x, succ(?1))"

@@ -1,0 +1,49 @@
+-- Naturals with addition, on which the examples are worked.
+use Rattle.std.specs.Prelude.{ℕ, List, [], ◌∷◌, codes}
+use Rattle.term_core.specs.Tree.{Tree, Trees, var, app, none, some}
+use Rattle.term_core.specs.declared.ids.SortId.{SortId}
+use Rattle.spec_core.specs.declared.records.SymInfo.{SymInfo}
+use Rattle.spec_core.specs.declared.records.VarInfo.{VarInfo}
+use Rattle.spec_core.specs.declared.records.Equation.{Equation}
+use Rattle.spec_core.specs.declared.records.Rule.{Rule}
+use Rattle.spec_core.specs.declared.records.Goal.{Goal}
+use Rattle.spec_core.specs.declared.records.Spec.{Spec}
+use Rattle.spec_core.specs.Sig.{Sig}
+use Rattle.spec_core.specs.Declarations.{declared_by}
+
+abbrev pub nat : SortId
+nat = record { 0 = 1 }
+
+abbrev declares : List SortId → SymInfo
+declares args = record { args = args; result = nat }
+
+-- sort Nat = zero | succ(Nat), fun plus(Nat, Nat) : Nat
+abbrev pub naturals_sig : Sig
+naturals_sig = declared_by (codes "Nat" ∷ []) ((codes "zero", declares []) ∷ (codes "succ", declares (nat ∷ [])) ∷ []) ((codes "plus", declares (nat ∷ nat ∷ [])) ∷ [])
+
+abbrev pub zero_term : Tree
+zero_term = app 2 none
+
+abbrev pub succ_term : Tree → Tree
+succ_term t = app 3 (some t none)
+
+abbrev pub plus_term : Tree → Tree → Tree
+plus_term s t = app 4 (some s (some t none))
+
+abbrev variable : List ℕ → VarInfo
+variable name = record { name = name; sort = nat }
+
+-- rule plus(zero, y) = y
+abbrev pub plus_zero_rule : Rule
+plus_zero_rule = record { vars = variable (codes "y") ∷ []; left = plus_term zero_term (var 0); right = var 0; guards = [] }
+
+-- rule plus(succ(x), y) = succ(plus(x, y))
+abbrev pub plus_succ_rule : Rule
+plus_succ_rule = record { vars = variable (codes "x") ∷ variable (codes "y") ∷ []; left = plus_term (succ_term (var 0)) (var 1); right = succ_term (plus_term (var 0) (var 1)); guards = [] }
+
+-- goal same(x : Nat, y : Nat) : plus(x, y) = plus(x, x)
+abbrev pub same_goal : Goal
+same_goal = record { name = codes "same"; vars = variable (codes "x") ∷ variable (codes "y") ∷ []; premises = []; conclusions = record { left = plus_term (var 0) (var 1); right = plus_term (var 0) (var 0) } ∷ [] }
+
+abbrev pub naturals : Spec
+naturals = record { sig = naturals_sig; rules = plus_zero_rule ∷ plus_succ_rule ∷ []; goals = same_goal ∷ [] }
