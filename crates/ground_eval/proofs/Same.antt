@@ -1,0 +1,34 @@
+-- The same answer, of what is the same.
+use Rattle.std.proofs.Common.{◌≡◌, ℕ, List, [], Some, Option, subst}
+use Rattle.std.specs.Prelude.{Result, Ok, Err, IfOk}
+use Rattle.term_core.specs.Tree.{Tree}
+use Rattle.spec_core.specs.declared.records.Spec.{Spec}
+use Rattle.spec_core.specs.declared.records.Guard.{Guard}
+use Rattle.term_core.specs.declared.ids.SortId.{SortId}
+use Rattle.spec_core.specs.Sorts.{Sorted}
+use Rattle.spec_core.specs.WellSorted.{IsWellSorted}
+use Rattle.spec_core.proofs.Determined.{determined}
+use Rattle.ground_eval.specs.declared.answers.Eval.{Eval}
+use Rattle.ground_eval.specs.declared.answers.Eval.TheVariants.{Value, Spent}
+use Rattle.ground_eval.specs.declared.answers.Guarded.{Guarded}
+use Rattle.ground_eval.specs.Evals.{IsEval, IsOnly}
+use Rattle.ground_eval.specs.Guarded.{AreGuards}
+use Rattle.ground_eval.specs.Matches.{IsMatch}
+
+pub eval_same : (spec : Spec) (t u : Tree) (b : ℕ) (e f : Eval) → t ≡ u → e ≡ f → IsEval spec t b e → IsEval spec u b f
+eval_same spec t u b e f p q h = subst (λ x. IsEval spec u b x) q (subst (λ x. IsEval spec x b e) p h)
+
+pub guards_same_answer : (spec : Spec) (xs : List Tree) (gs hs : List Guard) (b : ℕ) (r q : Guarded) → gs ≡ hs → r ≡ q → AreGuards spec xs gs b r → AreGuards spec xs hs b q
+guards_same_answer spec xs gs hs b r q f h a = subst (λ x. AreGuards spec xs hs b x) h (subst (λ x. AreGuards spec xs x b r) f a)
+
+pub match_some : (left value : Tree) (found : Option (List Tree)) (xs : List Tree) → found ≡ Some xs → IsMatch left value found → IsMatch left value (Some xs)
+match_some left value found xs e m = subst (λ o. IsMatch left value o) e m
+
+-- the value and the cost that were found are the only ones
+pub eval_only : (spec : Spec) → IsWellSorted spec → (t : Tree) (s : SortId) (b : ℕ) (e : Eval) → Sorted spec.sig [] t s → IsEval spec t b e → IsOnly spec t e
+eval_only spec fine t s b (Value v n) p h = λ a w x m g. determined spec fine a w g s p h.0
+eval_only spec fine t s b Spent p h = tt
+
+pub if_ok_map : {T E : Type 0} (r : Result T E) (P Q : T → Type 0) → ((x : T) → P x → Q x) → IfOk r P → IfOk r Q
+if_ok_map (Ok x) P Q f h = f x h
+if_ok_map (Err e) P Q f h = tt

@@ -1,0 +1,16 @@
+-- What the public contracts speak of, beside spec_core's definitions.
+pub mod Evals
+pub mod Laws
+-- What only this crate's own contracts speak of.
+pub mod References
+pub mod Applications
+pub mod Entries
+pub mod Matches
+pub mod Index
+pub mod Arguments
+pub mod Guarded
+pub mod Tries
+pub mod Room
+pub mod Sides
+-- What the tests evaluate.
+pub mod Samples

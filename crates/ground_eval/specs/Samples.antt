@@ -1,0 +1,93 @@
+-- The specification that the tests evaluate.
+use Rattle.std.specs.Prelude.{ℕ, List, [], ◌∷◌, ◌++◌, Bool, true, false, codes, replicate}
+use Rattle.term_core.specs.Tree.{Tree, var, app, none, some}
+use Rattle.term_core.specs.declared.ids.SortId.{SortId}
+use Rattle.spec_core.specs.declared.records.SymInfo.{SymInfo}
+use Rattle.spec_core.specs.declared.records.VarInfo.{VarInfo}
+use Rattle.spec_core.specs.declared.records.Equation.{Equation}
+use Rattle.spec_core.specs.declared.records.Guard.{Guard}
+use Rattle.spec_core.specs.declared.records.Rule.{Rule}
+use Rattle.spec_core.specs.declared.records.Goal.{Goal}
+use Rattle.spec_core.specs.declared.records.Spec.{Spec}
+use Rattle.spec_core.specs.Sig.{Sig}
+use Rattle.spec_core.specs.Declarations.{bool_sort, declared_by}
+
+abbrev pub nat : SortId
+nat = record { 0 = 1 }
+
+-- a symbol of so many natural arguments
+abbrev pub takes : ℕ → SortId → SymInfo
+takes n s = record { args = replicate n nat; result = s }
+
+-- sort Nat = zero | succ(Nat)
+abbrev pub sample_sorts : List (List ℕ)
+sample_sorts = codes "Nat" ∷ []
+
+abbrev pub sample_constructors : List (List ℕ × SymInfo)
+sample_constructors = (codes "zero", takes 0 nat) ∷ (codes "succ", takes 1 nat) ∷ []
+
+-- fun plus(Nat, Nat) : Nat, fun le(Nat, Nat) : Bool, fun isz(Nat) : Bool, fun pick(Nat) : Nat
+abbrev pub sample_functions : List (List ℕ × SymInfo)
+sample_functions = (codes "plus", takes 2 nat) ∷ (codes "le", takes 2 bool_sort) ∷ (codes "isz", takes 1 bool_sort) ∷ (codes "pick", takes 1 nat) ∷ []
+
+abbrev pub sample_sig : Sig
+sample_sig = declared_by sample_sorts sample_constructors sample_functions
+
+-- a symbol without arguments, with one and with two
+abbrev pub leaf_term : ℕ → Tree
+leaf_term f = app f none
+
+abbrev pub one_term : ℕ → Tree → Tree
+one_term f t = app f (some t none)
+
+abbrev pub two_term : ℕ → Tree → Tree → Tree
+two_term f s t = app f (some s (some t none))
+
+-- true is 0, false 1, zero 2, succ 3, plus 4, le 5, isz 6 and pick 7
+abbrev pub zero_term : Tree
+zero_term = leaf_term 2
+
+abbrev pub succ_term : Tree → Tree
+succ_term t = one_term 3 t
+
+abbrev pub variable : VarInfo
+variable = record { name = codes "x"; sort = nat }
+
+abbrev pub rule_of : ℕ → Tree → Tree → List Guard → Rule
+rule_of n left right guards = record { vars = replicate n variable; left = left; right = right; guards = guards }
+
+abbrev pub is_zero : Bool → Guard
+is_zero wanted = record { test = one_term 6 (var 0); wanted = wanted }
+
+-- plus(zero, y) = y; plus(succ(x), y) = succ(plus(x, y))
+abbrev pub plus_rules : List Rule
+plus_rules = rule_of 1 (two_term 4 zero_term (var 0)) (var 0) [] ∷ rule_of 2 (two_term 4 (succ_term (var 0)) (var 1)) (succ_term (two_term 4 (var 0) (var 1))) [] ∷ []
+
+-- le(zero, y) = true; le(succ(x), zero) = false; le(succ(x), succ(y)) = le(x, y)
+abbrev pub le_rules : List Rule
+le_rules = rule_of 1 (two_term 5 zero_term (var 0)) (leaf_term 0) [] ∷ rule_of 1 (two_term 5 (succ_term (var 0)) zero_term) (leaf_term 1) [] ∷ rule_of 2 (two_term 5 (succ_term (var 0)) (succ_term (var 1))) (two_term 5 (var 0) (var 1)) [] ∷ []
+
+-- isz(zero) = true; isz(succ(x)) = false
+abbrev pub isz_rules : List Rule
+isz_rules = rule_of 0 (one_term 6 zero_term) (leaf_term 0) [] ∷ rule_of 1 (one_term 6 (succ_term (var 0))) (leaf_term 1) [] ∷ []
+
+-- pick(x) = succ(x) if isz(x); pick(x) = x unless isz(x)
+abbrev pub pick_rules : List Rule
+pick_rules = rule_of 1 (one_term 7 (var 0)) (succ_term (var 0)) (is_zero true ∷ []) ∷ rule_of 1 (one_term 7 (var 0)) (var 0) (is_zero false ∷ []) ∷ []
+
+abbrev pub equation_of : Tree → Tree → Equation
+equation_of left right = record { left = left; right = right }
+
+abbrev pub goal_of : List ℕ → List Equation → Equation → Goal
+goal_of name premises conclusion = record { name = name; vars = replicate 2 variable; premises = premises; conclusions = conclusion ∷ [] }
+
+-- plus(x, y) = plus(x, x)
+abbrev pub same_goal : Goal
+same_goal = goal_of (codes "same") [] (equation_of (two_term 4 (var 0) (var 1)) (two_term 4 (var 0) (var 0)))
+
+-- le(x, y) = true -> plus(x, y) = y
+abbrev pub less_goal : Goal
+less_goal = goal_of (codes "less") (equation_of (two_term 5 (var 0) (var 1)) (leaf_term 0) ∷ []) (equation_of (two_term 4 (var 0) (var 1)) (var 1))
+
+abbrev pub sample : Spec
+sample = record { sig = sample_sig; rules = plus_rules ++ le_rules ++ isz_rules ++ pick_rules; goals = same_goal ∷ less_goal ∷ [] }
