@@ -1,0 +1,119 @@
+-- Steps of the lists that a search makes and walks.
+use Rattle.std.proofs.Common.{◌≡◌, ◌≢◌, ℕ, zero, suc, ◌+◌, ◌-◌, ◌<◌, ◌≤◌, min, List, [], ◌∷◌, ◌++◌, Bool, true, false, cond, eqb, Option, Some, None, ◌⊎◌, inl, inr, refl, ap, sym, ◌∙◌, subst, arith, get_or, length, take, drop, add-one, append_assoc}
+use Rattle.std.specs.Prelude.{slice_get, filter, map, option_map, nat_lt}
+use Rattle.std.specs.List.{flat_map, AllByRecursion}
+use Rattle.std.proofs.lemmas.Bool.Decides.{nat_tests}
+use Rattle.std.proofs.lemmas.List.Elements.{filter-append}
+use Rattle.term_core.specs.Tree.{Tree}
+use Rattle.term_core.specs.declared.ids.SortId.{SortId}
+use Rattle.spec_core.specs.declared.records.SymInfo.{SymInfo}
+use Rattle.spec_core.specs.declared.records.Spec.{Spec}
+use Rattle.spec_core.specs.declared.records.Goal.{Goal}
+use Rattle.spec_core.specs.declared.records.Verdict.{Verdict}
+use Rattle.spec_core.specs.declared.records.Verdict.TheVariants.{Holds, Fails, Spent}
+use Rattle.spec_core.specs.Sig.{Sig, info_of}
+use Rattle.spec_core.specs.Verdict.{IsVerdict}
+use Rattle.spec_core.specs.Order.{constructors_from}
+use Rattle.refuter.specs.Finds.{SpentRows}
+
+drop_here : {X : Type 0} (es : List X) (i : ℕ) (e : X) → slice_get es i ≡ Some e → drop i es ≡ e ∷ drop (i + 1) es
+drop_here [] i e h = absurd (let q : None ≡ Some e = h in cc)
+drop_here (x ∷ es) zero e h =
+    let q : Some x ≡ Some e = h in
+    let k : x ≡ e = cc in
+    ap (λ y. y ∷ es) k
+drop_here (x ∷ es) (suc i) e h = rw add-one (drop_here es i e h ∙ rw add-one refl)
+
+split_at : (k i : ℕ) → k < i + 1 → (k < i) ⊎ (k ≡ i)
+split_at k i h = grind (arith, nat_tests)
+
+-- what holds of each item below holds of one more
+pub below_more : {X : Type 0} (P : X → Type 0) (xs : List X) (i : ℕ) (x : X) → slice_get xs i ≡ Some x → ((k : ℕ) (o : X) → k < i → slice_get xs k ≡ Some o → P o) → P x → (k : ℕ) (o : X) → k < i + 1 → slice_get xs k ≡ Some o → P o
+below_more P xs i x at before now k o h e = elim (split_at k i h) [
+  | inl b ↦ before k o b e
+  | inr q ↦
+      let a : Some x ≡ Some o = sym at ∙ ap (λ n. slice_get xs n) (sym q) ∙ e in
+      let r : x ≡ o = cc in
+      subst P r now
+]
+
+pub taken_at : {X : Type 0} (n : ℕ) (xs : List X) (i : ℕ) (x : X) → slice_get (take n xs) i ≡ Some x → slice_get xs i ≡ Some x
+taken_at zero xs i x h = absurd (let q : None ≡ Some x = h in cc)
+taken_at (suc n) [] i x h = absurd (let q : None ≡ Some x = h in cc)
+taken_at (suc n) (y ∷ xs) zero x h = h
+taken_at (suc n) (y ∷ xs) (suc i) x h = taken_at n xs i x h
+
+pub taken_whole : {X : Type 0} (n : ℕ) (xs : List X) (i : ℕ) (x : X) → i < n → slice_get xs i ≡ Some x → slice_get (take n xs) i ≡ Some x
+taken_whole zero xs i x l h = absurd (omega arith)
+taken_whole (suc n) [] i x l h = h
+taken_whole (suc n) (y ∷ xs) zero x l h = h
+taken_whole (suc n) (y ∷ xs) (suc i) x l h = taken_whole n xs i x (omega arith) h
+
+pub drop_past : {X : Type 0} (xs : List X) (n : ℕ) → length xs ≤ n → drop n xs ≡ []
+drop_past [] zero h = refl
+drop_past [] (suc n) h = refl
+drop_past (x ∷ xs) zero h = absurd (omega arith)
+drop_past (x ∷ xs) (suc n) h = drop_past xs n (omega arith)
+
+info_parts : (es : List (List ℕ × SymInfo)) (f : ℕ) (i : SymInfo) → option_map (λ (e : List ℕ × SymInfo). e.1) (slice_get es f) ≡ Some i → (e : List ℕ × SymInfo) × (slice_get es f ≡ Some e) × (e.1 ≡ i)
+info_parts [] f i h = absurd (let q : None ≡ Some i = h in cc)
+info_parts (x ∷ es) zero i h =
+    let q : Some (x.1) ≡ Some i = h in
+    (x, refl, cc)
+info_parts (x ∷ es) (suc f) i h = info_parts es f i h
+
+from_step : (es : List (List ℕ × SymInfo)) (f n : ℕ) (s : SortId) (e : List ℕ × SymInfo) → slice_get es f ≡ Some e → f < n → constructors_from f (n - f) s (drop f es) ≡ cond (eqb e.1.result.0 s.0) ((f, e.1.args) ∷ constructors_from (f + 1) (n - (f + 1)) s (drop (f + 1) es)) (constructors_from (f + 1) (n - (f + 1)) s (drop (f + 1) es))
+from_step es f n s e at h =
+    let k : n - f ≡ suc (n - (f + 1)) = omega arith in
+    let d = drop_here es f e at in
+    let g : suc f ≡ f + 1 = omega arith in
+    rw (k, d, g) refl
+
+pub constructor_here : (sig : Sig) (f n : ℕ) (s : SortId) (i : SymInfo) → info_of sig f ≡ Some i → f < n → i.result.0 ≡ s.0 → constructors_from f (n - f) s (drop f sig.table) ≡ (f, i.args) ∷ constructors_from (f + 1) (n - (f + 1)) s (drop (f + 1) sig.table)
+constructor_here sig f n s i at h q =
+    let p = info_parts sig.table f i at in
+    let r : p.0.1.result.0 ≡ s.0 = ap (λ (x : SymInfo). x.result.0) p.2 ∙ q in
+    let t : eqb p.0.1.result.0 s.0 ≡ true = grind (arith, nat_tests) in
+    from_step sig.table f n s p.0 p.1 h ∙ rw t (ap (λ (x : SymInfo). (f, x.args) ∷ constructors_from (f + 1) (n - (f + 1)) s (drop (f + 1) sig.table)) p.2)
+
+pub constructor_other : (sig : Sig) (f n : ℕ) (s : SortId) (i : SymInfo) → info_of sig f ≡ Some i → f < n → i.result.0 ≢ s.0 → constructors_from f (n - f) s (drop f sig.table) ≡ constructors_from (f + 1) (n - (f + 1)) s (drop (f + 1) sig.table)
+constructor_other sig f n s i at h q =
+    let p = info_parts sig.table f i at in
+    let a : p.0.1.result.0 ≡ i.result.0 = ap (λ (x : SymInfo). x.result.0) p.2 in
+    let t : eqb p.0.1.result.0 s.0 ≡ false = grind (arith, nat_tests) in
+    from_step sig.table f n s p.0 p.1 h ∙ rw t refl
+
+pub made_more : {C X : Type 0} (p : X → Bool) (F : C → List X) (old new all : List X) (c : C) (cs ds : List C) → old ++ filter p (flat_map F cs) ≡ all → cs ≡ c ∷ ds → new ≡ old ++ filter p (F c) → new ++ filter p (flat_map F ds) ≡ all
+made_more p F old new all c cs ds h e n =
+    ap (λ x. x ++ filter p (flat_map F ds)) n ∙ append_assoc old (filter p (F c)) (filter p (flat_map F ds)) ∙ ap (λ x. old ++ x) (sym (filter-append p (F c) (flat_map F ds)) ∙ ap (λ x. filter p (flat_map F x)) (sym e)) ∙ h
+
+module _ (spec : Spec) (goal : Goal) (budget : ℕ) where
+  pub spent_more : (rows : List (List Tree)) (i k : ℕ) (row : List Tree) → slice_get rows i ≡ Some row → IsVerdict spec row budget goal Spent → ((n : ℕ) → SpentRows spec goal budget (drop i rows) n → SpentRows spec goal budget rows (k + n)) → (n : ℕ) → SpentRows spec goal budget (drop (i + 1) rows) n → SpentRows spec goal budget rows (k + 1 + n)
+  spent_more rows i k row at v before n h =
+      let d = drop_here rows i row at in
+      let a : SpentRows spec goal budget (row ∷ drop (i + 1) rows) (n + 1) = inl (v, (n, refl, h)) in
+      let b : SpentRows spec goal budget (drop i rows) (n + 1) = rw d a in
+      let e : k + (n + 1) ≡ k + 1 + n = omega arith in
+      subst (λ m. SpentRows spec goal budget rows m) e (before (n + 1) b)
+
+  pub spent_same : (rows : List (List Tree)) (i k : ℕ) (row : List Tree) → slice_get rows i ≡ Some row → (IsVerdict spec row budget goal Spent → ⊥) → ((n : ℕ) → SpentRows spec goal budget (drop i rows) n → SpentRows spec goal budget rows (k + n)) → (n : ℕ) → SpentRows spec goal budget (drop (i + 1) rows) n → SpentRows spec goal budget rows (k + n)
+  spent_same rows i k row at v before n h =
+      let d = drop_here rows i row at in
+      let a : SpentRows spec goal budget (row ∷ drop (i + 1) rows) n = inr (v, h) in
+      let b : SpentRows spec goal budget (drop i rows) n = rw d a in
+      before n b
+
+  pub spent_end : (rows : List (List Tree)) (i k : ℕ) → length rows ≤ i → ((n : ℕ) → SpentRows spec goal budget (drop i rows) n → SpentRows spec goal budget rows (k + n)) → SpentRows spec goal budget rows k
+  spent_end rows i k h before =
+      let d = drop_past rows i h in
+      let a : SpentRows spec goal budget (drop i rows) 0 = rw d refl in
+      let e : k + 0 ≡ k = omega arith in
+      subst (λ m. SpentRows spec goal budget rows m) e (before 0 a)
+
+pub cut_is : (tried tries n : ℕ) → tried ≡ min tries n → nat_lt tried n ≡ nat_lt tries n
+cut_is tried tries n e = grind (arith, nat_tests)
+
+pub all_at : {X : Type 0} (P : X → Type 0) (xs : List X) (i : ℕ) (x : X) → AllByRecursion P xs → slice_get xs i ≡ Some x → P x
+all_at P [] i x h e = absurd (let q : None ≡ Some x = e in cc)
+all_at P (y ∷ xs) zero x h e = let q : Some y ≡ Some x = e in let k : y ≡ x = cc in subst P k h.0
+all_at P (y ∷ xs) (suc i) x h e = all_at P xs i x h.1 e

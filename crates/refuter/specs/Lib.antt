@@ -1,0 +1,2 @@
+-- What a search answers.
+pub mod Finds
