@@ -1,0 +1,4 @@
+pub mod Walks
+pub mod Pieces
+pub mod ClaimLemmas
+pub mod Endings

@@ -1,0 +1,69 @@
+-- Pieces that are appended one after the other.
+use Rattle.std.proofs.Common.{◌≡◌, ◌≤◌, ℕ, ◌+◌, List, [], ◌∷◌, ◌++◌, Option, Some, None, ◌⊎◌, inl, inr, subst, refl, ap, sym, ◌∙◌, arith, length, take, append_assoc, length-append}
+use Rattle.std.specs.Prelude.{option_map, Result, Ok, Err, IsErrAnd}
+use Rattle.std.specs.List.{flat_map}
+use Rattle.std.proofs.lemmas.List.{append-nil}
+use Rattle.std.proofs.Math.Seq.{take-append-add, take-length}
+use Rattle.std.proofs.lemmas.Grind.{flat_map-append}
+use Rattle.io_core.specs.Count.{Rose}
+use Rattle.io_core.specs.Piece.{Appended, AppendedPrefix}
+use Rattle.spec_core.specs.Sig.{Sig}
+use Rattle.spike_cli.specs.declared.claims.Claim.{Claim}
+use Rattle.spike_cli.specs.declared.stops.Stop.{Stop}
+use Rattle.spike_cli.specs.declared.stops.Stop.TheVariants.{WriteFault, OutOfMemory}
+use Rattle.spike_cli.specs.Parts.{AppendsPartOf}
+use Rattle.io_core.specs.declared.faults.WriteError.{WriteError}
+use Rattle.io_core.specs.declared.faults.WriteError.TheVariants as write
+use Rattle.spike_cli.specs.Stops.{Stopped, stop_of}
+use Rattle.spike_cli.specs.Texts.{claim_text, header_text, begun_text}
+
+pub nothing_appended : (old : Option (List ℕ)) → Appended old old []
+nothing_appended None = refl
+nothing_appended (Some w) = ap (λ x. Some x) (sym (append-nil w))
+
+pub appended_more : (old middle new : Option (List ℕ)) (a b : List ℕ) → Appended old middle a → Appended middle new b → Appended old new (a ++ b)
+appended_more None middle new a b p q = q ∙ ap (λ o. option_map (λ w. w ++ b) o) p
+appended_more (Some w) middle new a b p q = q ∙ ap (λ o. option_map (λ w. w ++ b) o) p ∙ ap (λ x. Some x) (append_assoc w a b)
+
+pub prefix_more : (old middle new : Option (List ℕ)) (a b : List ℕ) → Appended old middle a → AppendedPrefix middle new b → AppendedPrefix old new (a ++ b)
+prefix_more old middle new a b p q =
+    (length a + q.0, omega (arith, length-append a b), subst (λ x. Appended old new x) (sym (take-append-add a b q.0)) (appended_more old middle new a (take q.0 b) p q.2))
+
+pub whole_prefix : (old new : Option (List ℕ)) (a : List ℕ) → Appended old new a → AppendedPrefix old new a
+whole_prefix old new a p = (length a, omega arith, subst (λ x. Appended old new x) (sym (take-length a)) p)
+
+-- a part of what follows a text is a part of both together
+pub part_more : (P Q : List ℕ → Type 0) (old middle new : Option (List ℕ)) (a : List ℕ) → Appended old middle a → Q a → ((t : List ℕ) → P t → Q (a ++ t)) → AppendsPartOf P middle new → AppendsPartOf Q old new
+part_more P Q old middle new a p q both (inl e) = inr (a, q, whole_prefix old new a (e ∙ p))
+part_more P Q old middle new a p q both (inr r) = inr (a ++ r.0, both r.0 r.1, prefix_more old middle new a r.0 p r.2)
+
+pub rose_more : (a b c : ℕ) → a ≤ b → Rose b c → Rose a c
+rose_more a b c h (inl r) = inl (omega arith)
+rose_more a b c h (inr r) = inr r
+
+pub stopped_more : (P Q : List ℕ → Type 0) (old middle new : Option (List ℕ)) (a : List ℕ) (i j k : ℕ) (stop : Stop) → i ≤ j → Appended old middle a → Q a → ((t : List ℕ) → P t → Q (a ++ t)) → Stopped middle new j k P stop → Stopped old new i k Q stop
+stopped_more P Q old middle new a i j k WriteFault h p q both s = (rose_more i j k h s.0, part_more P Q old middle new a p q both s.1)
+stopped_more P Q old middle new a i j k OutOfMemory h p q both s = part_more P Q old middle new a p q both s
+
+pub begun_text-more : (sig : Sig) (claims : List Claim) (claim : Claim) → begun_text sig (claims ++ claim ∷ []) ≡ begun_text sig claims ++ claim_text sig claim
+begun_text-more sig claims claim =
+    ap (λ x. header_text ++ x) (flat_map-append (claim_text sig) claims (claim ∷ []) ∙ ap (λ x. flat_map (claim_text sig) claims ++ x) (append-nil (claim_text sig claim))) ∙ sym (append_assoc header_text (flat_map (claim_text sig) claims) (claim_text sig claim))
+
+-- what the refusal of a piece leaves
+pub piece_stopped : (IsText : List ℕ → Type 0) (old new : Option (List ℕ)) (writes writes' : ℕ) (piece : List ℕ) (error : WriteError) → IsText piece → AppendedPrefix old new piece → (◌≡◌ {A = Result Unit WriteError} (Err error) (Err write.Failed) → Rose writes writes') → Stopped old new writes writes' IsText (stop_of error)
+piece_stopped IsText old new writes writes' piece write.Failed is p f = (f refl, inr (piece, is, p))
+piece_stopped IsText old new writes writes' piece write.OutOfMemory is p f = inr (piece, is, p)
+
+-- a fact on each error that a conversion may give
+pub at_error : {A : Type 0} (Holds : Result A Stop → Type 0) (result : Result A Stop) (stop : Stop) → IsErrAnd result (λ s. s ≡ stop) → Holds (Err stop) → Holds result
+at_error Holds (Ok a) stop e h = absurd e
+at_error Holds (Err s) stop e h = subst (λ x. Holds (Err x)) (sym e) h
+
+pub stopped_same : (P Q : List ℕ → Type 0) (old new : Option (List ℕ)) (i j : ℕ) (stop : Stop) → ((t : List ℕ) → P t → Q t) → Stopped old new i j P stop → Stopped old new i j Q stop
+stopped_same P Q old new i j WriteFault f s = (s.0, part_same f s.1)
+  where
+    part_same : ((t : List ℕ) → P t → Q t) → AppendsPartOf P old new → AppendsPartOf Q old new
+    part_same f (inl e) = inl e
+    part_same f (inr r) = inr (r.0, f r.0 r.1, r.2)
+stopped_same P Q old new i j OutOfMemory f (inl e) = inl e
+stopped_same P Q old new i j OutOfMemory f (inr r) = inr (r.0, f r.0 r.1, r.2)

@@ -1,0 +1,20 @@
+-- The numbers with which goals are tried, and the values of a counterexample with their names.
+use Rattle.std.specs.Prelude.{ℕ, List}
+use Rattle.std.specs.List.{zip}
+use Rattle.term_core.specs.Tree.{Tree}
+use Rattle.spec_core.specs.declared.records.VarInfo.{VarInfo}
+use Rattle.spec_core.specs.TermText.{variable_names}
+
+-- the depth of the values, the number of substitutions, and the rule uses of one side
+abbrev pub depth : ℕ
+depth = 3
+
+abbrev pub tries : ℕ
+tries = 10000
+
+abbrev pub steps : ℕ
+steps = 1000
+
+-- each value with the name of its variable
+abbrev pub named : List VarInfo → List Tree → List (List ℕ × Tree)
+named vars values = zip (variable_names vars) values

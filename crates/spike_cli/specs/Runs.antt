@@ -1,0 +1,87 @@
+-- What a call of the program did, by its status.
+use Rattle.std.specs.Prelude.{◌≡◌, ℕ, ◌<◌, ◌≤◌, ◌⊎◌, List, [], ◌∷◌, ◌++◌, Option, codes, length, IfSome}
+use Rattle.spec_core.specs.declared.records.Spec.{Spec}
+use Rattle.spec_core.specs.Overlap.{NoOverlap}
+use Rattle.spec_core.specs.Groups.{GroupsAreWhole}
+use Rattle.io_core.specs.Count.{Rose}
+use Rattle.io_core.specs.Piece.{Appended}
+use Rattle.thin_reader.specs.StandsFor.{StandsFor}
+use Rattle.spike_cli.specs.declared.claims.Claim.{Claim}
+use Rattle.spike_cli.specs.declared.statuses.Status.{Status}
+use Rattle.spike_cli.specs.declared.statuses.Status.TheVariants.{Done, Refuted, Open, Refused, No, ReadFault, WriteFault, Usage, OutOfMemory}
+use Rattle.spike_cli.specs.Parts.{AppendsPartOf}
+use Rattle.spike_cli.specs.Words.{AsksToRefute, AskNothing}
+use Rattle.spike_cli.specs.Claims.{AreClaims, AreFirstClaims, IsStatusOfClaims, IsStatusOfGoals}
+use Rattle.spike_cli.specs.Texts.{begun_text, report_text}
+
+-- the most bytes of a specification
+abbrev pub file_limit : ℕ
+file_limit = 1048576
+
+abbrev pub usage_line : List ℕ
+usage_line = codes "usage: spike check|eval|prove|refute|replay|load\n"
+
+abbrev pub too_long_line : List ℕ
+too_long_line = codes "refused length\n"
+
+abbrev pub not_yet_line : List ℕ
+not_yet_line = codes "refused not yet\n"
+
+-- the report of a specification, or what it begins with: the claims are those of its goals in their order
+pub data BeginsReport (spec : Spec) : List ℕ → Type 0 where
+  begun : (claims : List Claim) → AreFirstClaims spec spec.goals claims → BeginsReport spec (begun_text spec.sig claims)
+  whole : (claims : List Claim) → AreClaims spec spec.goals claims → BeginsReport spec (report_text spec.sig claims)
+
+-- a whole report and its status
+pub record IsReport (spec : Spec) (text : List ℕ) (status : Status) : Type 0 where
+  pub claims : List Claim
+  pub are_claims : AreClaims spec spec.goals claims
+  pub is_text : text ≡ report_text spec.sig claims
+  pub answers : IsStatusOfClaims claims status
+  pub exact : NoOverlap spec → GroupsAreWhole spec → IsStatusOfGoals spec spec.goals status
+
+-- the bytes are those of the file, where the store tells them
+abbrev pub AreBytesOf : Option (List ℕ) → List ℕ → Type 0
+AreBytesOf held bytes = IfSome held (λ told. bytes ≡ told)
+
+module _ (words : List (List ℕ)) (held : List ℕ → Option (List ℕ)) where
+  -- a text that the program may write for these words and files
+  pub data MayWrite : List ℕ → Type 0 where
+    usage : AskNothing words → MayWrite usage_line
+    too_long : (file : List ℕ) → AsksToRefute words file → IfSome (held file) (λ told. file_limit < length told) → MayWrite too_long_line
+    not_yet : (file : List ℕ) → AsksToRefute words file → IfSome (held file) (λ told. length told ≤ file_limit) → MayWrite not_yet_line
+    reports : (file bytes : List ℕ) (spec : Spec) {text : List ℕ} → AsksToRefute words file → AreBytesOf (held file) bytes → length bytes ≤ file_limit → StandsFor bytes spec → BeginsReport spec text → MayWrite text
+
+  -- a whole report of the file's specification was appended
+  pub record Reported (old new : Option (List ℕ)) (status : Status) : Type 0 where
+    pub file : List ℕ
+    pub asked : AsksToRefute words file
+    pub bytes : List ℕ
+    pub read : AreBytesOf (held file) bytes
+    pub within : length bytes ≤ file_limit
+    pub spec : Spec
+    pub stands : StandsFor bytes spec
+    pub text : List ℕ
+    pub report : IsReport spec text status
+    pub appended : Appended old new text
+
+  -- the line for a file that is longer than the limit, or the one for a file that isn't taken
+  abbrev pub RefusedFile : Option (List ℕ) → Option (List ℕ) → Type 0
+  RefusedFile old new =
+      (file : List ℕ) × AsksToRefute words file × ((IfSome (held file) (λ told. file_limit < length told) × Appended old new too_long_line) ⊎ (IfSome (held file) (λ told. length told ≤ file_limit) × Appended old new not_yet_line))
+
+  -- what was appended, and which count rose, by the status
+  abbrev pub Means : ℕ → ℕ → Option (List ℕ) → Option (List ℕ) → ℕ → ℕ → Status → Type 0
+  Means reads reads' old new writes writes' Done = Reported old new Done
+  Means reads reads' old new writes writes' Refuted = Reported old new Refuted
+  Means reads reads' old new writes writes' Open = Reported old new Open
+  Means reads reads' old new writes writes' Refused = RefusedFile old new
+  Means reads reads' old new writes writes' No = ⊥
+  Means reads reads' old new writes writes' ReadFault = ((file : List ℕ) × AsksToRefute words file) × Rose reads reads' × (new ≡ old)
+  Means reads reads' old new writes writes' WriteFault = Rose writes writes' × AppendsPartOf MayWrite old new
+  Means reads reads' old new writes writes' Usage = AskNothing words × Appended old new usage_line
+  Means reads reads' old new writes writes' OutOfMemory = AppendsPartOf MayWrite old new
+
+-- the names that were asked for are a prefix of the command's
+abbrev pub AskedPrefix : List (List ℕ) → List (List ℕ) → List (List ℕ) → Type 0
+AskedPrefix words old new = (new ≡ old) ⊎ ((file : List ℕ) × AsksToRefute words file × (new ≡ old ++ file ∷ []))

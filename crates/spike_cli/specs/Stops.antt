@@ -1,0 +1,58 @@
+-- What was appended when a command that writes a report ended or stopped.
+use Rattle.std.specs.Prelude.{◌≡◌, ℕ, List, Option, Result, Ok, Err}
+use Rattle.spec_core.specs.declared.records.Spec.{Spec}
+use Rattle.io_core.specs.Count.{Rose}
+use Rattle.io_core.specs.Piece.{Appended}
+use Rattle.io_core.specs.declared.faults.WriteError.{WriteError}
+use Rattle.io_core.specs.declared.faults.WriteError.TheVariants as write
+use Rattle.spike_cli.specs.declared.statuses.Status.{Status}
+use Rattle.spike_cli.specs.declared.statuses.Status.TheVariants as status
+use Rattle.spike_cli.specs.declared.stops.Stop.{Stop}
+use Rattle.spike_cli.specs.declared.stops.Stop.TheVariants.{WriteFault, OutOfMemory}
+use Rattle.spike_cli.specs.declared.claims.Outcome.{Outcome}
+use Rattle.spike_cli.specs.declared.claims.Outcome.TheVariants.{Refuted, Open}
+use Rattle.spec_core.specs.declared.records.Goal.{Goal}
+use Rattle.spike_cli.specs.declared.claims.Claim.{Claim}
+use Rattle.spike_cli.specs.Claims.{IsClaimOn}
+use Rattle.spike_cli.specs.Texts.{claim_text, header_text}
+use Rattle.spike_cli.specs.Parts.{AppendsPartOf}
+use Rattle.spike_cli.specs.Runs.{BeginsReport, IsReport}
+
+abbrev pub stop_of : WriteError → Stop
+stop_of write.Failed = WriteFault
+stop_of write.OutOfMemory = OutOfMemory
+
+abbrev pub status_of_stop : Stop → Status
+status_of_stop WriteFault = status.WriteFault
+status_of_stop OutOfMemory = status.OutOfMemory
+
+-- the status after one claim more
+abbrev pub joined : Status → Outcome → Status
+joined status.Refuted outcome = status.Refuted
+joined s (Refuted index values) = status.Refuted
+joined s (Open budget) = status.Open
+
+module _ (old new : Option (List ℕ)) (writes writes' : ℕ) where
+  -- a part of one of these texts was appended, and the count of faults rose where that was why it stopped
+  abbrev pub Stopped : (List ℕ → Type 0) → Stop → Type 0
+  Stopped IsText WriteFault = Rose writes writes' × AppendsPartOf IsText old new
+  Stopped IsText OutOfMemory = AppendsPartOf IsText old new
+
+  abbrev pub WritesHeader : Result Unit Stop → Type 0
+  WritesHeader (Ok u) = Appended old new header_text
+  WritesHeader (Err stop) = Stopped (λ text. text ≡ header_text) stop
+
+  -- the claim on the goal was appended, and this is the status with it
+  abbrev pub WritesClaim : Spec → Goal → Status → Result Status Stop → Type 0
+  WritesClaim spec goal before (Ok after) = (claim : Claim) × IsClaimOn spec goal claim × Appended old new (claim_text spec.sig claim) × (after ≡ joined before claim.outcome)
+  WritesClaim spec goal before (Err stop) = Stopped (λ text. (claim : Claim) × IsClaimOn spec goal claim × (text ≡ claim_text spec.sig claim)) stop
+
+  -- a whole report was appended, with its status
+  abbrev pub Reports : Spec → Result Status Stop → Type 0
+  Reports spec (Ok after) = (text : List ℕ) × IsReport spec text after × Appended old new text
+  Reports spec (Err stop) = Stopped (BeginsReport spec) stop
+
+-- the status of a command whose text was written, or wasn't
+abbrev pub status_ended : Status → Result Unit WriteError → Status
+status_ended s (Ok u) = s
+status_ended s (Err e) = status_of_stop (stop_of e)

@@ -1,0 +1,51 @@
+//! The program `spike`: it reads a file of sorts, functions, rules and goals and writes a report.
+//!
+//! It stands on all the other crates. [`run`] is the whole program over a store of files and a
+//! sink, and its contract is what the program promises; `main` hands it the words after the
+//! program's name, the system's files and standard output, and ends with the code of its status.
+#![tactic(auto)]
+
+mod claims;
+mod reports;
+mod running;
+mod statuses;
+mod stops;
+#[cfg(test)]
+mod tests;
+mod words;
+
+pub use claims::{Budget, Claim, Outcome};
+use io_core::{StdFiles, StdSink};
+pub use running::run;
+pub use statuses::Status;
+use std::process::ExitCode;
+use std::{env, io};
+
+/// The statuses with which `main` ends before it calls `run`.
+const NO_MEMORY_FOR_WORDS: u8 = 8;
+
+const WORDS_NOT_UTF8: u8 = 9;
+
+fn main(rt: HostRuntime) -> ExitCode {
+    let words = match words_of(&rt) {
+        Ok(words) => words,
+        Err(code) => return ExitCode::from(code),
+    };
+    let mut files = StdFiles::new(rt);
+    let mut out = StdSink::new(io::writer(&rt));
+    let status = run(rt.alloc(), &words, &mut files, &mut out);
+    ExitCode::from(status.code())
+}
+
+/// The words after the program's name, or the status to end with.
+fn words_of(rt: &(impl env::Env + AllocGlobal)) -> Result<Vec<String>, u8> {
+    let mut words = Vec::new(rt.alloc());
+    let args = env::args(rt).map_err(|error| match error.kind() {
+        io::ErrorKind::InvalidData => WORDS_NOT_UTF8,
+        _ => NO_MEMORY_FOR_WORDS,
+    })?;
+    for word in args.skip(1) {
+        words.push(word).map_err(|_| NO_MEMORY_FOR_WORDS)?;
+    }
+    Ok(words)
+}

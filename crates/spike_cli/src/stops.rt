@@ -1,0 +1,44 @@
+ghost use Rattle.std.specs.Prelude.{◌≡◌};
+ghost use Rattle.spike_cli.specs.Stops.{stop_of, status_of_stop};
+ghost use Rattle.spike_cli.specs.declared.stops.Stop.TheVariants.{OutOfMemory as out_of_memory};
+
+use crate::statuses::Status;
+use io_core::WriteError;
+use term_core::OutOfMemory;
+
+/// Why a command that writes a report stopped before its end.
+#[derive(Clone, Copy, Debug, PartialEq, Eq)]
+pub enum Stop {
+    WriteFault,
+    OutOfMemory,
+}
+
+impl Stop {
+    pub fn status(self) -> Status
+        ensures { result ≡ status_of_stop self }
+    {
+        match self {
+            Stop::WriteFault => Status::WriteFault,
+            Stop::OutOfMemory => Status::OutOfMemory,
+        }
+    }
+}
+
+impl From<WriteError> for Stop {
+    ghost from_gives = { λ error stop. stop ≡ stop_of error };
+
+    fn from(error: WriteError) -> Stop {
+        match error {
+            WriteError::Failed => Stop::WriteFault,
+            WriteError::OutOfMemory => Stop::OutOfMemory,
+        }
+    }
+}
+
+impl From<OutOfMemory> for Stop {
+    ghost from_gives = { λ _ stop. stop ≡ out_of_memory };
+
+    fn from(_error: OutOfMemory) -> Stop {
+        Stop::OutOfMemory
+    }
+}
