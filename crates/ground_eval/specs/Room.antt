@@ -1,13 +1,15 @@
--- A number above the weights of each rule's right side and guards.
+-- A number by which the measure of an evaluation falls at each use of a rule.
 use Rattle.std.specs.Prelude.{ℕ, ◌+◌, ◌*◌, List, [], ◌∷◌}
 use Rattle.term_core.specs.Measure.{weight}
 use Rattle.spec_core.specs.declared.records.Rule.{Rule}
 use Rattle.spec_core.specs.declared.records.Guard.{Guard}
 
+-- the weights of the tests, and one for each
 abbrev pub guards_weight : List Guard → ℕ
 guards_weight [] = 0
 guards_weight (g ∷ gs) = weight g.test + guards_weight gs + 1
 
+-- above twice the weights of each rule's right side and guards
 abbrev pub room : List Rule → ℕ
 room [] = 0
 room (r ∷ rs) = 2 * (weight r.right + guards_weight r.guards) + room rs + 2

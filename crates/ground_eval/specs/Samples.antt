@@ -12,6 +12,7 @@ use Rattle.spec_core.specs.declared.records.Spec.{Spec}
 use Rattle.spec_core.specs.Sig.{Sig}
 use Rattle.spec_core.specs.Declarations.{bool_sort, declared_by}
 
+-- the sort Nat, which stands behind Bool
 abbrev pub nat : SortId
 nat = record { 0 = 1 }
 
@@ -19,10 +20,11 @@ nat = record { 0 = 1 }
 abbrev pub takes : ℕ → SortId → SymInfo
 takes n s = record { args = replicate n nat; result = s }
 
--- sort Nat = zero | succ(Nat)
+-- sort Nat
 abbrev pub sample_sorts : List (List ℕ)
 sample_sorts = codes "Nat" ∷ []
 
+-- its constructors zero and succ(Nat)
 abbrev pub sample_constructors : List (List ℕ × SymInfo)
 sample_constructors = (codes "zero", takes 0 nat) ∷ (codes "succ", takes 1 nat) ∷ []
 
@@ -30,32 +32,39 @@ sample_constructors = (codes "zero", takes 0 nat) ∷ (codes "succ", takes 1 nat
 abbrev pub sample_functions : List (List ℕ × SymInfo)
 sample_functions = (codes "plus", takes 2 nat) ∷ (codes "le", takes 2 bool_sort) ∷ (codes "isz", takes 1 bool_sort) ∷ (codes "pick", takes 1 nat) ∷ []
 
+-- the signature of these declarations
 abbrev pub sample_sig : Sig
 sample_sig = declared_by sample_sorts sample_constructors sample_functions
 
--- a symbol without arguments, with one and with two
+-- a symbol without arguments: true is 0, false 1 and zero 2
 abbrev pub leaf_term : ℕ → Tree
 leaf_term f = app f none
 
+-- a symbol with one argument: succ is 3, isz 6 and pick 7
 abbrev pub one_term : ℕ → Tree → Tree
 one_term f t = app f (some t none)
 
+-- a symbol with two: plus is 4 and le 5
 abbrev pub two_term : ℕ → Tree → Tree → Tree
 two_term f s t = app f (some s (some t none))
 
--- true is 0, false 1, zero 2, succ 3, plus 4, le 5, isz 6 and pick 7
+-- zero
 abbrev pub zero_term : Tree
 zero_term = leaf_term 2
 
+-- succ(t)
 abbrev pub succ_term : Tree → Tree
 succ_term t = one_term 3 t
 
+-- a variable of the sort Nat
 abbrev pub variable : VarInfo
 variable = record { name = codes "x"; sort = nat }
 
+-- a rule with n variables
 abbrev pub rule_of : ℕ → Tree → Tree → List Guard → Rule
 rule_of n left right guards = record { vars = replicate n variable; left = left; right = right; guards = guards }
 
+-- the guard that wants this Boolean of isz(x)
 abbrev pub is_zero : Bool → Guard
 is_zero wanted = record { test = one_term 6 (var 0); wanted = wanted }
 
@@ -75,9 +84,11 @@ isz_rules = rule_of 0 (one_term 6 zero_term) (leaf_term 0) [] ∷ rule_of 1 (one
 abbrev pub pick_rules : List Rule
 pick_rules = rule_of 1 (one_term 7 (var 0)) (succ_term (var 0)) (is_zero true ∷ []) ∷ rule_of 1 (one_term 7 (var 0)) (var 0) (is_zero false ∷ []) ∷ []
 
+-- the equation of two sides
 abbrev pub equation_of : Tree → Tree → Equation
 equation_of left right = record { left = left; right = right }
 
+-- a goal of two variables with one conclusion
 abbrev pub goal_of : List ℕ → List Equation → Equation → Goal
 goal_of name premises conclusion = record { name = name; vars = replicate 2 variable; premises = premises; conclusions = conclusion ∷ [] }
 
@@ -89,5 +100,6 @@ same_goal = goal_of (codes "same") [] (equation_of (two_term 4 (var 0) (var 1)) 
 abbrev pub less_goal : Goal
 less_goal = goal_of (codes "less") (equation_of (two_term 5 (var 0) (var 1)) (leaf_term 0) ∷ []) (equation_of (two_term 4 (var 0) (var 1)) (var 1))
 
+-- all of them
 abbrev pub sample : Spec
 sample = record { sig = sample_sig; rules = plus_rules ++ le_rules ++ isz_rules ++ pick_rules; goals = same_goal ∷ less_goal ∷ [] }

@@ -13,7 +13,7 @@ use Rattle.ground_eval.specs.Evals.{IsEval}
 abbrev pub DoesNotApply : Spec → Rule → Tree → Type 0
 DoesNotApply spec rule value = NoOverlap spec → GroupsAreWhole spec → (xs : List Tree) (g : ℕ) → instance xs rule.left ≡ value → GivesGuards spec xs rule.guards g → ⊥
 
--- the call's evaluation within the budget, or the rule doesn't apply
+-- what the rule gives for the call within the budget, or that it doesn't apply
 abbrev pub IsTry : Spec → Rule → Tree → ℕ → Option Eval → Type 0
 IsTry spec rule value budget (Some e) = IsEval spec value budget e
 IsTry spec rule value budget None = DoesNotApply spec rule value

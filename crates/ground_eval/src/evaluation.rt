@@ -108,7 +108,9 @@ impl<'a> Evaluator<'a> {
     }
 
     /// The value of a function's call. An argument that is a variable is passed on as it stands.
+    /// It is kept out of `eval_in`, whose frame stands on the stack for each level of a term.
     #[cycle(eval)]
+    #[inline(never)]
     fn apply(
         &self,
         alloc: Global,
