@@ -1,5 +1,5 @@
 -- Places in a list and in its image.
-use Rattle.std.proofs.Common.{◌≡◌, ℕ, ◌+◌, List, [], ◌∷◌, Bool, not, cond, Some, position, length, refl, ap, sym, ◌∙◌}
+use Rattle.std.proofs.Common.{◌≡◌, ℕ, ◌+◌, List, [], ◌∷◌, Bool, not, cond, Some, position, refl, ap, sym, ◌∙◌}
 use Rattle.std.specs.Prelude.{map, slice_get, option_map}
 use Rattle.std.specs.List.{prefix_len}
 use Rattle.std.proofs.lemmas.List.{length-map}

@@ -1,17 +1,18 @@
 -- What the definitions say of naturals with addition.
-use Rattle.std.specs.Prelude.{◌≡◌, [], ◌∷◌, codes}
-use Rattle.term_core.specs.Tree.{var}
+use Rattle.std.specs.Prelude.{◌≡◌, [], ◌∷◌, true, false, codes}
+use Rattle.term_core.specs.Tree.{Tree, var}
 use Rattle.spec_core.specs.declared.records.Verdict.TheVariants.{Holds, Fails}
 use Rattle.spec_core.specs.Sorts.{Sorted, IsValue}
 use Rattle.spec_core.specs.Declarations.{bool_sort}
 use Rattle.spec_core.specs.WellSorted.{Numbered}
 use Rattle.spec_core.specs.Gives.{Gives}
 use Rattle.spec_core.specs.Truth.{GoalFails, GoalHolds}
+use Rattle.spec_core.specs.Overlap.{NoOverlap}
 use Rattle.spec_core.specs.Groups.{Whole}
 use Rattle.spec_core.specs.Verdict.{IsVerdict}
 use Rattle.spec_core.specs.Order.{values, substitutions}
 use Rattle.spec_core.specs.TermText.{term_text}
-use Rattle.spec_core.specs.Naturals.{nat, naturals_sig, naturals, same_goal, zero_term, succ_term, plus_term}
+use Rattle.spec_core.specs.Naturals.{nat, naturals_sig, naturals, overlapping, same_goal, zero_term, succ_term, plus_term}
 
 pub record WorkedExamples : Type 0 where
   -- succ(zero) is a value of the sort Nat, and plus(x, zero) has this sort where x has it
@@ -30,8 +31,12 @@ pub record WorkedExamples : Type 0 where
   -- and so say its verdicts within a budget of one rule use for each side
   pub verdict_fails : IsVerdict naturals (zero_term ∷ succ_term zero_term ∷ []) 1 same_goal Fails
   pub verdict_holds : IsVerdict naturals (zero_term ∷ zero_term ∷ []) 1 same_goal Holds
-  -- one rule without guards is a whole group
+  -- one rule without guards is a whole group, and so are two that want one test true and false
   pub unguarded : Whole ((0, []) ∷ [])
+  pub guarded : (test : Tree) → Whole ((0, record { test = test; wanted = true } ∷ []) ∷ (1, record { test = test; wanted = false } ∷ []) ∷ [])
+  -- plus(zero, y) and plus(succ(x), y) don't overlap, and plus(zero, y) and plus(x, y) do
+  pub apart : NoOverlap naturals
+  pub not_apart : NoOverlap overlapping → ⊥
   -- the values of Nat of depth at most 3, and the substitutions of two variables at depth 2
   pub three_values : values naturals_sig 3 nat ≡ zero_term ∷ succ_term zero_term ∷ succ_term (succ_term zero_term) ∷ []
   pub no_values : values naturals_sig 0 nat ≡ []

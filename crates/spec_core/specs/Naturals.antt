@@ -1,10 +1,9 @@
 -- Naturals with addition, on which the examples are worked.
 use Rattle.std.specs.Prelude.{ℕ, List, [], ◌∷◌, codes}
-use Rattle.term_core.specs.Tree.{Tree, Trees, var, app, none, some}
+use Rattle.term_core.specs.Tree.{Tree, var, app, none, some}
 use Rattle.term_core.specs.declared.ids.SortId.{SortId}
 use Rattle.spec_core.specs.declared.records.SymInfo.{SymInfo}
 use Rattle.spec_core.specs.declared.records.VarInfo.{VarInfo}
-use Rattle.spec_core.specs.declared.records.Equation.{Equation}
 use Rattle.spec_core.specs.declared.records.Rule.{Rule}
 use Rattle.spec_core.specs.declared.records.Goal.{Goal}
 use Rattle.spec_core.specs.declared.records.Spec.{Spec}
@@ -47,3 +46,10 @@ same_goal = record { name = codes "same"; vars = variable (codes "x") ∷ variab
 
 abbrev pub naturals : Spec
 naturals = record { sig = naturals_sig; rules = plus_zero_rule ∷ plus_succ_rule ∷ []; goals = same_goal ∷ [] }
+
+-- rule plus(x, y) = x, whose left side every call of plus matches
+abbrev pub plus_any_rule : Rule
+plus_any_rule = record { vars = variable (codes "x") ∷ variable (codes "y") ∷ []; left = plus_term (var 0) (var 1); right = var 0; guards = [] }
+
+abbrev pub overlapping : Spec
+overlapping = record { sig = naturals_sig; rules = plus_zero_rule ∷ plus_any_rule ∷ []; goals = [] }

@@ -1,16 +1,17 @@
-use Rattle.std.proofs.Common.{◌≡◌, ◌≢◌, ℕ, [], ◌∷◌, Some, ◌⊎◌, inl, inr, refl, ap, ◌∙◌, arith, ◌<◌}
-use Rattle.std.specs.Prelude.{codes, ◌++◌}
+use Rattle.std.proofs.Common.{◌≡◌, ◌≢◌, ℕ, zero, suc, List, [], ◌∷◌, Some, None, ◌⊎◌, inl, inr, refl, ap, sym, ◌∙◌, arith, ◌<◌}
 use Rattle.std.specs.Fmt.{decimal}
 use Rattle.std.proofs.lemmas.Fmt.{decimal_digit}
-use Rattle.term_core.specs.Tree.{Tree, var, app, none}
+use Rattle.term_core.specs.Tree.{Tree, Trees, var, app, none, some, instance}
 use Rattle.term_core.specs.declared.ids.SortId.{SortId}
 use Rattle.spec_core.specs.declared.records.SymInfo.{SymInfo}
 use Rattle.spec_core.specs.Sorts.{Sorted, IsBuilt}
 use Rattle.spec_core.specs.Declarations.{bool_sort}
 use Rattle.spec_core.specs.WellSorted.{Numbered}
+use Rattle.spec_core.specs.Overlap.{NoOverlap}
+use Rattle.spec_core.specs.declared.records.Rule.{Rule}
 use Rattle.spec_core.specs.Gives.{Gives, built, called, no_terms, more_terms, no_guards}
-use Rattle.spec_core.specs.Groups.{alone}
-use Rattle.spec_core.specs.Naturals.{nat, naturals_sig, naturals, plus_zero_rule, plus_succ_rule, zero_term, succ_term, plus_term}
+use Rattle.spec_core.specs.Groups.{alone, split}
+use Rattle.spec_core.specs.Naturals.{nat, naturals_sig, naturals, overlapping, plus_zero_rule, plus_succ_rule, plus_any_rule, zero_term, succ_term, plus_term}
 use Rattle.spec_core.proofs.laws.worked_examples.Goals as goal
 
 zero_built : IsBuilt naturals_sig zero_term
@@ -49,6 +50,34 @@ not_numbered p = by p.1
     by (inl h) = omega arith
     by (inr h) = omega arith
 
+same_left : {A : Rule} (r q : Rule) → Some A ≡ Some r → Some A ≡ Some q → r.left ≡ q.left
+same_left r q a b = let e : Some r ≡ Some q = sym a ∙ b in let k : r ≡ q = cc in ap (λ (x : Rule). x.left) k
+
+-- plus(zero, y) and plus(succ(x), y) have no common instance
+zero_and_succ : (r q : Rule) (xs ys : List Tree) (f : ℕ) (vs : Trees) → Some plus_zero_rule ≡ Some r → Some plus_succ_rule ≡ Some q → instance xs r.left ≡ app f vs → instance ys q.left ≡ app f vs → ⊥
+zero_and_succ r q xs ys f vs a b p s =
+    let one : plus_zero_rule ≡ r = cc in
+    let other : plus_succ_rule ≡ q = cc in
+    let both : instance xs plus_zero_rule.left ≡ instance ys plus_succ_rule.left = ap (λ (x : Rule). instance xs x.left) one ∙ p ∙ sym s ∙ sym (ap (λ (x : Rule). instance ys x.left) other) in
+    let trees : app 4 (some zero_term (some (instance xs (var 0)) none)) ≡ app 4 (some (succ_term (instance ys (var 0))) (some (instance ys (var 1)) none)) = both in
+    let k : ◌≡◌ {A = ℕ} 2 3 = cc in
+    omega arith
+
+apart : NoOverlap naturals
+apart zero zero r q f i vs xs ys a b info sorted made p s = same_left r q a b
+apart zero (suc zero) r q f i vs xs ys a b info sorted made p s = absurd (zero_and_succ r q xs ys f vs a b p s)
+apart (suc zero) zero r q f i vs xs ys a b info sorted made p s = absurd (zero_and_succ q r ys xs f vs b a s p)
+apart (suc zero) (suc zero) r q f i vs xs ys a b info sorted made p s = same_left r q a b
+apart zero (suc (suc k)) r q f i vs xs ys a b info sorted made p s = absurd (let e : None ≡ Some q = b in cc)
+apart (suc zero) (suc (suc k)) r q f i vs xs ys a b info sorted made p s = absurd (let e : None ≡ Some q = b in cc)
+apart (suc (suc j)) k r q f i vs xs ys a b info sorted made p s = absurd (let e : None ≡ Some r = a in cc)
+
+not_apart : NoOverlap overlapping → ⊥
+not_apart h =
+    let e : plus_term zero_term (var 0) ≡ plus_term (var 0) (var 1) = h 0 1 plus_zero_rule plus_any_rule 4 _ (some zero_term (some zero_term none)) (zero_term ∷ []) (zero_term ∷ zero_term ∷ []) refl refl refl ((_, refl, refl, tt), ((_, refl, refl, tt), tt)) (zero_built, (zero_built, tt)) refl refl in
+    let k : app 2 none ≡ var 0 = cc in
+    cc
+
 pub returns : goal.returns
 returns c = record {
   one_is_a_value = ((_, refl, refl, ((_, refl, refl, tt), tt)), one_built);
@@ -63,6 +92,9 @@ returns c = record {
   verdict_fails = inr (inr ((_, _, one_is_not_zero, (1, zero_plus (succ_term zero_term) one_built one_gives, omega arith), (1, zero_plus zero_term zero_built zero_gives, omega arith)), refl));
   verdict_holds = inr (inl ((_, (1, zero_plus zero_term zero_built zero_gives, omega arith), (1, zero_plus zero_term zero_built zero_gives, omega arith)), refl));
   unguarded = alone;
+  guarded = λ test. split test (refl, (refl, tt)) alone alone;
+  apart = apart;
+  not_apart = not_apart;
   three_values = refl;
   no_values = refl;
   four_substitutions = refl;
