@@ -12,7 +12,7 @@ use Rattle.spec_core.specs.Sorts.{Sorted, SortedAll, IsBuilt, AreBuilt}
 use Rattle.spec_core.specs.Gives.{Gives, GivesAll, built, no_terms, more_terms}
 use Rattle.spec_core.specs.WellSorted.{IsWellSorted}
 use Rattle.spec_core.proofs.Keeps.{keeps_all}
-use Rattle.spec_core.proofs.Values.{call_gives, args_within, call_after}
+use Rattle.spec_core.proofs.Values.{call_gives, call_after}
 use Rattle.spec_core.proofs.Determined.{determined}
 use Rattle.ground_eval.specs.declared.answers.Eval.TheVariants.{Value, Spent}
 use Rattle.ground_eval.specs.Applications.{application}
@@ -125,11 +125,6 @@ gathered_give spec env ts owned values n e g = subst (λ vs. GivesAll spec (inst
 
 -- an application of the terms
 module _ (spec : Spec) (fine : IsWellSorted spec) (f : ℕ) (ts : Trees) where
-  pub app_spent : (budget : ℕ) → AreSpent spec ts budget → IsEval spec (app f ts) budget Spent
-  app_spent budget r a w v n g l =
-      let p = args_within spec fine f g in
-      r a w p.0 p.1 p.2 (omega (arith, p.3))
-
   -- what the call with the values needs
   pub call_ready : {vs : Trees} {n : ℕ} (s : SortId) → Sorted spec.sig [] (app f ts) s → GivesAll spec ts vs n → AreBuilt spec.sig vs × Sorted spec.sig [] (app f vs) s
   call_ready s p g =

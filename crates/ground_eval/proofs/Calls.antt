@@ -106,9 +106,6 @@ try_nothing spec fine f vs b other e a w v n g l = omega (arith, call_costs spec
 pub rule_function : (spec : Spec) → IsWellSorted spec → (k : ℕ) (rule : Rule) → slice_get spec.rules k ≡ Some rule → ¬ (IsConstructor spec.sig (head_of rule.left))
 rule_function spec fine k rule at = head_is_function spec.sig rule.left (fine.rules k rule at).left
 
-pub no_match : (spec : Spec) (rule : Rule) (value : Tree) → ((xs : List Tree) → instance xs rule.left ≡ value → ⊥) → DoesNotApply spec rule value
-no_match spec rule value m a w xs g e h = m xs e
-
 -- the numbers of a function's rules
 has_head_is : (f : ℕ) (left : Tree) → has_head f left ≡ true → head_of left ≡ f
 has_head_is f (var n) h = absurd (let q : false ≡ true = h in cc)

@@ -1,5 +1,5 @@
 -- Guards in their order.
-use Rattle.std.proofs.Common.{◌≡◌, ℕ, ◌+◌, ◌-◌, List, [], ◌∷◌, Bool, true, false, IsTrue, ◌↔◌, refl, sym, ◌∙◌, subst, arith, inl, inr}
+use Rattle.std.proofs.Common.{◌≡◌, ℕ, ◌+◌, ◌-◌, List, [], ◌∷◌, Bool, true, false, IsTrue, ◌↔◌, refl, sym, ◌∙◌, subst, arith}
 use Rattle.term_core.specs.Tree.{Tree, app, none, some, instance, trees_of}
 use Rattle.spec_core.specs.declared.records.Guard.{Guard}
 use Rattle.spec_core.specs.declared.records.Spec.{Spec}
@@ -10,10 +10,10 @@ use Rattle.spec_core.specs.Overlap.{NoOverlap}
 use Rattle.spec_core.specs.Groups.{GroupsAreWhole}
 use Rattle.spec_core.specs.Declarations.{bool_sort}
 use Rattle.spec_core.proofs.Determined.{determined}
-use Rattle.ground_eval.specs.declared.answers.Eval.TheVariants.{Value, Spent}
-use Rattle.ground_eval.specs.declared.answers.Guarded.TheVariants.{Holds, Fails, Spent as GuardSpent}
+use Rattle.ground_eval.specs.declared.answers.Eval.TheVariants.{Value}
+use Rattle.ground_eval.specs.declared.answers.Guarded.TheVariants.{Holds, Fails}
 use Rattle.ground_eval.specs.Evals.{IsEval}
-use Rattle.ground_eval.specs.Guarded.{TestsAreSorted, AreStuck, AreGuards}
+use Rattle.ground_eval.specs.Guarded.{TestsAreSorted, AreGuards}
 
 pub guards_none : (spec : Spec) (xs : List Tree) (gs : List Guard) (b : ℕ) → gs ≡ [] → AreGuards spec xs gs b (Holds 0)
 guards_none spec xs gs b e = (subst (λ x. GivesGuards spec xs x 0) (sym e) no_guards, omega arith)
@@ -39,12 +39,6 @@ module _ (spec : Spec) (xs : List Tree) (gs rest : List Guard) (g : Guard) (e : 
   guards_fail_later b fails c a w k holds =
       let r = rest_guards spec xs g rest (subst (λ x. GivesGuards spec xs x k) e holds) in
       fails a w r.0 r.1
-
-  pub guards_stuck : (b : ℕ) → IsEval spec (instance xs g.test) b Spent → AreGuards spec xs gs b GuardSpent
-  guards_stuck b one a w = subst (λ x. AreStuck spec xs x b) (sym e) (inl (one a w))
-
-  pub guards_stuck_later : (v : Tree) (n b : ℕ) → IsEval spec (instance xs g.test) b (Value v n) → v ≡ boolean g.wanted → AreGuards spec xs rest (b - n) GuardSpent → AreGuards spec xs gs b GuardSpent
-  guards_stuck_later v n b one is stuck a w = subst (λ x. AreStuck spec xs x b) (sym e) (inr (n, subst (λ x. Gives spec (instance xs g.test) x n) is one.0, stuck a w))
 
 pub not_is : (r : Bool) (P : Type 0) → r ≡ false → (IsTrue r ↔ P) → P → ⊥
 not_is true P e h p = cc

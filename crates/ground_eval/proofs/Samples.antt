@@ -1,12 +1,11 @@
 -- The specification that the tests evaluate is well sorted.
-use Rattle.std.proofs.Common.{rules, ◌≡◌, ℕ, zero, suc, ◌<◌, ◌≤◌, List, [], ◌∷◌, Some, None, inl, inr, refl, ap, sym, subst, arith, length}
+use Rattle.std.proofs.Common.{rules, ◌≡◌, ℕ, zero, suc, ◌<◌, ◌≤◌, List, [], ◌∷◌, Some, None, inl, inr, refl, subst, arith, length}
 use Rattle.std.specs.Prelude.{slice_get, option_map, codes, replicate, Bool}
 use Rattle.std.specs.List.{AllByRecursion}
 use Rattle.term_core.specs.Tree.{Tree, var}
 use Rattle.term_core.specs.declared.ids.SortId.{SortId}
 use Rattle.spec_core.specs.declared.records.SymInfo.{SymInfo}
 use Rattle.spec_core.specs.declared.records.Equation.{Equation}
-use Rattle.spec_core.specs.declared.records.Goal.{Goal}
 use Rattle.spec_core.specs.Sorts.{Sorted, IsValue}
 use Rattle.spec_core.specs.Constants.{HaveConstants, IsFirstConstant}
 use Rattle.spec_core.specs.Small.{AllHaveSmallValues}
@@ -176,9 +175,3 @@ call_sorted s t a b = (_, refl, refl, (a.0, (b.0, tt)))
 
 pub picked_sorted : (t : Tree) → IsValue sample_sig nat t → Sorted sample_sig [] (one_term 7 t) nat
 picked_sorted t a = (_, refl, refl, (a.0, tt))
-
--- the variables of both goals are two naturals
-pub goal_variables : (number : ℕ) (goal : Goal) → number < 2 → slice_get sample.goals number ≡ Some goal → sorts_of goal.vars ≡ nat ∷ nat ∷ []
-goal_variables zero goal h at = let q : Some same_goal ≡ Some goal = at in let k : same_goal ≡ goal = cc in ap (λ (g : Goal). sorts_of g.vars) (sym k)
-goal_variables (suc zero) goal h at = let q : Some less_goal ≡ Some goal = at in let k : less_goal ≡ goal = cc in ap (λ (g : Goal). sorts_of g.vars) (sym k)
-goal_variables (suc (suc n)) goal h at = absurd (omega arith)

@@ -1,5 +1,5 @@
 -- The walk over the sides of a goal.
-use Rattle.std.proofs.Common.{◌≡◌, ◌≢◌, ℕ, zero, suc, List, [], ◌∷◌, Some, inl, inr, refl, take, drop}
+use Rattle.std.proofs.Common.{◌≡◌, ℕ, zero, suc, List, [], ◌∷◌, Some, inl, inr, refl, take, drop}
 use Rattle.std.specs.Prelude.{slice_get}
 use Rattle.std.specs.List.{AllByRecursion}
 use Rattle.term_core.specs.Tree.{Tree}
@@ -8,10 +8,8 @@ use Rattle.spec_core.specs.declared.records.Goal.{Goal}
 use Rattle.spec_core.specs.declared.records.Spec.{Spec}
 use Rattle.spec_core.specs.declared.records.Verdict.{Verdict}
 use Rattle.spec_core.specs.declared.records.Verdict.TheVariants.{Holds, Fails, Spent}
-use Rattle.spec_core.specs.Overlap.{NoOverlap}
-use Rattle.spec_core.specs.Groups.{GroupsAreWhole}
-use Rattle.spec_core.specs.Truth.{AllHold, AllBroken, GoalFails}
-use Rattle.spec_core.specs.Verdict.{SidesSame, SidesDiffer, ConclusionsSay, PremisesSay, IsVerdict}
+use Rattle.spec_core.specs.Truth.{AllHold, AllBroken}
+use Rattle.spec_core.specs.Verdict.{SidesSame, SidesDiffer, ConclusionsSay, PremisesSay}
 use Rattle.ground_eval.specs.declared.answers.Sides.TheVariants.{Differ, Spent as SidesAreSpent}
 use Rattle.ground_eval.specs.Sides.{SidesAre, PremisesAre, ConclusionsAre, IsDecided}
 use Rattle.ground_eval.proofs.Lists.{drop_here}
@@ -63,18 +61,3 @@ module _ (spec : Spec) (values : List Tree) (budget : ℕ) where
   conclusions_decide goal a Holds h = premises_whole goal.premises goal.conclusions Holds a h
   conclusions_decide goal a Fails h = (premises_whole goal.premises goal.conclusions Fails a (conclusions_whole goal.conclusions h), (all_hold goal.premises a, all_broken goal.conclusions h))
   conclusions_decide goal a Spent h = λ apart whole. premises_whole goal.premises goal.conclusions Spent a (h apart whole)
-
-  pub decided_verdict : (goal : Goal) (r : Verdict) → IsDecided spec values budget goal r → NoOverlap spec → GroupsAreWhole spec → IsVerdict spec values budget goal r
-  decided_verdict goal Holds h apart whole = h
-  decided_verdict goal Fails h apart whole = h.0
-  decided_verdict goal Spent h apart whole = h apart whole
-
-  pub decided_sure : (goal : Goal) (r : Verdict) → IsDecided spec values budget goal r → r ≢ Spent → IsVerdict spec values budget goal r
-  decided_sure goal Holds h n = h
-  decided_sure goal Fails h n = h.0
-  decided_sure goal Spent h n = absurd (n refl)
-
-  pub decided_fails : (goal : Goal) (r : Verdict) → IsDecided spec values budget goal r → r ≡ Fails → GoalFails spec values goal
-  decided_fails goal Holds h e = absurd (let q : Holds ≡ Fails = e in cc)
-  decided_fails goal Fails h e = h.1
-  decided_fails goal Spent h e = absurd (let q : Spent ≡ Fails = e in cc)
