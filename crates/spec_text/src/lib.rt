@@ -1,6 +1,11 @@
 //! Names and tokens of a specification's text.
 #![tactic(auto)]
 
+mod characters;
+mod names;
+mod scanner;
 mod tokens;
 
+pub use names::name_at;
+pub use scanner::scan;
 pub use tokens::{ScanError, Token, TokenKind};

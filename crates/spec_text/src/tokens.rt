@@ -1,3 +1,8 @@
+ghost use Rattle.std.specs.Prelude.{◌≡◌};
+ghost use Rattle.spec_text.specs.declared.tokens.ScanError.TheVariants.{OutOfMemory};
+
+use std::alloc::{AllocError, AllocFailed};
+
 /// What a token is.
 #[derive(Clone, Copy, Debug, PartialEq, Eq)]
 pub enum TokenKind {
@@ -25,4 +30,20 @@ pub struct Token {
 pub enum ScanError {
     Text { at: usize },
     OutOfMemory,
+}
+
+impl From<AllocError> for ScanError {
+    ghost from_gives = { λ _ e. e ≡ OutOfMemory };
+
+    fn from(_error: AllocError) -> ScanError {
+        ScanError::OutOfMemory
+    }
+}
+
+impl<T: Drop> From<AllocFailed<T>> for ScanError {
+    ghost from_gives = { λ _ e. e ≡ OutOfMemory };
+
+    fn from(_error: AllocFailed<T>) -> ScanError {
+        ScanError::OutOfMemory
+    }
 }
