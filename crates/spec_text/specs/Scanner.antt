@@ -1,5 +1,5 @@
 -- A scanner of characters as a function.
-use Rattle.std.specs.Prelude.{◌≡◌, ℕ, ◌+◌, ◌*◌, List, [], ◌∷◌, ◌==◌, if◌then◌else◌, Bool, true, false, nat_le, nat_lt, Option, Some, None}
+use Rattle.std.specs.Prelude.{ℕ, ◌+◌, ◌*◌, List, [], ◌∷◌, ◌==◌, if◌then◌else◌, Bool, true, false, nat_le, nat_lt, Option, Some, None}
 use Rattle.std.specs.Char.{len_utf8, digit_value}
 use Rattle.unicode_ident.specs.Ident.{is_xid_continue}
 use Rattle.spec_text.specs.Names.{starts}
