@@ -5,3 +5,4 @@ pub mod FirstLemmas
 pub mod TokenLemmas
 pub mod ScanLemmas
 pub mod NameLemmas
+pub mod SpanLemmas

@@ -17,7 +17,7 @@ use Rattle.spec_text.proofs.GapLemmas.{nil_cons, gap_skipped, behind_gap, last_g
 use Rattle.spec_text.proofs.LexemeLemmas.{none_some, some_is}
 use Rattle.spec_text.proofs.FirstLemmas.{first_spelled, spelled_found, faulty_none}
 
-size_encodes : (cs : List ℕ) → length (encode_utf8_all cs) ≡ size cs
+pub size_encodes : (cs : List ℕ) → length (encode_utf8_all cs) ≡ size cs
 size_encodes [] = refl
 size_encodes (c ∷ cs) = length-append _ (encode_utf8_all cs) ∙ ap (λ n. n + length (encode_utf8_all cs)) (length-encode c) ∙ ap (λ n. len_utf8 c + n) (size_encodes cs)
 

@@ -3,5 +3,8 @@ pub mod Names
 pub mod Gaps
 pub mod Lexemes
 pub mod Tokens
+pub mod Spans
+pub mod Written
+pub mod Laws
 -- What only this crate's own contracts speak of.
 pub mod Scanner

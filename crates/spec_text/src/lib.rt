@@ -2,10 +2,12 @@
 #![tactic(auto)]
 
 mod characters;
+mod laws;
 mod names;
 mod scanner;
 mod tokens;
 
+pub use laws::{one_list, spans};
 pub use names::name_at;
 pub use scanner::scan;
 pub use tokens::{ScanError, Token, TokenKind};

@@ -66,9 +66,10 @@ loop-rest-preserved c =
     let sa = size_is after first.1 in
     let sn = size_is next c.skip_gaps-rest-in-loop-rest.utf8 in
     let same : size (chars rest) ≡ size (x.0 ∷ x.1) = ap size x.2 in
+    let skipped : skip_gaps false i.1.0 ≡ x.0 ∷ x.1 = sym i.1.2 ∙ x.2 in
     let found : first_token (x.0 ∷ x.1) ≡ Some (kind, chars after) = ap first_token (sym x.2) ∙ first.0 in (
       c.skip_gaps-rest-in-loop-rest.utf8,
-      (chars after, rw c.in_ok-push.ensures.items (scans_on (size (chars text)) (chars text) c.loop-rest.tokens.items i.1.0 _ (chars after) i.1.1 (is_first (size (chars text)) i.1.0 x.0 x.1 _ (chars after) (sym i.1.2 ∙ x.2) found (omega (arith, st, sr, i.2, same)) (omega (arith, st, sr, sa, lt, i.2)))), e),
+      (chars after, rw c.in_ok-push.ensures.items (scans_on (size (chars text)) (chars text) c.loop-rest.tokens.items i.1.0 _ (chars after) i.1.1 (is_first (size (chars text)) i.1.0 x.0 x.1 _ (chars after) skipped found (omega (arith, st, sr, i.2, same)) (omega (arith, st, sr, sa, lt, i.2)))), e),
       omega (arith, lt, le, ap size e, sn, sr, i.2),
     )
 
