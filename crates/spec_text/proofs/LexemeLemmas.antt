@@ -210,7 +210,7 @@ pub stops_at : (P : ℕ → Type 0) (text rest : List ℕ) → IsLongest text re
 stops_at P text [] l f = tt
 stops_at P text (d ∷ rest) l f = λ p. cons_nil (l (d ∷ []) rest refl (f d p))
 
-stops_never : (rest : List ℕ) → Stops (λ _. ⊥) rest
+pub stops_never : (rest : List ℕ) → Stops (λ _. ⊥) rest
 stops_never [] = tt
 stops_never (c ∷ rest) = λ p. p
 
@@ -310,15 +310,18 @@ too_long k v (c ∷ cs) e = long_step (is_digit c) (nat_le 6 k) k v c cs (digits
 abbrev pub Spelled : TokenKind → List ℕ → List ℕ → Type 0
 Spelled kind cs after = (text : List ℕ) × (cs ≡ text ++ after) × IsSpelling kind text × IsLongest text after
 
+-- each kind of token is longest where the next character can't go on with it
+pub word_longest : (c : ℕ) (name rest : List ℕ) → IsTrue (starts c) → Stops Continues rest → IsLongest (c ∷ name) rest
+word_longest c name rest s ends = longest_run Continues (c ∷ name) rest ends (λ d more l. all_after Continues name d more (word_goes_on c (name ++ (d ∷ more)) s (shape c (name ++ (d ∷ more)) l)))
+
+pub numeral_longest : (ds rest : List ℕ) → IsNumeral 10 ds → Stops Digit rest → IsLongest ds rest
+numeral_longest [] rest n s = absurd (let lt = n.0 in omega (arith, lt))
+numeral_longest (c ∷ ds) rest n s = longest_run Digit (c ∷ ds) rest s (λ d more l. digits_after ds d more (numeral_goes_on c (ds ++ (d ∷ more)) n.1.0 (shape c (ds ++ (d ∷ more)) l)))
+
 pub word_spelled : (c : ℕ) (cs : List ℕ) → starts c ≡ true → Spelled Word (c ∷ cs) (skip_name cs)
 word_spelled c cs s =
     let part = name_part cs in
-    let name = part.0 in
-    (c ∷ name, ap (λ ys. c ∷ ys) part.1, (s, part.2), longest_run Continues (c ∷ name) (skip_name cs) part.3 (λ d more l. all_after Continues name d more (word_goes_on c (name ++ (d ∷ more)) s (shape c (name ++ (d ∷ more)) l))))
-
-numeral_longest : (ds rest : List ℕ) → IsNumeral 10 ds → Stops Digit rest → IsLongest ds rest
-numeral_longest [] rest n s = absurd (let lt = n.0 in omega (arith, lt))
-numeral_longest (c ∷ ds) rest n s = longest_run Digit (c ∷ ds) rest s (λ d more l. digits_after ds d more (numeral_goes_on c (ds ++ (d ∷ more)) n.1.0 (shape c (ds ++ (d ∷ more)) l)))
+    (c ∷ part.0, ap (λ ys. c ∷ ys) part.1, (s, part.2), word_longest c part.0 (skip_name cs) s part.3)
 
 -- a run of digits that begins with a digit is a number
 begins_digit : (c : ℕ) (cs ds after : List ℕ) → Digit c → c ∷ cs ≡ ds ++ after → Stops Digit after → 0 < length ds
@@ -336,14 +339,14 @@ number_spelled c cs r d e =
 pub sign_longest : (kind : TokenKind) (c : ℕ) (rest : List ℕ) → IsSign kind c → IsLongest (c ∷ []) rest
 sign_longest kind c rest e = longest_run (λ _. ⊥) (c ∷ []) rest (stops_never rest) (λ d more l. cons_nil (sign_goes_on kind c (d ∷ more) e (shape c (d ∷ more) l)))
 
-equal_longest : (rest : List ℕ) → Stops (λ d. d ≡ 62) rest → IsLongest (61 ∷ []) rest
+pub equal_longest : (rest : List ℕ) → Stops (λ d. d ≡ 62) rest → IsLongest (61 ∷ []) rest
 equal_longest rest s = longest_run (λ d. d ≡ 62) (61 ∷ []) rest s (λ d more l. by d more (equal_goes_on 61 (d ∷ more) refl (shape 61 (d ∷ more) l)))
   where
     by : (d : ℕ) (more : List ℕ) → (d ∷ more ≡ []) ⊎ (d ∷ more ≡ 62 ∷ []) → d ≡ 62
     by d more (inl e) = absurd (cons_nil e)
     by d more (inr e) = cc
 
-arrow_longest : (rest : List ℕ) → IsLongest (61 ∷ 62 ∷ []) rest
+pub arrow_longest : (rest : List ℕ) → IsLongest (61 ∷ 62 ∷ []) rest
 arrow_longest rest = longest_run (λ _. ⊥) (61 ∷ 62 ∷ []) rest (stops_never rest) (λ d more l. by d more (equal_goes_on 61 (62 ∷ d ∷ more) refl (shape 61 (62 ∷ d ∷ more) l)))
   where
     by : (d : ℕ) (more : List ℕ) → (62 ∷ d ∷ more ≡ []) ⊎ (62 ∷ d ∷ more ≡ 62 ∷ []) → ⊥

@@ -6,3 +6,4 @@ pub mod TokenLemmas
 pub mod ScanLemmas
 pub mod NameLemmas
 pub mod SpanLemmas
+pub mod WrittenLemmas

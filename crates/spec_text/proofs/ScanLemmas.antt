@@ -31,7 +31,7 @@ skip_gaps_le false [] = omega arith
 skip_gaps_le true (c ∷ cs) = gap_le (c == 10) c (skip_gaps false cs) (skip_gaps true cs) cs (skip_gaps_le false cs) (let p = skip_gaps_le true cs in omega (arith, p))
 skip_gaps_le false (c ∷ cs) = gap_le (is_blank c) c (skip_gaps false cs) (cond (c == 35) (skip_gaps true cs) (c ∷ cs)) cs (skip_gaps_le false cs) (gap_le (c == 35) c (skip_gaps true cs) (c ∷ cs) cs (skip_gaps_le true cs) (omega arith))
 
-no_spelling : (kind : TokenKind) → IsSpelling kind [] → ⊥
+pub no_spelling : (kind : TokenKind) → IsSpelling kind [] → ⊥
 no_spelling Word h = h
 no_spelling (Number n) h = let lt = h.0.0 in absurd (omega (arith, lt))
 no_spelling LeftPar h = nil_cons h

@@ -7,10 +7,9 @@ use Rattle.std.proofs.Math.Seq.{drop-append_seam, take-append_seam}
 use Rattle.std.proofs.lemmas.Str.{encodes-chars, encodes-append, chars-encodes, scalars-chars}
 use Rattle.spec_text.specs.Names.{size}
 use Rattle.spec_text.specs.Lexemes.{IsSpelling}
-use Rattle.spec_text.specs.Tokens.{IsFirst, Scans, AreTokens}
+use Rattle.spec_text.specs.Tokens.{Scans, AreTokens}
 use Rattle.spec_text.specs.Spans.{InOrder, slice_of, SpelledIn, HaveSpans}
 use Rattle.spec_text.specs.declared.tokens.Token.{Token}
-use Rattle.spec_text.proofs.GapLemmas.{nil_cons}
 use Rattle.spec_text.proofs.TokenLemmas.{size_is, size_encodes, size-append}
 use Rattle.spec_text.proofs.ScanLemmas.{spelling_size}
 

@@ -1,11 +1,12 @@
 -- A text as pieces that are written one behind the other.
-use Rattle.std.specs.Prelude.{ℕ, ◌+◌, List, [], ◌∷◌, ◌++◌, IsTrue, length}
+use Rattle.std.specs.Prelude.{ℕ, ◌+◌, List, [], ◌∷◌, ◌++◌, IsTrue, length, codes}
+use Rattle.std.specs.Fmt.{decimal}
 use Rattle.std.specs.Str.{chars, IsUtf8}
 use Rattle.std.specs.List.{AllByRecursion}
 use Rattle.spec_text.specs.Gaps.{is_blank}
 use Rattle.spec_text.specs.Lexemes.{IsSpelling}
 use Rattle.spec_text.specs.declared.tokens.TokenKind.{TokenKind}
-use Rattle.spec_text.specs.declared.tokens.TokenKind.TheVariants.{Word, Number}
+use Rattle.spec_text.specs.declared.tokens.TokenKind.TheVariants.{Word, Number, LeftPar, RightPar, Comma, Colon, Equals, Bar, Arrow}
 use Rattle.spec_text.specs.declared.tokens.Token.{Token}
 
 -- a token's bytes, and the bytes before them
@@ -13,6 +14,27 @@ pub record Written : Type 0 where
   pub gap : List ℕ
   pub text : List ℕ
   pub kind : TokenKind
+
+-- the text of a sign
+abbrev pub sign_text : TokenKind → List ℕ
+sign_text LeftPar = codes "("
+sign_text RightPar = codes ")"
+sign_text Comma = codes ","
+sign_text Colon = codes ":"
+sign_text Equals = codes "="
+sign_text Bar = codes "|"
+sign_text Arrow = codes "=>"
+sign_text _ = []
+
+-- a word, a number and a sign behind a gap
+abbrev pub word_piece : List ℕ → List ℕ → Written
+word_piece gap name = record { gap = gap; text = name; kind = Word }
+
+abbrev pub number_piece : List ℕ → ℕ → Written
+number_piece gap n = record { gap = gap; text = decimal n; kind = Number n }
+
+abbrev pub sign_piece : List ℕ → TokenKind → Written
+sign_piece gap kind = record { gap = gap; text = sign_text kind; kind = kind }
 
 -- the bytes of the pieces, and then a tail
 abbrev pub written : List Written → List ℕ → List ℕ

@@ -1,4 +1,4 @@
-ghost use Rattle.spec_text.specs.Laws.{OneList, SpansHold};
+ghost use Rattle.spec_text.specs.Laws.{OneList, SpansHold, WrittenScans};
 
 /// A text has no two lists of tokens.
 pub fn one_list()
@@ -8,4 +8,9 @@ pub fn one_list()
 /// The tokens of a text lie in it, in order, and each is spelled by its bytes.
 pub fn spans()
     ensures { SpansHold }
+{}
+
+/// What is written as sound pieces and blanks has the tokens of the pieces.
+pub fn written_scans()
+    ensures { WrittenScans }
 {}
