@@ -6,5 +6,6 @@ pub mod Tokens
 pub mod Spans
 pub mod Written
 pub mod Laws
+pub mod Examples
 -- What only this crate's own contracts speak of.
 pub mod Scanner

@@ -1,3 +1,4 @@
+ghost use Rattle.spec_text.specs.Examples.{WorkedExamples};
 ghost use Rattle.spec_text.specs.Laws.{OneList, SpansHold, WrittenScans};
 
 /// A text has no two lists of tokens.
@@ -13,4 +14,9 @@ pub fn spans()
 /// What is written as sound pieces and blanks has the tokens of the pieces.
 pub fn written_scans()
     ensures { WrittenScans }
+{}
+
+/// The definitions say of small texts what one works out by hand.
+pub fn worked_examples()
+    ensures { WorkedExamples }
 {}

@@ -7,7 +7,7 @@ mod names;
 mod scanner;
 mod tokens;
 
-pub use laws::{one_list, spans, written_scans};
+pub use laws::{one_list, spans, worked_examples, written_scans};
 pub use names::name_at;
 pub use scanner::scan;
 pub use tokens::{ScanError, Token, TokenKind};
