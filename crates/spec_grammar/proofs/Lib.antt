@@ -1,0 +1,6 @@
+pub mod Stacks
+pub mod Agrees
+pub mod Means
+pub mod Whole
+pub mod Unique
+pub mod ItemLemmas

@@ -1,0 +1,135 @@
+-- The grammar: the tokens of each part of a raw specification, each token with the limit that it passes if there is
+-- one. Each text is told with what stands behind it, `rest`; a number says how many items stand before.
+use Rattle.std.specs.Prelude.{◌≡◌, ◌≢◌, ℕ, ◌+◌, ◌⊎◌, List, [], ◌∷◌, Option, None, Bool, true, false, length}
+use Rattle.spec_grammar.specs.declared.keys.Key.{Key}
+use Rattle.spec_grammar.specs.declared.keys.Key.TheVariants.{Spike, Sort, Fun, Rule, Goal, If, Unless, One, LeftPar, RightPar, Comma, Colon, Equals, Bar, Arrow}
+use Rattle.spec_grammar.specs.declared.limits.LimitKind.{LimitKind}
+use Rattle.spec_grammar.specs.declared.raw.RawName.{RawName}
+use Rattle.spec_grammar.specs.declared.raw.RawNames.{RawNames}
+use Rattle.spec_grammar.specs.declared.raw.RawSort.{RawSort}
+use Rattle.spec_grammar.specs.declared.raw.RawFun.{RawFun}
+use Rattle.spec_grammar.specs.declared.raw.RawEq.{RawEq}
+use Rattle.spec_grammar.specs.declared.raw.RawGuard.{RawGuard}
+use Rattle.spec_grammar.specs.declared.raw.RawRule.{RawRule}
+use Rattle.spec_grammar.specs.declared.raw.RawBind.{RawBind}
+use Rattle.spec_grammar.specs.declared.raw.RawGoal.{RawGoal}
+use Rattle.spec_grammar.specs.declared.raw.RawSpec.{RawSpec}
+use Rattle.spec_grammar.specs.RawTree.{RawTree, RawTrees, word, none, some}
+use Rattle.spec_grammar.specs.Items.{Item, Word, Sign}
+use Rattle.spec_grammar.specs.Limits.{name_mark, sort_mark, constructor_mark, fun_mark, arity_mark, term_mark, rule_mark, guard_mark, goal_mark, variable_mark, premise_mark, conclusion_mark}
+
+-- a token with the limit that it passes
+abbrev pub Marked : Type 0
+Marked = Item × Option LimitKind
+
+abbrev pub sign : Key → Marked
+sign key = (Sign key, None)
+
+abbrev pub name_text : Option LimitKind → RawName → List Marked → List Marked
+name_text mark n rest = (Word n.name n.at, name_mark n.name mark) ∷ rest
+
+-- term = NAME ["(" term {"," term} ")"], with d words above it
+abbrev mutual
+  pub term_text : ℕ → Option LimitKind → RawTree → List Marked → List Marked
+  term_text d mark (word name at ts) rest = (Word name at, name_mark name mark) ∷ args_text d ts rest
+
+  pub args_text : ℕ → RawTrees → List Marked → List Marked
+  args_text d none rest = rest
+  args_text d (some t ts) rest = sign LeftPar ∷ term_text (d + 1) (term_mark (d + 1) 0) t (more_text (d + 1) 1 ts (sign RightPar ∷ rest))
+
+  pub more_text : ℕ → ℕ → RawTrees → List Marked → List Marked
+  more_text d n none rest = rest
+  more_text d n (some t ts) rest = sign Comma ∷ term_text d (term_mark d n) t (more_text d (n + 1) ts rest)
+
+-- con = NAME ["(" NAME {"," NAME} ")"]
+abbrev pub more_names_text : ℕ → List RawName → List Marked → List Marked
+more_names_text n [] rest = rest
+more_names_text n (x ∷ xs) rest = sign Comma ∷ name_text (arity_mark n) x (more_names_text (n + 1) xs rest)
+
+abbrev pub names_text : List RawName → List Marked → List Marked
+names_text [] rest = rest
+names_text (x ∷ xs) rest = sign LeftPar ∷ name_text (arity_mark 0) x (more_names_text 1 xs (sign RightPar ∷ rest))
+
+abbrev pub con_text : Option LimitKind → RawNames → List Marked → List Marked
+con_text mark c rest = (Word c.name c.at, name_mark c.name mark) ∷ names_text c.args rest
+
+-- sort = "sort" NAME "=" con {"|" con}; t constructors stand before in all
+abbrev pub constructors_text : ℕ → ℕ → List RawNames → List Marked → List Marked
+constructors_text k t [] rest = rest
+constructors_text k t (c ∷ cs) rest = sign Bar ∷ con_text (constructor_mark k t) c (constructors_text (k + 1) (t + 1) cs rest)
+
+abbrev pub AreSorts : ℕ → ℕ → List RawSort → List Marked → List Marked → Type 0
+AreSorts n t [] text rest = text ≡ rest
+AreSorts n t (s ∷ ss) text rest =
+    (first : RawNames) × (others : List RawNames) × (after : List Marked) × (s.constructors ≡ first ∷ others) × (text ≡ (Sign Sort, sort_mark n) ∷ name_text None s.head (sign Equals ∷ con_text (constructor_mark 0 t) first (constructors_text 1 (t + 1) others after))) × AreSorts (n + 1) (t + 1 + length others) ss after rest
+
+-- fun = "fun" NAME ["(" NAME {"," NAME} ")"] ":" NAME
+abbrev pub funs_text : ℕ → List RawFun → List Marked → List Marked
+funs_text n [] rest = rest
+funs_text n (f ∷ fs) rest = (Sign Fun, fun_mark n) ∷ con_text None f.head (sign Colon ∷ name_text None f.result (funs_text (n + 1) fs rest))
+
+-- rule = "rule" term "=" term {("if" | "unless") term}
+abbrev pub guard_key : Bool → Key
+guard_key true = If
+guard_key false = Unless
+
+abbrev pub guards_text : ℕ → List RawGuard → List Marked → List Marked
+guards_text n [] rest = rest
+guards_text n (g ∷ gs) rest = (Sign (guard_key g.wanted), guard_mark n) ∷ term_text 0 None g.test (guards_text (n + 1) gs rest)
+
+-- eq = term "=" term
+abbrev pub sides_text : Option LimitKind → RawTree → RawTree → List Marked → List Marked
+sides_text mark left right rest = term_text 0 mark left (sign Equals ∷ term_text 0 None right rest)
+
+abbrev pub rules_text : ℕ → List RawRule → List Marked → List Marked
+rules_text n [] rest = rest
+rules_text n (r ∷ rs) rest = (Sign Rule, rule_mark n) ∷ sides_text None r.left r.right (guards_text 0 r.guards (rules_text (n + 1) rs rest))
+
+-- clause = eq {"|" eq} | [eq {"," eq}] "=>" [eq {"|" eq}]
+abbrev pub commas_text : ℕ → List RawEq → List Marked → List Marked
+commas_text n [] rest = rest
+commas_text n (e ∷ es) rest = sign Comma ∷ sides_text (premise_mark n) e.left e.right (commas_text (n + 1) es rest)
+
+abbrev pub premises_text : List RawEq → List Marked → List Marked
+premises_text [] rest = rest
+premises_text (e ∷ es) rest = sides_text (premise_mark 0) e.left e.right (commas_text 1 es rest)
+
+abbrev pub bars_text : ℕ → List RawEq → List Marked → List Marked
+bars_text n [] rest = rest
+bars_text n (e ∷ es) rest = sign Bar ∷ sides_text (conclusion_mark n) e.left e.right (bars_text (n + 1) es rest)
+
+abbrev pub conclusions_text : List RawEq → List Marked → List Marked
+conclusions_text [] rest = rest
+conclusions_text (e ∷ es) rest = sides_text (conclusion_mark 0) e.left e.right (bars_text 1 es rest)
+
+-- with the arrow, or without it where there are conclusions only
+abbrev pub IsClause : List RawEq → List RawEq → List Marked → List Marked → Type 0
+IsClause ps cs text rest =
+    (text ≡ premises_text ps (sign Arrow ∷ conclusions_text cs rest)) ⊎ ((ps ≡ []) × (cs ≢ []) × (text ≡ conclusions_text cs rest))
+
+-- bind = NAME ":" NAME
+abbrev pub bind_text : Option LimitKind → RawBind → List Marked → List Marked
+bind_text mark b rest = name_text mark b.name (sign Colon ∷ name_text None b.sort rest)
+
+abbrev pub more_binds_text : ℕ → List RawBind → List Marked → List Marked
+more_binds_text n [] rest = rest
+more_binds_text n (b ∷ bs) rest = sign Comma ∷ bind_text (variable_mark n) b (more_binds_text (n + 1) bs rest)
+
+abbrev pub binds_text : List RawBind → List Marked → List Marked
+binds_text [] rest = rest
+binds_text (b ∷ bs) rest = sign LeftPar ∷ bind_text (variable_mark 0) b (more_binds_text 1 bs (sign RightPar ∷ rest))
+
+-- goal = "goal" NAME ["(" bind {"," bind} ")"] ":" clause
+abbrev pub AreGoals : ℕ → List RawGoal → List Marked → List Marked → Type 0
+AreGoals n [] text rest = text ≡ rest
+AreGoals n (g ∷ gs) text rest =
+    (clause : List Marked) × (after : List Marked) × (text ≡ (Sign Goal, goal_mark n) ∷ name_text None g.head (binds_text g.binds (sign Colon ∷ clause))) × IsClause g.premises g.conclusions clause after × AreGoals (n + 1) gs after rest
+
+-- file = "spike" "1" {sort} {fun} {rule} {goal}
+abbrev pub IsSpecText : RawSpec → List Marked → Type 0
+IsSpecText raw text =
+    (sorts : List Marked) × (goals : List Marked) × (text ≡ sign Spike ∷ sign One ∷ sorts) × AreSorts 0 0 raw.sorts sorts (funs_text 0 raw.funs (rules_text 0 raw.rules goals)) × AreGoals 0 raw.goals goals []
+
+-- one term alone
+abbrev pub IsTermText : RawTree → List Marked → Type 0
+IsTermText term text = text ≡ term_text 0 None term []

@@ -1,0 +1,11 @@
+-- The grammar of specifications, in the order in which to read it.
+pub mod RawTree
+pub mod Items
+pub mod Limits
+pub mod Grammar
+pub mod Derives
+-- A stack of symbols for readers: no text is told by it.
+pub mod Symbols
+-- How the logic stores and measures a raw term.
+pub mod RawCodes
+pub mod RawMeasure

@@ -1,0 +1,21 @@
+//! Raw specifications and their grammar.
+//!
+//! It stands on spec_text, whose tokens the grammar speaks of. A raw specification is a text's
+//! declarations in their order, with each name as it stands there and its place. The folder
+//! `specs/` has the grammar with its limits as relations on whole token lists, what a fault of a
+//! text is, and a stack of grammar symbols that a reader goes along. The layers above use what a
+//! text derives, that it derives one raw specification at most, and that each text that derives
+//! none has one fault.
+#![tactic(auto)]
+
+mod keys;
+mod limits;
+mod raw;
+mod terms;
+
+pub use keys::Key;
+pub use limits::LimitKind;
+pub use raw::{
+    RawBind, RawEq, RawFun, RawGoal, RawGuard, RawName, RawNames, RawRule, RawSort, RawSpec,
+};
+pub use terms::{RawTerm, RawTerms};

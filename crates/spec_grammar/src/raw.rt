@@ -1,0 +1,78 @@
+use crate::terms::RawTerm;
+use term_core::{Name, Seq};
+
+/// A name and its place in the text, in bytes from 0.
+#[derive(Drop)]
+pub struct RawName {
+    pub name: Name,
+    pub at: usize,
+}
+
+/// A name with its place, and the names in parentheses behind it.
+#[derive(Drop)]
+pub struct RawNames {
+    pub name: Name,
+    pub at: usize,
+    pub args: Seq<RawName>,
+}
+
+/// `sort HEAD = constructor | constructor`
+#[derive(Drop)]
+pub struct RawSort {
+    pub head: RawName,
+    pub constructors: Seq<RawNames>,
+}
+
+/// `fun HEAD : RESULT`
+#[derive(Drop)]
+pub struct RawFun {
+    pub head: RawNames,
+    pub result: RawName,
+}
+
+/// `LEFT = RIGHT`
+#[derive(Drop)]
+pub struct RawEq {
+    pub left: RawTerm,
+    pub right: RawTerm,
+}
+
+/// `if TEST`, which wants it true, or `unless TEST`, which wants it false.
+#[derive(Drop)]
+pub struct RawGuard {
+    pub test: RawTerm,
+    pub wanted: bool,
+}
+
+/// `rule LEFT = RIGHT` and its guards.
+#[derive(Drop)]
+pub struct RawRule {
+    pub left: RawTerm,
+    pub right: RawTerm,
+    pub guards: Seq<RawGuard>,
+}
+
+/// `NAME : SORT`
+#[derive(Drop)]
+pub struct RawBind {
+    pub name: RawName,
+    pub sort: RawName,
+}
+
+/// `goal HEAD(binds) : premises => conclusions`
+#[derive(Drop)]
+pub struct RawGoal {
+    pub head: RawName,
+    pub binds: Seq<RawBind>,
+    pub premises: Seq<RawEq>,
+    pub conclusions: Seq<RawEq>,
+}
+
+/// The declarations of a text, in their order.
+#[derive(Drop)]
+pub struct RawSpec {
+    pub sorts: Seq<RawSort>,
+    pub funs: Seq<RawFun>,
+    pub rules: Seq<RawRule>,
+    pub goals: Seq<RawGoal>,
+}
