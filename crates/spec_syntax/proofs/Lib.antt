@@ -1,0 +1,5 @@
+pub mod ClauseSteps
+pub mod Grow
+pub mod Settled
+pub mod SortSteps
+pub mod Steps

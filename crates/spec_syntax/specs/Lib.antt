@@ -1,0 +1,7 @@
+-- What the reader answers.
+pub mod Faults
+-- What only this crate's own contracts speak of.
+pub mod Scanned
+pub mod Reading
+pub mod ReadingSorts
+pub mod Wholes

@@ -1,0 +1,115 @@
+ghost use Rattle.std.specs.Prelude.{◌≡◌, ◌≤◌, ◌<◌, ◌+◌, ◌∷◌, [], IfOk, length};
+ghost use Rattle.spec_grammar.specs.Grammar.{sign, con_text};
+ghost use Rattle.spec_grammar.specs.Items.{items_of};
+ghost use Rattle.spec_grammar.specs.Limits.{constructor_mark};
+ghost use Rattle.spec_grammar.specs.Symbols.{sorts as sorts_symbol};
+ghost use Rattle.spec_grammar.specs.declared.keys.Key.TheVariants.{Bar, Sort};
+ghost use Rattle.spec_syntax.specs.Reading.{Lacks};
+ghost use Rattle.spec_syntax.specs.ReadingSorts.{ReadsConstructor, ReadsConstructors, ReadsSort, ReadsNextSort, ReadsSorts};
+
+use crate::stop::Stop;
+use crate::words::{Source, over};
+use spec_grammar::{Key, LimitKind, RawNames, RawSort};
+use spec_text::Token;
+use term_core::Seq;
+
+const SORTS: usize = 200;
+
+/// The most constructors of one sort, and of all sorts.
+const CONSTRUCTORS_OF_ONE: usize = 64;
+
+const CONSTRUCTORS: usize = 500;
+
+/// The limit that a constructor passes with `k` before it in its sort and `total` before it in all.
+fn constructor_over(k: usize, total: usize) -> Option<LimitKind>
+    ensures { result ≡ constructor_mark k total }
+{
+    match over(k, CONSTRUCTORS_OF_ONE, LimitKind::Constructors) {
+        Some(why) => Some(why),
+        None => over(total, CONSTRUCTORS, LimitKind::Constructors),
+    }
+}
+
+impl<'a> Source<'a> {
+    /// The sorts.
+    pub(crate) fn sorts<'t>(&self, tokens: &'t [Token]) -> Result<(Seq<RawSort>, &'t [Token]), Stop>
+        ensures { ReadsSorts (λ x. x.0) (λ x. items_of self.now.bytes.now x.1.now) (items_of self.now.bytes.now tokens.now) result }
+    {
+        let mut made = Seq::new(self.alloc);
+        let mut total = 0;
+        let mut rest = tokens;
+        while let Some((sort, after)) = self.next_sort(rest, made.len(), total)? {
+            total += sort.constructors.len();
+            made.push(sort)?;
+            rest = after;
+        }
+        Ok((made, rest))
+    }
+
+    /// The next sort, with `n` sorts and `total` constructors before it; None where none comes
+    /// next.
+    fn next_sort<'t>(
+        &self,
+        tokens: &'t [Token],
+        n: usize,
+        total: usize,
+    ) -> Result<Option<(RawSort, &'t [Token])>, Stop>
+        requires { total ≤ 500 }
+        ensures { ReadsNextSort n total (λ x. x.0) (λ x. items_of self.now.bytes.now x.1.now) (items_of self.now.bytes.now tokens.now) result }
+    {
+        let Some(next) = self.after_key(tokens, Key::Sort) else {
+            return Ok(None);
+        };
+        self.within(tokens, over(n, SORTS, LimitKind::Sorts))?;
+        let (sort, rest) = self.sort(next, total)?;
+        Ok(Some((sort, rest)))
+    }
+
+    /// A sort behind its first word, with `total` constructors before it.
+    fn sort<'t>(&self, tokens: &'t [Token], total: usize) -> Result<(RawSort, &'t [Token]), Stop>
+        requires { total ≤ 500 }
+        ensures { ReadsSort total (λ x. x.0) (λ x. items_of self.now.bytes.now x.1.now) (items_of self.now.bytes.now tokens.now) result }
+    {
+        let (head, rest) = self.name(tokens, None)?;
+        let rest = self.expect(rest, Key::Equals)?;
+        let (constructors, rest) = self.constructors(rest, total)?;
+        Ok((RawSort { head, constructors }, rest))
+    }
+
+    /// The constructors of a sort, at least one, with `total` constructors before them.
+    fn constructors<'t>(
+        &self,
+        tokens: &'t [Token],
+        total: usize,
+    ) -> Result<(Seq<RawNames>, &'t [Token]), Stop>
+        requires { total ≤ 500 }
+        ensures { ReadsConstructors total (λ x. x.0) (λ x. items_of self.now.bytes.now x.1.now) (items_of self.now.bytes.now tokens.now) result }
+    {
+        let mut made = Seq::new(self.alloc);
+        let (first, mut rest) = self.head(tokens, constructor_over(0, total))?;
+        made.push(first)?;
+        while let Some((constructor, after)) = self.next_constructor(rest, made.len(), total)? {
+            made.push(constructor)?;
+            rest = after;
+        }
+        Ok((made, rest))
+    }
+
+    /// The constructor behind a bar, with `k` constructors of its sort before it and `total` before
+    /// these; None where no bar comes next.
+    fn next_constructor<'t>(
+        &self,
+        tokens: &'t [Token],
+        k: usize,
+        total: usize,
+    ) -> Result<Option<(RawNames, &'t [Token])>, Stop>
+        requires { k + total ≤ 500 }
+        ensures { ReadsConstructor k (total + k) (λ x. x.0) (λ x. items_of self.now.bytes.now x.1.now) (items_of self.now.bytes.now tokens.now) result }
+    {
+        let Some(next) = self.after_key(tokens, Key::Bar) else {
+            return Ok(None);
+        };
+        let (constructor, rest) = self.head(next, constructor_over(k, total + k))?;
+        Ok(Some((constructor, rest)))
+    }
+}
