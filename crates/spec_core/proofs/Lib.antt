@@ -10,3 +10,4 @@ pub mod Table
 pub mod OneVerdict
 pub mod Fresh
 pub mod SmallConstants
+pub mod SortedNaturals

@@ -3,16 +3,17 @@ use Rattle.std.specs.Prelude.{◌≡◌, [], ◌∷◌, true, false, codes}
 use Rattle.term_core.specs.Tree.{Tree, var}
 use Rattle.spec_core.specs.declared.records.Verdict.TheVariants.{Holds, Fails}
 use Rattle.spec_core.specs.Sorts.{Sorted, IsValue}
-use Rattle.spec_core.specs.Declarations.{bool_sort}
-use Rattle.spec_core.specs.WellSorted.{Numbered}
+use Rattle.spec_core.specs.Small.{HasSmallValue, IsFirstWithout}
+use Rattle.spec_core.specs.Declarations.{IsDeclared, bool_sort}
+use Rattle.spec_core.specs.WellSorted.{Numbered, RuleIsSorted, GoalIsSorted, IsWellSorted}
 use Rattle.spec_core.specs.Gives.{Gives}
 use Rattle.spec_core.specs.Truth.{GoalFails, GoalHolds}
 use Rattle.spec_core.specs.Overlap.{NoOverlap}
 use Rattle.spec_core.specs.Groups.{Whole}
 use Rattle.spec_core.specs.Verdict.{IsVerdict}
-use Rattle.spec_core.specs.Order.{values, substitutions}
+use Rattle.spec_core.specs.Order.{is_small, values, substitutions}
 use Rattle.spec_core.specs.TermText.{term_text}
-use Rattle.spec_core.specs.Naturals.{nat, naturals_sig, naturals, overlapping, same_goal, zero_term, succ_term, plus_term}
+use Rattle.spec_core.specs.Naturals.{nat, naturals_sig, repeated_sig, endless_sig, naturals, twice, overlapping, plus_zero_rule, plus_succ_rule, loose_rule, same_goal, mixed_goal, number, zero_term, succ_term, plus_term}
 
 pub record WorkedExamples : Type 0 where
   -- succ(zero) is a value of the sort Nat, and plus(x, zero) has this sort where x has it
@@ -22,6 +23,25 @@ pub record WorkedExamples : Type 0 where
   -- plus(x, y) is numbered by first occurrence, and plus(y, x) isn't
   pub numbered : Numbered 0 (plus_term (var 0) (var 1)) 2
   pub not_numbered : Numbered 0 (plus_term (var 1) (var 0)) 2 → ⊥
+  -- the declarations of naturals are in order, and those in which zero is also a function aren't
+  pub declared : IsDeclared naturals_sig
+  pub not_declared : IsDeclared repeated_sig → ⊥
+  -- Nat has a small value, and has none where succ is its one constructor
+  pub nat_has_a_small_value : HasSmallValue naturals_sig nat
+  pub no_small_value : IsFirstWithout endless_sig nat
+  -- a value of 255 symbols is small, and one of 256 isn't
+  pub last_small : is_small (number 254) ≡ true
+  pub first_large : is_small (number 255) ≡ false
+  -- the rules of plus are well sorted, and plus(zero, y) = x isn't
+  pub zero_rule_is_sorted : RuleIsSorted naturals_sig plus_zero_rule
+  pub succ_rule_is_sorted : RuleIsSorted naturals_sig plus_succ_rule
+  pub loose_rule_is_not : RuleIsSorted naturals_sig loose_rule → ⊥
+  -- plus(x, y) = plus(x, x) is well sorted, and zero = true isn't
+  pub same_goal_is_sorted : GoalIsSorted naturals_sig same_goal
+  pub mixed_goal_is_not : GoalIsSorted naturals_sig mixed_goal → ⊥
+  -- naturals are well sorted as a whole, and aren't where a goal stands twice
+  pub well_sorted : IsWellSorted naturals
+  pub not_well_sorted : IsWellSorted twice → ⊥
   -- plus(succ(zero), zero) gives succ(zero) by two uses of rules
   pub one_plus_zero : Gives naturals (plus_term (succ_term zero_term) zero_term) (succ_term zero_term) 2
   pub zero_gives_itself : Gives naturals zero_term zero_term 0

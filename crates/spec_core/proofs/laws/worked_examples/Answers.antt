@@ -12,6 +12,7 @@ use Rattle.spec_core.specs.declared.records.Rule.{Rule}
 use Rattle.spec_core.specs.Gives.{Gives, built, called, no_terms, more_terms, no_guards}
 use Rattle.spec_core.specs.Groups.{alone, split}
 use Rattle.spec_core.specs.Naturals.{nat, naturals_sig, naturals, overlapping, plus_zero_rule, plus_succ_rule, plus_any_rule, zero_term, succ_term, plus_term}
+use Rattle.spec_core.proofs.SortedNaturals.{declared, not_declared, nat_has_a_small_value, no_small_value, zero_rule_is_sorted, succ_rule_is_sorted, loose_rule_is_not, same_goal_is_sorted, mixed_goal_is_not, well_sorted, not_well_sorted}
 use Rattle.spec_core.proofs.laws.worked_examples.Goals as goal
 
 zero_built : IsBuilt naturals_sig zero_term
@@ -85,6 +86,19 @@ returns c = record {
   zero_is_no_boolean = zero_is_no_boolean;
   numbered = (1, inr (refl, refl), (2, inr (refl, refl), refl));
   not_numbered = not_numbered;
+  declared = declared;
+  not_declared = not_declared;
+  nat_has_a_small_value = nat_has_a_small_value;
+  no_small_value = no_small_value;
+  last_small = refl;
+  first_large = refl;
+  zero_rule_is_sorted = zero_rule_is_sorted;
+  succ_rule_is_sorted = succ_rule_is_sorted;
+  loose_rule_is_not = loose_rule_is_not;
+  same_goal_is_sorted = same_goal_is_sorted;
+  mixed_goal_is_not = mixed_goal_is_not;
+  well_sorted = well_sorted;
+  not_well_sorted = not_well_sorted;
   one_plus_zero = one_plus_zero;
   zero_gives_itself = zero_gives;
   same_fails = (tt, ((_, _, _, _, one_is_not_zero, zero_plus (succ_term zero_term) one_built one_gives, zero_plus zero_term zero_built zero_gives), tt));
