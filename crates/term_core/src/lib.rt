@@ -10,6 +10,8 @@ mod ids;
 mod lists;
 mod memory;
 mod names;
+#[cfg(test)]
+mod tests;
 mod tree;
 
 pub use ids::{SortId, SymId, VarId};
