@@ -13,6 +13,8 @@ mod printing;
 mod records;
 mod sorting;
 mod symbols;
+#[cfg(test)]
+mod tests;
 
 pub use building::BuildError;
 pub use laws::{one_value, worked_examples};
