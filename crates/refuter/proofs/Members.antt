@@ -1,15 +1,15 @@
 -- The members that a search tries are values of the goal's sorts.
-use Rattle.std.proofs.Common.{◌≡◌, ℕ, zero, suc, ◌+◌, ◌<◌, ◌≤◌, List, [], ◌∷◌, ◌++◌, Bool, true, false, cond, eqb, Some, None, refl, ap, sym, ◌∙◌, subst, arith}
+use Rattle.std.proofs.Common.{◌≡◌, ℕ, zero, suc, ◌+◌, ◌≤◌, List, [], ◌∷◌, ◌++◌, Bool, true, false, cond, eqb, Some, refl, ap, sym, subst, arith}
 use Rattle.std.specs.Prelude.{slice_get, filter, map, option_map}
 use Rattle.std.specs.List.{flat_map, AllByRecursion}
 use Rattle.std.proofs.lemmas.Bool.Decides.{nat_tests}
-use Rattle.term_core.specs.Tree.{Tree, Trees, app, trees_of}
+use Rattle.term_core.specs.Tree.{Tree, app, trees_of}
 use Rattle.term_core.specs.declared.ids.SortId.{SortId}
 use Rattle.spec_core.specs.declared.records.SymInfo.{SymInfo}
 use Rattle.spec_core.specs.declared.records.Spec.{Spec}
 use Rattle.spec_core.specs.declared.records.Goal.{Goal}
 use Rattle.spec_core.specs.Sig.{Sig, info_of, IsConstructor}
-use Rattle.spec_core.specs.Sorts.{Sorted, SortedAll, IsBuilt, AreBuilt, IsValue}
+use Rattle.spec_core.specs.Sorts.{SortedAll, AreBuilt, IsValue}
 use Rattle.spec_core.specs.WellSorted.{sorts_of}
 use Rattle.spec_core.specs.Truth.{AreValuesOf}
 use Rattle.spec_core.specs.Order.{product, constructors_from, constructors_of, is_small, values, substitutions}

@@ -1,6 +1,6 @@
 -- Steps of the lists that a search makes and walks.
-use Rattle.std.proofs.Common.{◌≡◌, ◌≢◌, ℕ, zero, suc, ◌+◌, ◌-◌, ◌<◌, ◌≤◌, min, List, [], ◌∷◌, ◌++◌, Bool, true, false, cond, eqb, Option, Some, None, ◌⊎◌, inl, inr, refl, ap, sym, ◌∙◌, subst, arith, get_or, length, take, drop, add-one, append_assoc}
-use Rattle.std.specs.Prelude.{slice_get, filter, map, option_map, nat_lt}
+use Rattle.std.proofs.Common.{◌≡◌, ◌≢◌, ℕ, zero, suc, ◌+◌, ◌-◌, ◌<◌, ◌≤◌, min, List, [], ◌∷◌, ◌++◌, Bool, true, false, cond, eqb, Some, None, ◌⊎◌, inl, inr, refl, ap, sym, ◌∙◌, subst, arith, length, take, drop, add-one, append_assoc}
+use Rattle.std.specs.Prelude.{slice_get, filter, option_map, nat_lt}
 use Rattle.std.specs.List.{flat_map, AllByRecursion}
 use Rattle.std.proofs.lemmas.Bool.Decides.{nat_tests}
 use Rattle.std.proofs.lemmas.List.Elements.{filter-append}
@@ -9,8 +9,7 @@ use Rattle.term_core.specs.declared.ids.SortId.{SortId}
 use Rattle.spec_core.specs.declared.records.SymInfo.{SymInfo}
 use Rattle.spec_core.specs.declared.records.Spec.{Spec}
 use Rattle.spec_core.specs.declared.records.Goal.{Goal}
-use Rattle.spec_core.specs.declared.records.Verdict.{Verdict}
-use Rattle.spec_core.specs.declared.records.Verdict.TheVariants.{Holds, Fails, Spent}
+use Rattle.spec_core.specs.declared.records.Verdict.TheVariants.{Spent}
 use Rattle.spec_core.specs.Sig.{Sig, info_of}
 use Rattle.spec_core.specs.Verdict.{IsVerdict}
 use Rattle.spec_core.specs.Order.{constructors_from}

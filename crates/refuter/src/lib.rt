@@ -9,6 +9,8 @@
 mod answers;
 mod lists;
 mod searching;
+#[cfg(test)]
+mod tests;
 
 pub use answers::Search;
 pub use searching::search;

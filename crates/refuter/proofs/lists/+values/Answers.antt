@@ -1,9 +1,9 @@
-use Rattle.std.proofs.Common.{◌≡◌, ◌∙◌, ◌+◌, ◌-◌, ◌*◌, ◌++◌, ◌∷◌, ℕ, List, take, drop, ap, sym, refl, arith}
+use Rattle.std.proofs.Common.{◌≡◌, ◌∙◌, ◌-◌, ◌++◌, ℕ, List, ap, sym, arith}
 use Rattle.std.specs.Prelude.{map, filter}
 use Rattle.std.specs.List.{flat_map}
 use Rattle.term_core.specs.Tree.{Tree, app, trees_of}
 use Rattle.term_core.specs.declared.ids.SortId.{SortId}
-use Rattle.spec_core.specs.Order.{values, product, is_small, constructors_from, constructors_of}
+use Rattle.spec_core.specs.Order.{values, product, is_small}
 use Rattle.refuter.proofs.Rows.{constructor_here, constructor_other, made_more}
 use Rattle.refuter.proofs.lists.+values.Goals as goal
 

@@ -3,7 +3,7 @@ use Rattle.std.specs.Prelude.{map, filter}
 use Rattle.std.specs.List.{flat_map}
 use Rattle.term_core.specs.Tree.{app, trees_of}
 use Rattle.term_core.specs.declared.ids.SortId.{SortId}
-use Rattle.spec_core.specs.Order.{values, product, is_small, constructors_from, constructors_of}
+use Rattle.spec_core.specs.Order.{values, product, is_small, constructors_from}
 use Rattle.refuter.proofs.lists.+values.Given as goal
 
 abbrev pub decreases-values_of : goal.decreases-values_of

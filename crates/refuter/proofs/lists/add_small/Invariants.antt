@@ -1,4 +1,4 @@
-use Rattle.std.proofs.Common.{◌≡◌, take, ◌∷◌, ◌++◌}
+use Rattle.std.proofs.Common.{◌≡◌, take, ◌++◌}
 use Rattle.std.specs.Prelude.{map, filter}
 use Rattle.term_core.specs.Tree.{app, trees_of}
 use Rattle.spec_core.specs.Order.{is_small}

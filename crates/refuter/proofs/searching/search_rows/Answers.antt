@@ -1,7 +1,6 @@
-use Rattle.std.proofs.Common.{◌≡◌, ◌∙◌, ◌+◌, ◌<◌, ℕ, List, min, take, subst, sym, refl, arith, Some, length, length-take}
+use Rattle.std.proofs.Common.{◌≡◌, ◌∙◌, min, take, subst, sym, refl, arith, Some, length, length-take}
 use Rattle.std.specs.Prelude.{slice_get}
 use Rattle.std.proofs.lemmas.Option.{slice_get_read}
-use Rattle.term_core.specs.Tree.{Tree}
 use Rattle.spec_core.specs.declared.records.Verdict.{Verdict}
 use Rattle.spec_core.specs.declared.records.Verdict.TheVariants.{Holds, Fails, Spent}
 use Rattle.spec_core.specs.WellSorted.{sorts_of}
@@ -10,7 +9,6 @@ use Rattle.spec_core.specs.Groups.{GroupsAreWhole}
 use Rattle.spec_core.specs.Truth.{AreValuesOf}
 use Rattle.spec_core.specs.Verdict.{IsVerdict}
 use Rattle.ground_eval.proofs.GoalSides.{goal_verdict-unique}
-use Rattle.refuter.specs.Finds.{NoneFails, SpentRows}
 use Rattle.refuter.proofs.Rows.{all_at, below_more, spent_more, spent_same, spent_end, taken_at, cut_is}
 use Rattle.refuter.proofs.searching.search_rows.Goals as goal
 use Rattle.refuter.proofs.searching.search_rows.Goals.{After-row-item}
