@@ -1,0 +1,11 @@
+pub mod Pairs
+pub mod Names
+pub mod TermLaws
+pub mod Occurrences
+pub mod RuleLaws
+pub mod SortLaws
+pub mod GoalLaws
+pub mod SignatureLaws
+pub mod GoalNames
+pub mod SpecLaws
+pub mod NaturalsLaws

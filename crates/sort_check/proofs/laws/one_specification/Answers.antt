@@ -1,0 +1,5 @@
+use Rattle.sort_check.proofs.SpecLaws.{one_spec}
+use Rattle.sort_check.proofs.laws.one_specification.Goals as goal
+
+pub returns : goal.returns
+returns c = one_spec
