@@ -1,17 +1,18 @@
 //! Searches for counterexamples of a file's goals, to the depth and with the number of tries that
 //! the words name, for the figures of `bench/run`.
 //!
-//! It stands on thin_reader and refuter, and promises nothing beyond being safe.
+//! It stands on spec_syntax, sort_check and refuter, and promises nothing beyond being safe.
 #![tactic(auto)]
 
 ghost use Rattle.spec_core.specs.WellSorted.{IsWellSorted};
 
 use anyhow::{Context, Result, bail};
 use refuter::{Search, search};
+use sort_check::elaborate;
 use spec_core::Spec;
+use spec_syntax::read;
 use std::alloc::Global;
 use std::{env, fs};
-use thin_reader::read_thin;
 
 /// How many rule uses the evaluation of one side may cost.
 const STEPS: u32 = 1_000;
@@ -24,7 +25,10 @@ fn main(rt: HostRuntime) -> Result<()> {
     let depth = depth.as_str().parse::<u32>().context("reading the depth")?;
     let tries = tries.as_str().parse::<u32>().context("reading the tries")?;
     let bytes = fs::read(&rt, file.as_str())?;
-    let Ok(Some(spec)) = read_thin(rt.alloc(), &bytes) else {
+    let Ok(raw) = read(rt.alloc(), &bytes) else {
+        bail!("the file isn't read");
+    };
+    let Ok(Some(spec)) = elaborate(rt.alloc(), &raw) else {
         bail!("the file isn't taken");
     };
     let tried = searched(rt.alloc(), &spec, depth, tries)?;

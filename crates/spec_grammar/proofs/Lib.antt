@@ -4,3 +4,5 @@ pub mod Means
 pub mod Whole
 pub mod Unique
 pub mod ItemLemmas
+pub mod SizeLemmas
+pub mod Readings

@@ -4,6 +4,9 @@ pub mod Items
 pub mod Limits
 pub mod Grammar
 pub mod Derives
+pub mod Sizes
+pub mod Laws
+pub mod Examples
 -- A stack of symbols for readers: no text is told by it.
 pub mod Symbols
 -- How the logic stores and measures a raw term.

@@ -9,11 +9,13 @@
 #![tactic(auto)]
 
 mod keys;
+mod laws;
 mod limits;
 mod raw;
 mod terms;
 
 pub use keys::Key;
+pub use laws::{one_reading, worked_examples};
 pub use limits::LimitKind;
 pub use raw::{
     RawBind, RawEq, RawFun, RawGoal, RawGuard, RawName, RawNames, RawRule, RawSort, RawSpec,

@@ -1,5 +1,7 @@
 pub mod ClauseSteps
+pub mod Few
 pub mod Grow
+pub mod OneFault
 pub mod Settled
 pub mod SortSteps
 pub mod Steps

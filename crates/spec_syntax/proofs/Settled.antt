@@ -1,19 +1,20 @@
 -- What a reader of whole texts answers, from the stack of symbols.
 use Rattle.std.proofs.Common.{◌≡◌, ℕ, ◌-◌, List, [], ◌∷◌, ◌++◌, Option, Some, None, Result, Ok, Err, drop, length, refl, ap, sym, subst, ◌∙◌, arith, length-append}
 use Rattle.std.proofs.Math.Seq.{drop-append_seam}
-use Rattle.std.specs.Prelude.{IfErr}
+use Rattle.std.specs.Prelude.{IfOk, IfErr}
 use Rattle.spec_text.specs.Tokens.{AreTokens}
 use Rattle.spec_text.specs.declared.tokens.Token.{Token}
 use Rattle.spec_text.proofs.TokenLemmas.{one_list, one_fault, tokens_or_fault}
 use Rattle.spec_grammar.specs.declared.limits.LimitKind.{LimitKind}
 use Rattle.spec_grammar.specs.Items.{Item, items_of}
 use Rattle.spec_grammar.specs.Grammar.{Marked}
-use Rattle.spec_grammar.specs.Derives.{clean, place_of, IsFault, TextDerives, TextHasFault}
+use Rattle.spec_grammar.specs.Derives.{place_of, IsFault, TextDerives, TextHasFault}
 use Rattle.spec_grammar.specs.Symbols.{Symbol, Fault, run}
-use Rattle.spec_grammar.proofs.ItemLemmas.{length-items_of, items_of-append}
+use Rattle.spec_grammar.proofs.ItemLemmas.{length-items_of}
 use Rattle.spec_grammar.proofs.Stacks.{Agrees, some_is, none_some}
 use Rattle.spec_grammar.proofs.Means.{MeansTo}
-use Rattle.spec_grammar.proofs.Whole.{refused, fault_run, derived_run}
+use Rattle.spec_grammar.proofs.Readings.{fault_stops, derived_or_fault, one_derived}
+use Rattle.spec_grammar.proofs.Whole.{refused, derived_run}
 use Rattle.spec_syntax.specs.declared.fault.SyntaxFault.{SyntaxFault}
 use Rattle.spec_syntax.specs.declared.fault.SyntaxFault.TheVariants.{Text, Syntax, Limit, OutOfMemory}
 use Rattle.spec_syntax.specs.Faults.{IsAnswer, IsRefusal, HasFault, TellsFault}
@@ -56,15 +57,9 @@ module _ {R : Type 0} (start : List Symbol) (IsText : R → List Marked → Type
       let place : at ≡ place_of s.1 (length bytes) = h.4 ∙ ap (λ (ts : List Token). place_left ts h.1 (length bytes)) s.2 ∙ ap (λ (n : ℕ). place_left (s.0 ++ s.1) n (length bytes)) (sym count) ∙ place_left-append s.0 s.1 (length bytes) in
       (s.0, s.1, subst (AreTokens bytes) s.2 h.2, place, subst (λ (xs : List Item). IsFault IsText (items_of bytes s.0) xs why) (sym s.4) (subst (λ (xs : List Item). IsFault IsText xs r.1 why) (sym s.3) r.4))
 
-  -- the tokens of a text with a fault stop the symbols there
-  fault_stops : (at : ℕ) (why : Option LimitKind) (tokens : List Token) (h : TextHasFault IsText bytes at why) → AreTokens bytes tokens → (tokens ≡ h.0 ++ h.1) × (run start (items_of bytes tokens) ≡ Some (length h.1, why))
-  fault_stops at why tokens h a =
-      let same = one_list bytes tokens (h.0 ++ h.1) a h.2 in
-      (same, ap (λ (ts : List Token). run start (items_of bytes ts)) same ∙ ap (run start) (items_of-append bytes h.0 h.1) ∙ fault_run start IsText agrees means (items_of bytes h.0) (items_of bytes h.1) why h.4 ∙ ap (λ (n : ℕ). Some (n, why)) (length-items_of bytes h.1))
-
   one_stop : (at place : ℕ) (why what : Option LimitKind) → TextHasFault IsText bytes at why → StopsAt start bytes place what → (place ≡ at) × (what ≡ why)
   one_stop at place why what h k =
-      let s = fault_stops at why k.0 h k.2 in
+      let s = fault_stops start IsText agrees means one bytes at why k.0 h k.2 in
       let f = some_is (sym k.3 ∙ s.1) in
       (k.4 ∙ ap (λ (ts : List Token). place_left ts k.1 (length bytes)) s.0 ∙ ap (λ (n : ℕ). place_left (h.0 ++ h.1) n (length bytes)) (ap (λ (g : Fault). g.0) f) ∙ place_left-append h.0 h.1 (length bytes) ∙ sym h.3, ap (λ (g : Fault). g.1) f)
 
@@ -73,15 +68,6 @@ module _ {R : Type 0} (start : List Symbol) (IsText : R → List Marked → Type
       let same = one_list bytes d.0 h.0 d.1 h.2 in
       none_some (sym (derived_run start IsText agrees means (items_of bytes d.0) r d.2) ∙ ap (λ (ts : List Token). run start (items_of bytes ts)) same ∙ h.3)
 
-  derived_or_fault : (r : R) (at : ℕ) (why : Option LimitKind) → TextDerives IsText bytes r → TextHasFault IsText bytes at why → ⊥
-  derived_or_fault r at why d h = none_some (sym (derived_run start IsText agrees means (items_of bytes d.0) r d.2) ∙ (fault_stops at why d.0 h d.1).1)
-
-  -- a text derives one thing at most
-  pub one_derived : (r q : R) → TextDerives IsText bytes r → TextDerives IsText bytes q → r ≡ q
-  one_derived r q a b =
-      let same = one_list bytes a.0 b.0 a.1 b.1 in
-      one r q (clean (items_of bytes a.0)) a.2 (subst (λ (ts : List Token). IsText q (clean (items_of bytes ts))) (sym same) b.2)
-
   limit_none : {why : LimitKind} → ◌≡◌ {A = Option LimitKind} (Some why) None → ⊥
   limit_none e = cc
 
@@ -89,8 +75,12 @@ module _ {R : Type 0} (start : List Symbol) (IsText : R → List Marked → Type
   limit_is e = cc
 
   -- the clauses of a reader
+  pub is_derived : (result : Result R SyntaxFault) → Settles IsText start bytes result → IfOk result (TextDerives IsText bytes)
+  is_derived (Ok x) h = h
+  is_derived (Err fault) h = tt
+
   pub is_only : (result : Result R SyntaxFault) → Settles IsText start bytes result → (r : R) → TextDerives IsText bytes r → IsAnswer r result
-  is_only (Ok x) h r d = one_derived x r h d
+  is_only (Ok x) h r d = one_derived start IsText agrees means one bytes x r h d
   is_only (Err (Text at)) h r d = tokens_or_fault bytes d.0 at d.1 h
   is_only (Err (Syntax at)) h r d = derived_or_stop r at None d h
   is_only (Err (Limit at what)) h r d = derived_or_stop r at (Some what) d h
@@ -105,8 +95,8 @@ module _ {R : Type 0} (start : List Symbol) (IsText : R → List Marked → Type
 
   pub is_exact : (result : Result R SyntaxFault) → Settles IsText start bytes result → (fault : SyntaxFault) → HasFault IsText bytes fault → IsRefusal fault result
   is_exact (Ok x) h (Text at) f = tokens_or_fault bytes h.0 at h.1 f
-  is_exact (Ok x) h (Syntax at) f = derived_or_fault x at None h f
-  is_exact (Ok x) h (Limit at what) f = derived_or_fault x at (Some what) h f
+  is_exact (Ok x) h (Syntax at) f = derived_or_fault start IsText agrees means one bytes x at None h f
+  is_exact (Ok x) h (Limit at what) f = derived_or_fault start IsText agrees means one bytes x at (Some what) h f
   is_exact (Ok x) h OutOfMemory f = f
   is_exact (Err OutOfMemory) h fault f = tt
   is_exact (Err (Text place)) h (Text at) f = ap Text (one_fault bytes place at h f)

@@ -1,5 +1,6 @@
 -- What the reader answers.
 pub mod Faults
+pub mod Laws
 -- What only this crate's own contracts speak of.
 pub mod Scanned
 pub mod Reading

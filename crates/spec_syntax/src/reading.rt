@@ -1,8 +1,9 @@
-ghost use Rattle.std.specs.Prelude.{◌≡◌, [], List, IfOk, IfErr, MatchResult, length};
+ghost use Rattle.std.specs.Prelude.{◌≡◌, ◌≤◌, [], List, IfOk, IfErr, MatchResult, length};
 ghost use Rattle.spec_grammar.specs.Derives.{TextDerives};
 ghost use Rattle.spec_grammar.specs.Grammar.{IsSpecText, IsTermText};
 ghost use Rattle.spec_grammar.specs.Items.{items_of};
 ghost use Rattle.spec_grammar.specs.RawTree.{RawTree};
+ghost use Rattle.spec_grammar.specs.Sizes.{words, HasFewWords};
 ghost use Rattle.spec_grammar.specs.Symbols.{spec_symbols, term_symbols};
 ghost use Rattle.spec_grammar.specs.declared.raw.RawSpec.{RawSpec};
 ghost use Rattle.spec_syntax.specs.Faults.{IsAnswer, IsRefusal, HasFault, TellsFault};
@@ -16,22 +17,27 @@ use spec_grammar::{Key, RawSpec, RawTerm};
 use spec_text::{Token, scan};
 use std::alloc::Global;
 
-/// The specification that the bytes of a text derive, or their first fault.
+/// The specification that the bytes of a text derive, or their first fault: a fault of the tokens
+/// before all others, else the first token with which no text goes on or that passes a limit. No
+/// term has more words than the text has bytes.
 pub fn read(alloc: Global, bytes: &[u8]) -> Result<RawSpec, SyntaxFault>
     ensures derived { IfOk result (TextDerives IsSpecText bytes.now) }
     ensures only { (raw : RawSpec) → TextDerives IsSpecText bytes.now raw → IsAnswer raw result }
     ensures fault { IfErr result (TellsFault IsSpecText bytes.now) }
     ensures exact { (fault : SyntaxFault) → HasFault IsSpecText bytes.now fault → IsRefusal fault result }
+    ensures few_words { IfOk result (HasFewWords (length bytes.now)) }
 {
     read_spec(alloc, bytes)
 }
 
-/// The term that the bytes of a text derive, or their first fault.
+/// The term that the bytes of a text derive, or their first fault, as [`read`] tells it. Of the
+/// limits a term has those of names, arguments and nesting; its bytes have none.
 pub fn read_term(alloc: Global, bytes: &[u8]) -> Result<RawTerm, SyntaxFault>
     ensures derived { IfOk result (TextDerives IsTermText bytes.now) }
     ensures only { (term : RawTree) → TextDerives IsTermText bytes.now term → IsAnswer term result }
     ensures fault { IfErr result (TellsFault IsTermText bytes.now) }
     ensures exact { (fault : SyntaxFault) → HasFault IsTermText bytes.now fault → IsRefusal fault result }
+    ensures few_words { IfOk result (λ term. words term ≤ length bytes.now) }
 {
     read_one_term(alloc, bytes)
 }

@@ -2,3 +2,4 @@ pub mod Walks
 pub mod Pieces
 pub mod ClaimLemmas
 pub mod Endings
+pub mod OneEnding

@@ -3,8 +3,10 @@ pub mod Words
 pub mod Numbers
 pub mod Claims
 pub mod Texts
+pub mod Refusals
 pub mod Parts
 pub mod Runs
+pub mod Outcomes
 pub mod Codes
 -- What only this crate's own contracts speak of.
 pub mod Ranges

@@ -16,7 +16,7 @@ use Rattle.spike_cli.specs.declared.claims.Claim.{Claim}
 use Rattle.spike_cli.specs.Claims.{IsClaimOn}
 use Rattle.spike_cli.specs.Texts.{claim_text, header_text}
 use Rattle.spike_cli.specs.Parts.{AppendsPartOf}
-use Rattle.spike_cli.specs.Runs.{BeginsReport, IsReport}
+use Rattle.spike_cli.specs.Runs.{BeginsReport, IsReport, Reported, IsRefusalOf, MayWriteFor}
 
 abbrev pub stop_of : WriteError → Stop
 stop_of write.Failed = WriteFault
@@ -51,6 +51,25 @@ module _ (old new : Option (List ℕ)) (writes writes' : ℕ) where
   abbrev pub Reports : Spec → Result Status Stop → Type 0
   Reports spec (Ok after) = (text : List ℕ) × IsReport spec text after × Appended old new text
   Reports spec (Err stop) = Stopped (BeginsReport spec) stop
+
+-- one of these texts was appended as a refusal, or a part of one where the command stopped
+module _ (IsText : List ℕ → Type 0) (old new : Option (List ℕ)) (writes writes' : ℕ) where
+  abbrev pub Refuses : Status → Type 0
+  Refuses status.Refused = (text : List ℕ) × IsText text × Appended old new text
+  Refuses status.WriteFault = Rose writes writes' × AppendsPartOf IsText old new
+  Refuses status.OutOfMemory = AppendsPartOf IsText old new
+  Refuses _ = ⊥
+
+-- what a command did on the bytes of its file, by its status
+module _ (bytes : List ℕ) (old new : Option (List ℕ)) (writes writes' : ℕ) where
+  abbrev pub MeansFor : Status → Type 0
+  MeansFor status.Done = Reported bytes old new status.Done
+  MeansFor status.Refuted = Reported bytes old new status.Refuted
+  MeansFor status.Open = Reported bytes old new status.Open
+  MeansFor status.Refused = (line : List ℕ) × IsRefusalOf bytes line × Appended old new line
+  MeansFor status.WriteFault = Rose writes writes' × AppendsPartOf (MayWriteFor bytes) old new
+  MeansFor status.OutOfMemory = AppendsPartOf (MayWriteFor bytes) old new
+  MeansFor _ = ⊥
 
 -- the status of a command whose text was written, or wasn't
 abbrev pub status_ended : Status → Result Unit WriteError → Status

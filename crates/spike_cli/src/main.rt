@@ -6,6 +6,8 @@
 #![tactic(auto)]
 
 mod claims;
+mod laws;
+mod refusals;
 mod reports;
 mod running;
 mod statuses;
@@ -16,6 +18,7 @@ mod words;
 
 pub use claims::{Budget, Claim, Outcome};
 use io_core::{StdFiles, StdSink};
+pub use laws::one_ending;
 pub use running::run;
 pub use statuses::Status;
 use std::process::ExitCode;

@@ -1,17 +1,20 @@
 ghost use Rattle.std.specs.Prelude.{◌≡◌, ◌≤◌, ℕ, List, Some, map, slice_get, string_bytes};
 ghost use Rattle.spec_core.specs.WellSorted.{IsWellSorted};
 ghost use Rattle.spike_cli.specs.Runs.{Means, AskedPrefix};
-ghost use Rattle.spike_cli.specs.Stops.{Reports, WritesHeader, WritesClaim, status_ended, joined};
+ghost use Rattle.spike_cli.specs.Refusals.{IsFaultLine};
+ghost use Rattle.spike_cli.specs.Stops.{MeansFor, Refuses, Reports, WritesHeader, WritesClaim, status_ended, joined};
 
 use crate::claims::{Outcome, claim_on};
+use crate::refusals::refusal;
 use crate::reports::{claim_text, header};
 use crate::statuses::Status;
 use crate::stops::Stop;
 use crate::words::file_to_refute;
 use io_core::{Files, ReadError, Sink, WriteError, write_all};
+use sort_check::elaborate;
 use spec_core::{Goal, Spec};
+use spec_syntax::{SyntaxFault, read};
 use std::alloc::Global;
-use thin_reader::read_thin;
 
 /// The most bytes of a specification.
 const FILE_LIMIT: usize = 1_048_576;
@@ -34,20 +37,43 @@ pub fn run<F: Files, S: Sink>(alloc: Global, words: &[String], files: &mut F, ou
         return ended(Status::Usage, wrote);
     };
     match files.read(alloc, file, FILE_LIMIT) {
-        Ok(bytes) => match read_thin(alloc, &bytes) {
-            Ok(Some(spec)) => match refute(alloc, &spec, out) {
-                Ok(status) => status,
-                Err(stop) => stop.status(),
-            },
-            Ok(None) => ended(Status::Refused, write_all(out, alloc, b"refused not yet\n")),
-            Err(_) => Status::OutOfMemory,
-        },
+        Ok(bytes) => refute_text(alloc, &bytes, out),
         Err(ReadError::TooLong) => ended(
             Status::Refused,
             write_all(out, alloc, b"refused length\n"),
         ),
         Err(ReadError::Failed) => Status::ReadFault,
         Err(ReadError::OutOfMemory) => Status::OutOfMemory,
+    }
+}
+
+/// Carries out `refute` on the bytes of its file.
+fn refute_text<S: Sink>(alloc: Global, bytes: &[u8], out: &mut S) -> Status
+    ensures means { MeansFor bytes.now (S.written out.old) (S.written out.new) (S.faults out.old) (S.faults out.new) result }
+    ensures writes { S.faults out.old ≤ S.faults out.new }
+{
+    let raw = match read(alloc, bytes) {
+        Ok(raw) => raw,
+        Err(fault) => return refuse(alloc, fault, out),
+    };
+    match elaborate(alloc, &raw) {
+        Ok(Some(spec)) => match refute(alloc, &spec, out) {
+            Ok(status) => status,
+            Err(stop) => stop.status(),
+        },
+        Ok(None) => ended(Status::Refused, write_all(out, alloc, b"refused not yet\n")),
+        Err(_) => Status::OutOfMemory,
+    }
+}
+
+/// Writes the line of a fault.
+fn refuse<S: Sink>(alloc: Global, fault: SyntaxFault, out: &mut S) -> Status
+    ensures refuses { Refuses (IsFaultLine fault) (S.written out.old) (S.written out.new) (S.faults out.old) (S.faults out.new) result }
+    ensures writes { S.faults out.old ≤ S.faults out.new }
+{
+    match refusal(alloc, fault) {
+        Ok(line) => ended(Status::Refused, write_all(out, alloc, &line)),
+        Err(_) => Status::OutOfMemory,
     }
 }
 

@@ -12,6 +12,14 @@ rule plus(zero, y) = y
 rule plus(succ(x), y) = succ(plus(x, y))
 ";
 
+/// The same file with a blank more, a comment, and a carriage return.
+const WIDE_NATURALS: &str = "spike 1 # naturals\r
+sort  Nat = zero | succ(Nat)
+fun plus(Nat, Nat) : Nat
+rule plus(zero, y) = y
+rule plus(succ(x), y) = succ(plus(x, y))
+";
+
 const USAGE: &str = "usage: spike check|eval|prove|refute|replay|load\n";
 
 /// The file `a` with these bytes.
@@ -76,22 +84,24 @@ fn goals_are_refuted_or_left_open(rt: HostRuntime) -> Result<(), Fail> {
         ("", Status::Done, ""),
     ];
     for (goals, status, claims) in rows {
-        let text = format!(in alloc; "{NATURALS}{goals}")?;
         let want = format!(in alloc; "spike-report 1\nsteps 1000\n{claims}done\n")?;
-        let (got, written) = call(alloc, &["refute", "a"], text.as_bytes(), &[], &[])?;
-        assert_eq!(rt; got, status, "at {goals}");
-        assert_eq!(rt; written.as_slice(), want.as_bytes(), "at {goals}");
+        for naturals in [NATURALS, WIDE_NATURALS] {
+            let text = format!(in alloc; "{naturals}{goals}")?;
+            let (got, written) = call(alloc, &["refute", "a"], text.as_bytes(), &[], &[])?;
+            assert_eq!(rt; got, status, "at {goals}");
+            assert_eq!(rt; written.as_slice(), want.as_bytes(), "at {goals}");
+        }
     }
     Ok(())
 }
 
-/// Files that aren't taken, faults of the store and the sink, and words that are no command.
+/// Faults of the store and the sink, and words that are no command.
 #[test]
 fn calls_end_with_the_status_of_their_cause(rt: HostRuntime) -> Result<(), Fail> {
     let alloc = rt.alloc();
     let two_lines = "spike-report 1\nsteps 1000\n";
     let empty = "spike 1\n";
-    let rows: [(&[&str], &str, &[u64], &[u64], Status, &str); 12] = [
+    let rows: [(&[&str], &str, &[u64], &[u64], Status, &str); 10] = [
         (
             &["refute", "a"],
             empty,
@@ -111,22 +121,6 @@ fn calls_end_with_the_status_of_their_cause(rt: HostRuntime) -> Result<(), Fail>
         (&["refute", "a"], empty, &[], &[1], Status::WriteFault, ""),
         (&["refute", "a"], empty, &[1], &[], Status::ReadFault, ""),
         (&["refute", "b"], empty, &[], &[], Status::ReadFault, ""),
-        (
-            &["refute", "a"],
-            "spike 1\nsort  Nat = zero | succ(Nat)\n",
-            &[],
-            &[],
-            Status::Refused,
-            "refused not yet\n",
-        ),
-        (
-            &["refute", "a"],
-            "",
-            &[],
-            &[],
-            Status::Refused,
-            "refused not yet\n",
-        ),
         (&[], empty, &[], &[], Status::Usage, USAGE),
         (
             &["prove", "a", "--depth", "9"],
@@ -148,17 +142,74 @@ fn calls_end_with_the_status_of_their_cause(rt: HostRuntime) -> Result<(), Fail>
     Ok(())
 }
 
+/// Texts with faults, and those that aren't over naturals alone or stand for no specification. The
+/// file of naturals has 125 bytes, and the word of depth 65 stands behind 9 and 64 of `succ(`.
+#[test]
+fn texts_are_refused(rt: HostRuntime) -> Result<(), Fail> {
+    let alloc = rt.alloc();
+    let mut nested = String::from_str(alloc, "goal g : ")?;
+    for _ in 0..64 {
+        nested.push_str("succ(")?;
+    }
+    let deep = format!(in alloc; "{NATURALS}{nested}zero")?;
+    let guarded = format!(in alloc; "{NATURALS}rule plus(x, y) = x if plus(x, y)\n")?;
+    let unbound = format!(in alloc; "{NATURALS}goal g : x = zero\n")?;
+    let unknown = format!(in alloc; "{NATURALS}rule plus(x, y) = z\n")?;
+    let premise = format!(in alloc; "{NATURALS}goal g(x : Nat) : x = zero => x = x\n")?;
+    let rows = [
+        ("", "syntax at 0"),
+        ("spike 1\n$\n", "text at 8"),
+        ("spike 3\n", "syntax at 6"),
+        (deep.as_str(), "limit at 454: nesting"),
+        ("spike 1\nsort S = c\n", "not yet"),
+        (guarded.as_str(), "not yet"),
+        (unbound.as_str(), "not yet"),
+        (unknown.as_str(), "not yet"),
+        (premise.as_str(), "not yet"),
+    ];
+    for (text, why) in rows {
+        let want = format!(in alloc; "refused {why}\n")?;
+        let (got, written) = call(alloc, &["refute", "a"], text.as_bytes(), &[], &[])?;
+        assert_eq!(rt; got, Status::Refused, "at {why}");
+        assert_eq!(rt; written.as_slice(), want.as_bytes(), "at {why}");
+    }
+    Ok(())
+}
+
+/// A term of depth 64 is read: 63 of `succ` are above `zero`.
+#[test]
+fn deep_terms_are_read(rt: HostRuntime) -> Result<(), Fail> {
+    let alloc = rt.alloc();
+    let mut text = format!(in alloc; "{NATURALS}goal g : ")?;
+    for _ in 0..63 {
+        text.push_str("succ(")?;
+    }
+    text.push_str("zero")?;
+    for _ in 0..63 {
+        text.push_str(")")?;
+    }
+    text.push_str(" = zero\n")?;
+    let (got, _) = call(alloc, &["refute", "a"], text.as_bytes(), &[], &[])?;
+    assert_eq!(rt; got, Status::Refuted);
+    Ok(())
+}
+
 /// A file of the most bytes is read, and one with a byte more isn't.
 #[test]
 fn long_files_are_refused(rt: HostRuntime) -> Result<(), Fail> {
     let alloc = rt.alloc();
-    for (length, want) in [
-        (1_048_576, "refused not yet\n"),
-        (1_048_577, "refused length\n"),
+    for (length, status, want) in [
+        (
+            1_048_576usize,
+            Status::Done,
+            "spike-report 1\nsteps 1000\ndone\n",
+        ),
+        (1_048_577, Status::Refused, "refused length\n"),
     ] {
-        let text = vec![in alloc; b'#'; length]?;
+        let mut text = Vec::from_slice(alloc, b"spike 1\n")?;
+        text.extend_from_slice(&vec![in alloc; b'#'; length - 8]?)?;
         let (got, written) = call(alloc, &["refute", "a"], &text, &[], &[])?;
-        assert_eq!(rt; got, Status::Refused, "at {length}");
+        assert_eq!(rt; got, status, "at {length}");
         assert_eq!(rt; written.as_slice(), want.as_bytes(), "at {length}");
     }
     Ok(())

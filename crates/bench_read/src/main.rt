@@ -1,0 +1,25 @@
+//! Reads a file's specification and counts its declarations, for the figures of `bench/run`.
+//!
+//! It stands on spec_syntax, and promises nothing beyond being safe.
+#![tactic(auto)]
+
+use anyhow::{Result, bail};
+use spec_syntax::read;
+use std::{env, fs};
+
+fn main(rt: HostRuntime) -> Result<()> {
+    let words: Vec<String> = env::args(&rt)?.collect(rt.alloc())?;
+    let [_, file] = words.as_slice() else {
+        bail!("the word is FILE");
+    };
+    let bytes = fs::read(&rt, file.as_str())?;
+    let Ok(raw) = read(rt.alloc(), &bytes) else {
+        bail!("the file isn't read");
+    };
+    let sorts = raw.sorts.len();
+    let functions = raw.funs.len();
+    let rules = raw.rules.len();
+    let goals = raw.goals.len();
+    println!(rt; "sorts {sorts} functions {functions} rules {rules} goals {goals}")?;
+    Ok(())
+}

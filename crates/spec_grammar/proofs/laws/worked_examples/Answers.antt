@@ -1,0 +1,34 @@
+use Rattle.std.proofs.Common.{◌≡◌, ◌≢◌, ℕ, List, [], ◌∷◌, inl, inr, refl, ap, sym, ◌∙◌}
+use Rattle.spec_grammar.specs.declared.keys.Key.{Key}
+use Rattle.spec_grammar.specs.declared.keys.Key.TheVariants.{Comma}
+use Rattle.spec_grammar.specs.declared.raw.RawEq.{RawEq}
+use Rattle.spec_grammar.specs.RawTree.{RawTree, word}
+use Rattle.spec_grammar.specs.Items.{Item, Word, Sign}
+use Rattle.spec_grammar.specs.Grammar.{Marked, IsTermText}
+use Rattle.spec_grammar.specs.Derives.{bare, clean}
+use Rattle.spec_grammar.specs.Examples.{pair_term, pair_items}
+use Rattle.spec_grammar.proofs.laws.worked_examples.Goals as goal
+
+word_sign : {b : List ℕ} {a : ℕ} {k : Key} {xs ys : List Item} → Word b a ∷ xs ≡ Sign k ∷ ys → ⊥
+word_sign e = cc
+
+cons_nil : {q : RawEq} → q ∷ [] ≢ []
+cons_nil e = cc
+
+-- a term begins with its word
+no_comma : (t : RawTree) (w : List Marked) (rest : List Item) → IsTermText t w → bare w ≡ Sign Comma ∷ rest → ⊥
+no_comma (word b a ts) w rest h e = word_sign (sym (ap bare h) ∙ e)
+
+pub returns : goal.returns
+returns c = record {
+  header = ([], [], refl, refl, refl);
+  without_arrow = (_, _, refl, refl, (_, [], refl, inr (refl, cons_nil, refl), refl));
+  with_arrow = (_, _, refl, refl, (_, [], refl, inl refl, refl));
+  nothing = (_, _, refl, refl, (_, [], refl, inl refl, refl));
+  arguments = refl;
+  comma = ((pair_term, clean pair_items, refl), λ c. no_comma c.0 c.1 c.2 c.3 c.4);
+  eighth = refl;
+  ninth = refl;
+  deep = refl;
+  fifth = refl;
+}

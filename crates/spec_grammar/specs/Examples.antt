@@ -1,0 +1,45 @@
+-- Small texts and faults.
+use Rattle.std.specs.Prelude.{◌≡◌, ℕ, List, [], ◌∷◌, Some, None, codes}
+use Rattle.spec_grammar.specs.declared.keys.Key.TheVariants.{Spike, Goal, One, LeftPar, RightPar, Comma, Colon, Equals, Arrow}
+use Rattle.spec_grammar.specs.declared.limits.LimitKind.TheVariants as limit
+use Rattle.spec_grammar.specs.declared.raw.RawEq.{RawEq}
+use Rattle.spec_grammar.specs.declared.raw.RawSpec.{RawSpec}
+use Rattle.spec_grammar.specs.RawTree.{RawTree, word, none, some}
+use Rattle.spec_grammar.specs.Items.{Item, Word, Sign}
+use Rattle.spec_grammar.specs.Limits.{term_mark, conclusion_mark}
+use Rattle.spec_grammar.specs.Grammar.{IsSpecText, IsTermText}
+use Rattle.spec_grammar.specs.Derives.{Derives, IsFault}
+
+-- `f(x, y)` at the places of its words
+abbrev pub pair_term : RawTree
+pair_term = word (codes "f") 0 (some (word (codes "x") 2 none) (some (word (codes "y") 5 none) none))
+
+abbrev pub pair_items : List Item
+pair_items = Word (codes "f") 0 ∷ Sign LeftPar ∷ Word (codes "x") 2 ∷ Sign Comma ∷ Word (codes "y") 5 ∷ Sign RightPar ∷ []
+
+-- `x = y` at these places
+abbrev pub equation : ℕ → ℕ → RawEq
+equation x y = record { left = word (codes "x") x none; right = word (codes "y") y none }
+
+-- one goal `g` at the place 13
+abbrev pub one_goal : List RawEq → RawSpec
+one_goal conclusions = record { sorts = []; funs = []; rules = []; goals = record { head = record { name = codes "g"; at = 13 }; binds = []; premises = []; conclusions = conclusions } ∷ [] }
+
+abbrev pub goal_items : List Item → List Item
+goal_items clause = Sign Spike ∷ Sign One ∷ Sign Goal ∷ Word (codes "g") 13 ∷ Sign Colon ∷ clause
+
+pub record WorkedExamples : Type 0 where
+  -- the header alone
+  pub header : Derives IsSpecText (Sign Spike ∷ Sign One ∷ []) (record { sorts = []; funs = []; rules = []; goals = [] })
+  -- a conclusion without the arrow and with it, and no equation at all
+  pub without_arrow : Derives IsSpecText (goal_items (Word (codes "x") 17 ∷ Sign Equals ∷ Word (codes "y") 21 ∷ [])) (one_goal (equation 17 21 ∷ []))
+  pub with_arrow : Derives IsSpecText (goal_items (Sign Arrow ∷ Word (codes "x") 20 ∷ Sign Equals ∷ Word (codes "y") 24 ∷ [])) (one_goal (equation 20 24 ∷ []))
+  pub nothing : Derives IsSpecText (goal_items (Sign Arrow ∷ [])) (one_goal [])
+  pub arguments : Derives IsTermText pair_items pair_term
+  -- no term begins with a comma, and none has ended behind its open parenthesis
+  pub comma : IsFault IsTermText [] (Sign Comma ∷ pair_items) None
+  -- the eighth argument is the last, the fifth conclusion is one too many, and a long name is told first
+  pub eighth : term_mark 1 7 ≡ None
+  pub ninth : term_mark 1 8 ≡ Some limit.Arity
+  pub deep : term_mark 64 0 ≡ Some limit.Nesting
+  pub fifth : conclusion_mark 4 ≡ Some limit.Conclusions

@@ -1,0 +1,417 @@
+-- Marked tokens whose names stand at other places, and texts of such tokens.
+use Rattle.std.proofs.Common.{◌≡◌, ℕ, ◌+◌, List, [], ◌∷◌, Option, None, length, refl, ap, sym, subst, ◌∙◌}
+use Rattle.spec_grammar.specs.declared.keys.Key.TheVariants.{Spike, One, Sort, Fun, Rule, Goal, LeftPar, RightPar, Comma, Colon, Equals, Bar, Arrow}
+use Rattle.spec_grammar.specs.declared.limits.LimitKind.{LimitKind}
+use Rattle.spec_grammar.specs.declared.raw.RawName.{RawName}
+use Rattle.spec_grammar.specs.declared.raw.RawNames.{RawNames}
+use Rattle.spec_grammar.specs.declared.raw.RawSort.{RawSort}
+use Rattle.spec_grammar.specs.declared.raw.RawFun.{RawFun}
+use Rattle.spec_grammar.specs.declared.raw.RawEq.{RawEq}
+use Rattle.spec_grammar.specs.declared.raw.RawGuard.{RawGuard}
+use Rattle.spec_grammar.specs.declared.raw.RawRule.{RawRule}
+use Rattle.spec_grammar.specs.declared.raw.RawBind.{RawBind}
+use Rattle.spec_grammar.specs.declared.raw.RawGoal.{RawGoal}
+use Rattle.spec_grammar.specs.declared.raw.RawSpec.{RawSpec}
+use Rattle.spec_grammar.specs.RawTree.{RawTree, RawTrees, word, none, some}
+use Rattle.spec_grammar.specs.Items.{Item, Word, Sign}
+use Rattle.spec_grammar.specs.Limits.{name_mark, sort_mark, constructor_mark, fun_mark, arity_mark, term_mark, rule_mark, guard_mark, goal_mark, variable_mark, premise_mark, conclusion_mark}
+use Rattle.spec_grammar.specs.Grammar.{Marked, sign, name_text, term_text, args_text, more_text, more_names_text, names_text, con_text, constructors_text, AreSorts, funs_text, guard_key, guards_text, sides_text, rules_text, commas_text, bars_text, bind_text, more_binds_text, binds_text}
+use Rattle.spec_printing.specs.SamePlaces.{Pointwise, SameName, SameNames, SameTerm, SameTerms, SameSort, SameFun, SameEquation, SameGuard, SameRule, SameBind, SameGoal, IsSameButPlaces}
+use Rattle.spec_printing.proofs.Plain.{clause_text, goals_text, IsPlainText}
+
+-- one token, a name at any place, and then what follows
+abbrev pub Step : Item → Option LimitKind → (List Marked → Type 0) → List Marked → Type 0
+Step (Word name at) mark Next v = (place : ℕ) × (u : List Marked) × (v ≡ (Word name place, mark) ∷ u) × Next u
+Step (Sign key) mark Next v = (u : List Marked) × (v ≡ (Sign key, mark) ∷ u) × Next u
+
+-- the second are the first, with names at other places
+abbrev pub Moved : List Marked → List Marked → Type 0
+Moved [] v = v ≡ []
+Moved (x ∷ w) v = Step x.0 x.1 (Moved w) v
+
+-- The tokens begin with a text of something that is the same apart from places.
+pub record Moves {X : Type 0} (text : X → List Marked → List Marked) (Same : X → X → Type 0) (x : X) (rest v : List Marked) : Type 0 where
+  pub it : X
+  pub after : List Marked
+  pub whole : v ≡ text it after
+  pub same : Same it x
+  pub moved : Moved rest after
+
+-- names
+name_moves : (mark : Option LimitKind) (n : RawName) (rest v : List Marked) → Moved (name_text mark n rest) v → Moves (name_text mark) SameName n rest v
+name_moves mark n rest v h = record { it = record { name = n.name; at = h.0 }; after = h.1; whole = h.2; same = refl; moved = h.3 }
+
+more_names_moves : (n : ℕ) (xs : List RawName) (rest v : List Marked) → Moved (more_names_text n xs rest) v → Moves (more_names_text n) (Pointwise SameName) xs rest v
+more_names_moves n [] rest v h = record { it = []; after = v; whole = refl; same = tt; moved = h }
+more_names_moves n (x ∷ xs) rest v h =
+    let a = name_moves (arity_mark n) x (more_names_text (n + 1) xs rest) h.0 h.2 in
+    let b = more_names_moves (n + 1) xs rest a.after a.moved in
+    record {
+      it = a.it ∷ b.it;
+      after = b.after;
+      whole = h.1 ∙ ap (λ (w : List Marked). sign Comma ∷ w) (a.whole ∙ ap (name_text (arity_mark n) a.it) b.whole);
+      same = (a.same, b.same);
+      moved = b.moved;
+    }
+
+names_moves : (xs : List RawName) (rest v : List Marked) → Moved (names_text xs rest) v → Moves names_text (Pointwise SameName) xs rest v
+names_moves [] rest v h = record { it = []; after = v; whole = refl; same = tt; moved = h }
+names_moves (x ∷ xs) rest v h =
+    let a = name_moves (arity_mark 0) x (more_names_text 1 xs (sign RightPar ∷ rest)) h.0 h.2 in
+    let b = more_names_moves 1 xs (sign RightPar ∷ rest) a.after a.moved in
+    let c = b.moved in
+    record {
+      it = a.it ∷ b.it;
+      after = c.0;
+      whole = h.1 ∙ ap (λ (w : List Marked). sign LeftPar ∷ w) (a.whole ∙ ap (name_text (arity_mark 0) a.it) (b.whole ∙ ap (more_names_text 1 b.it) c.1));
+      same = (a.same, b.same);
+      moved = c.2;
+    }
+
+con_moves : (mark : Option LimitKind) (c : RawNames) (rest v : List Marked) → Moved (con_text mark c rest) v → Moves (con_text mark) SameNames c rest v
+con_moves mark c rest v h =
+    let a = names_moves c.args rest h.1 h.3 in
+    record {
+      it = record { name = c.name; at = h.0; args = a.it };
+      after = a.after;
+      whole = h.2 ∙ ap (λ (w : List Marked). (Word c.name h.0, name_mark c.name mark) ∷ w) a.whole;
+      same = (refl, a.same);
+      moved = a.moved;
+    }
+
+constructors_moves : (k t : ℕ) (cs : List RawNames) (rest v : List Marked) → Moved (constructors_text k t cs rest) v → Moves (constructors_text k t) (Pointwise SameNames) cs rest v
+constructors_moves k t [] rest v h = record { it = []; after = v; whole = refl; same = tt; moved = h }
+constructors_moves k t (c ∷ cs) rest v h =
+    let a = con_moves (constructor_mark k t) c (constructors_text (k + 1) (t + 1) cs rest) h.0 h.2 in
+    let b = constructors_moves (k + 1) (t + 1) cs rest a.after a.moved in
+    record {
+      it = a.it ∷ b.it;
+      after = b.after;
+      whole = h.1 ∙ ap (λ (w : List Marked). sign Bar ∷ w) (a.whole ∙ ap (con_text (constructor_mark k t) a.it) b.whole);
+      same = (a.same, b.same);
+      moved = b.moved;
+    }
+
+-- sorts
+Pointwise-length : {X : Type 0} (P : X → X → Type 0) (xs ys : List X) → Pointwise P xs ys → length xs ≡ length ys
+Pointwise-length P [] [] h = refl
+Pointwise-length P [] (y ∷ ys) h = absurd h
+Pointwise-length P (x ∷ xs) [] h = absurd h
+Pointwise-length P (x ∷ xs) (y ∷ ys) h = cc (Pointwise-length P xs ys h.1)
+
+-- A sort with its first constructor and the others.
+record Declared : Type 0 where
+  head : RawName
+  first : RawNames
+  others : List RawNames
+
+abbrev declared_text : ℕ → ℕ → Declared → List Marked → List Marked
+declared_text n t s rest = (Sign Sort, sort_mark n) ∷ name_text None s.head (sign Equals ∷ con_text (constructor_mark 0 t) s.first (constructors_text 1 (t + 1) s.others rest))
+
+abbrev SameDeclared : Declared → Declared → Type 0
+SameDeclared s u = SameName s.head u.head × SameNames s.first u.first × Pointwise SameNames s.others u.others
+
+declared_moves : (n t : ℕ) (s : Declared) (rest v : List Marked) → Moved (declared_text n t s rest) v → Moves (declared_text n t) SameDeclared s rest v
+declared_moves n t s rest v h =
+    let constructors : List Marked = constructors_text 1 (t + 1) s.others rest in
+    let a = name_moves None s.head (sign Equals ∷ con_text (constructor_mark 0 t) s.first constructors) h.0 h.2 in
+    let equals = a.moved in
+    let b = con_moves (constructor_mark 0 t) s.first constructors equals.0 equals.2 in
+    let c = constructors_moves 1 (t + 1) s.others rest b.after b.moved in
+    record {
+      it = record { head = a.it; first = b.it; others = c.it };
+      after = c.after;
+      whole = h.1 ∙ ap (λ (w : List Marked). (Sign Sort, sort_mark n) ∷ w) (a.whole ∙ ap (name_text None a.it) (equals.1 ∙ ap (λ (w : List Marked). sign Equals ∷ w) (b.whole ∙ ap (con_text (constructor_mark 0 t) b.it) c.whole)));
+      same = (a.same, b.same, c.same);
+      moved = c.moved;
+    }
+
+-- The tokens begin with a text of sorts that are the same apart from places.
+record SortsMove (n t : ℕ) (ss : List RawSort) (rest v : List Marked) : Type 0 where
+  it : List RawSort
+  after : List Marked
+  whole : AreSorts n t it v after
+  same : Pointwise SameSort it ss
+  moved : Moved rest after
+
+sorts_move : (n t : ℕ) (ss : List RawSort) (w rest v : List Marked) → AreSorts n t ss w rest → Moved w v → SortsMove n t ss rest v
+sorts_move n t [] w rest v s h = record { it = []; after = v; whole = refl; same = tt; moved = subst (λ (x : List Marked). Moved x v) s h }
+sorts_move n t (s ∷ ss) w rest v a h =
+    let declared : Declared = record { head = s.head; first = a.0; others = a.1 } in
+    let m : Moves (declared_text n t) SameDeclared declared a.2 v = declared_moves n t declared a.2 v (subst (λ (x : List Marked). Moved x v) a.4 h) in
+    let count : length a.1 ≡ length m.it.others = sym (Pointwise-length SameNames m.it.others a.1 m.same.2) in
+    let k : ℕ = t + 1 + length m.it.others in
+    let next : AreSorts (n + 1) k ss a.2 rest = subst (λ (i : ℕ). AreSorts (n + 1) (t + 1 + i) ss a.2 rest) count a.5 in
+    let b : SortsMove (n + 1) k ss rest m.after = sorts_move (n + 1) k ss a.2 rest m.after next m.moved in
+    let constructors : List RawNames = m.it.first ∷ m.it.others in
+    let same : Pointwise SameNames constructors s.constructors = subst (λ (cs : List RawNames). Pointwise SameNames constructors cs) (sym a.3) (m.same.1, m.same.2) in
+    record {
+      it = record { head = m.it.head; constructors = constructors } ∷ b.it;
+      after = b.after;
+      whole = (m.it.first, m.it.others, m.after, refl, m.whole, b.whole);
+      same = ((m.same.0, same), b.same);
+      moved = b.moved;
+    }
+
+-- functions
+funs_moves : (n : ℕ) (fs : List RawFun) (rest v : List Marked) → Moved (funs_text n fs rest) v → Moves (funs_text n) (Pointwise SameFun) fs rest v
+funs_moves n [] rest v h = record { it = []; after = v; whole = refl; same = tt; moved = h }
+funs_moves n (f ∷ fs) rest v h =
+    let a = con_moves None f.head (sign Colon ∷ name_text None f.result (funs_text (n + 1) fs rest)) h.0 h.2 in
+    let colon = a.moved in
+    let b = name_moves None f.result (funs_text (n + 1) fs rest) colon.0 colon.2 in
+    let c = funs_moves (n + 1) fs rest b.after b.moved in
+    record {
+      it = record { head = a.it; result = b.it } ∷ c.it;
+      after = c.after;
+      whole = h.1 ∙ ap (λ (w : List Marked). (Sign Fun, fun_mark n) ∷ w) (a.whole ∙ ap (con_text None a.it) (colon.1 ∙ ap (λ (w : List Marked). sign Colon ∷ w) (b.whole ∙ ap (name_text None b.it) c.whole)));
+      same = ((a.same, b.same), c.same);
+      moved = c.moved;
+    }
+
+-- terms
+mutual
+  term_moves : (d : ℕ) (mark : Option LimitKind) (t : RawTree) (rest v : List Marked) → Moved (term_text d mark t rest) v → Moves (term_text d mark) SameTerm t rest v
+  term_moves d mark (word name at ts) rest v h =
+      let a = args_moves d ts rest h.1 h.3 in
+      record {
+        it = word name h.0 a.it;
+        after = a.after;
+        whole = h.2 ∙ ap (λ (w : List Marked). (Word name h.0, name_mark name mark) ∷ w) a.whole;
+        same = (refl, a.same);
+        moved = a.moved;
+      }
+
+  args_moves : (d : ℕ) (ts : RawTrees) (rest v : List Marked) → Moved (args_text d ts rest) v → Moves (args_text d) SameTerms ts rest v
+  args_moves d none rest v h = record { it = none; after = v; whole = refl; same = tt; moved = h }
+  args_moves d (some t ts) rest v h =
+      let a = term_moves (d + 1) (term_mark (d + 1) 0) t (more_text (d + 1) 1 ts (sign RightPar ∷ rest)) h.0 h.2 in
+      let b = more_moves (d + 1) 1 ts (sign RightPar ∷ rest) a.after a.moved in
+      let c = b.moved in
+      record {
+        it = some a.it b.it;
+        after = c.0;
+        whole = h.1 ∙ ap (λ (w : List Marked). sign LeftPar ∷ w) (a.whole ∙ ap (term_text (d + 1) (term_mark (d + 1) 0) a.it) (b.whole ∙ ap (more_text (d + 1) 1 b.it) c.1));
+        same = (a.same, b.same);
+        moved = c.2;
+      }
+
+  more_moves : (d n : ℕ) (ts : RawTrees) (rest v : List Marked) → Moved (more_text d n ts rest) v → Moves (more_text d n) SameTerms ts rest v
+  more_moves d n none rest v h = record { it = none; after = v; whole = refl; same = tt; moved = h }
+  more_moves d n (some t ts) rest v h =
+      let a = term_moves d (term_mark d n) t (more_text d (n + 1) ts rest) h.0 h.2 in
+      let b = more_moves d (n + 1) ts rest a.after a.moved in
+      record {
+        it = some a.it b.it;
+        after = b.after;
+        whole = h.1 ∙ ap (λ (w : List Marked). sign Comma ∷ w) (a.whole ∙ ap (term_text d (term_mark d n) a.it) b.whole);
+        same = (a.same, b.same);
+        moved = b.moved;
+      }
+
+-- equations
+abbrev equation_text : Option LimitKind → RawEq → List Marked → List Marked
+equation_text mark e rest = sides_text mark e.left e.right rest
+
+equation_moves : (mark : Option LimitKind) (e : RawEq) (rest v : List Marked) → Moved (equation_text mark e rest) v → Moves (equation_text mark) SameEquation e rest v
+equation_moves mark e rest v h =
+    let a = term_moves 0 mark e.left (sign Equals ∷ term_text 0 None e.right rest) v h in
+    let equals = a.moved in
+    let b = term_moves 0 None e.right rest equals.0 equals.2 in
+    record {
+      it = record { left = a.it; right = b.it };
+      after = b.after;
+      whole = a.whole ∙ ap (term_text 0 mark a.it) (equals.1 ∙ ap (λ (w : List Marked). sign Equals ∷ w) b.whole);
+      same = (a.same, b.same);
+      moved = b.moved;
+    }
+
+-- rules
+guards_moves : (n : ℕ) (gs : List RawGuard) (rest v : List Marked) → Moved (guards_text n gs rest) v → Moves (guards_text n) (Pointwise SameGuard) gs rest v
+guards_moves n [] rest v h = record { it = []; after = v; whole = refl; same = tt; moved = h }
+guards_moves n (g ∷ gs) rest v h =
+    let a = term_moves 0 None g.test (guards_text (n + 1) gs rest) h.0 h.2 in
+    let b = guards_moves (n + 1) gs rest a.after a.moved in
+    record {
+      it = record { test = a.it; wanted = g.wanted } ∷ b.it;
+      after = b.after;
+      whole = h.1 ∙ ap (λ (w : List Marked). (Sign (guard_key g.wanted), guard_mark n) ∷ w) (a.whole ∙ ap (term_text 0 None a.it) b.whole);
+      same = ((a.same, refl), b.same);
+      moved = b.moved;
+    }
+
+rules_moves : (n : ℕ) (rs : List RawRule) (rest v : List Marked) → Moved (rules_text n rs rest) v → Moves (rules_text n) (Pointwise SameRule) rs rest v
+rules_moves n [] rest v h = record { it = []; after = v; whole = refl; same = tt; moved = h }
+rules_moves n (r ∷ rs) rest v h =
+    let a = equation_moves None (record { left = r.left; right = r.right }) (guards_text 0 r.guards (rules_text (n + 1) rs rest)) h.0 h.2 in
+    let b = guards_moves 0 r.guards (rules_text (n + 1) rs rest) a.after a.moved in
+    let c = rules_moves (n + 1) rs rest b.after b.moved in
+    record {
+      it = record { left = a.it.left; right = a.it.right; guards = b.it } ∷ c.it;
+      after = c.after;
+      whole = h.1 ∙ ap (λ (w : List Marked). (Sign Rule, rule_mark n) ∷ w) (a.whole ∙ ap (equation_text None a.it) (b.whole ∙ ap (guards_text 0 b.it) c.whole));
+      same = ((a.same.0, a.same.1, b.same), c.same);
+      moved = c.moved;
+    }
+
+-- clauses
+commas_moves : (n : ℕ) (es : List RawEq) (rest v : List Marked) → Moved (commas_text n es rest) v → Moves (commas_text n) (Pointwise SameEquation) es rest v
+commas_moves n [] rest v h = record { it = []; after = v; whole = refl; same = tt; moved = h }
+commas_moves n (e ∷ es) rest v h =
+    let a = equation_moves (premise_mark n) e (commas_text (n + 1) es rest) h.0 h.2 in
+    let b = commas_moves (n + 1) es rest a.after a.moved in
+    record {
+      it = a.it ∷ b.it;
+      after = b.after;
+      whole = h.1 ∙ ap (λ (w : List Marked). sign Comma ∷ w) (a.whole ∙ ap (equation_text (premise_mark n) a.it) b.whole);
+      same = (a.same, b.same);
+      moved = b.moved;
+    }
+
+bars_moves : (n : ℕ) (es : List RawEq) (rest v : List Marked) → Moved (bars_text n es rest) v → Moves (bars_text n) (Pointwise SameEquation) es rest v
+bars_moves n [] rest v h = record { it = []; after = v; whole = refl; same = tt; moved = h }
+bars_moves n (e ∷ es) rest v h =
+    let a = equation_moves (conclusion_mark n) e (bars_text (n + 1) es rest) h.0 h.2 in
+    let b = bars_moves (n + 1) es rest a.after a.moved in
+    record {
+      it = a.it ∷ b.it;
+      after = b.after;
+      whole = h.1 ∙ ap (λ (w : List Marked). sign Bar ∷ w) (a.whole ∙ ap (equation_text (conclusion_mark n) a.it) b.whole);
+      same = (a.same, b.same);
+      moved = b.moved;
+    }
+
+-- The tokens begin with a text of a clause that is the same apart from places.
+record ClauseMoves (ps cs : List RawEq) (rest v : List Marked) : Type 0 where
+  premises : List RawEq
+  conclusions : List RawEq
+  after : List Marked
+  whole : v ≡ clause_text premises conclusions after
+  same_premises : Pointwise SameEquation premises ps
+  same_conclusions : Pointwise SameEquation conclusions cs
+  moved : Moved rest after
+
+clause_moves : (ps cs : List RawEq) (rest v : List Marked) → Moved (clause_text ps cs rest) v → ClauseMoves ps cs rest v
+clause_moves [] [] rest v h = record { premises = []; conclusions = []; after = h.0; whole = h.1; same_premises = tt; same_conclusions = tt; moved = h.2 }
+clause_moves [] (c ∷ cs) rest v h =
+    let a = equation_moves (conclusion_mark 0) c (bars_text 1 cs rest) v h in
+    let b = bars_moves 1 cs rest a.after a.moved in
+    record {
+      premises = [];
+      conclusions = a.it ∷ b.it;
+      after = b.after;
+      whole = a.whole ∙ ap (equation_text (conclusion_mark 0) a.it) b.whole;
+      same_premises = tt;
+      same_conclusions = (a.same, b.same);
+      moved = b.moved;
+    }
+clause_moves (p ∷ ps) [] rest v h =
+    let a = equation_moves (premise_mark 0) p (commas_text 1 ps (sign Arrow ∷ rest)) v h in
+    let b = commas_moves 1 ps (sign Arrow ∷ rest) a.after a.moved in
+    let arrow = b.moved in
+    record {
+      premises = a.it ∷ b.it;
+      conclusions = [];
+      after = arrow.0;
+      whole = a.whole ∙ ap (equation_text (premise_mark 0) a.it) (b.whole ∙ ap (commas_text 1 b.it) arrow.1);
+      same_premises = (a.same, b.same);
+      same_conclusions = tt;
+      moved = arrow.2;
+    }
+clause_moves (p ∷ ps) (c ∷ cs) rest v h =
+    let a = equation_moves (premise_mark 0) p (commas_text 1 ps (sign Arrow ∷ sides_text (conclusion_mark 0) c.left c.right (bars_text 1 cs rest))) v h in
+    let b = commas_moves 1 ps (sign Arrow ∷ sides_text (conclusion_mark 0) c.left c.right (bars_text 1 cs rest)) a.after a.moved in
+    let arrow = b.moved in
+    let e = equation_moves (conclusion_mark 0) c (bars_text 1 cs rest) arrow.0 arrow.2 in
+    let f = bars_moves 1 cs rest e.after e.moved in
+    let behind : arrow.0 ≡ equation_text (conclusion_mark 0) e.it (bars_text 1 f.it f.after) = e.whole ∙ ap (equation_text (conclusion_mark 0) e.it) f.whole in
+    record {
+      premises = a.it ∷ b.it;
+      conclusions = e.it ∷ f.it;
+      after = f.after;
+      whole = a.whole ∙ ap (equation_text (premise_mark 0) a.it) (b.whole ∙ ap (commas_text 1 b.it) (arrow.1 ∙ ap (λ (w : List Marked). sign Arrow ∷ w) behind));
+      same_premises = (a.same, b.same);
+      same_conclusions = (e.same, f.same);
+      moved = f.moved;
+    }
+
+-- goals
+bind_moves : (mark : Option LimitKind) (b : RawBind) (rest v : List Marked) → Moved (bind_text mark b rest) v → Moves (bind_text mark) SameBind b rest v
+bind_moves mark b rest v h =
+    let a = name_moves mark b.name (sign Colon ∷ name_text None b.sort rest) v h in
+    let colon = a.moved in
+    let c = name_moves None b.sort rest colon.0 colon.2 in
+    record {
+      it = record { name = a.it; sort = c.it };
+      after = c.after;
+      whole = a.whole ∙ ap (name_text mark a.it) (colon.1 ∙ ap (λ (w : List Marked). sign Colon ∷ w) c.whole);
+      same = (a.same, c.same);
+      moved = c.moved;
+    }
+
+more_binds_moves : (n : ℕ) (bs : List RawBind) (rest v : List Marked) → Moved (more_binds_text n bs rest) v → Moves (more_binds_text n) (Pointwise SameBind) bs rest v
+more_binds_moves n [] rest v h = record { it = []; after = v; whole = refl; same = tt; moved = h }
+more_binds_moves n (b ∷ bs) rest v h =
+    let a = bind_moves (variable_mark n) b (more_binds_text (n + 1) bs rest) h.0 h.2 in
+    let c = more_binds_moves (n + 1) bs rest a.after a.moved in
+    record {
+      it = a.it ∷ c.it;
+      after = c.after;
+      whole = h.1 ∙ ap (λ (w : List Marked). sign Comma ∷ w) (a.whole ∙ ap (bind_text (variable_mark n) a.it) c.whole);
+      same = (a.same, c.same);
+      moved = c.moved;
+    }
+
+binds_moves : (bs : List RawBind) (rest v : List Marked) → Moved (binds_text bs rest) v → Moves binds_text (Pointwise SameBind) bs rest v
+binds_moves [] rest v h = record { it = []; after = v; whole = refl; same = tt; moved = h }
+binds_moves (b ∷ bs) rest v h =
+    let a = bind_moves (variable_mark 0) b (more_binds_text 1 bs (sign RightPar ∷ rest)) h.0 h.2 in
+    let c = more_binds_moves 1 bs (sign RightPar ∷ rest) a.after a.moved in
+    let close = c.moved in
+    record {
+      it = a.it ∷ c.it;
+      after = close.0;
+      whole = h.1 ∙ ap (λ (w : List Marked). sign LeftPar ∷ w) (a.whole ∙ ap (bind_text (variable_mark 0) a.it) (c.whole ∙ ap (more_binds_text 1 c.it) close.1));
+      same = (a.same, c.same);
+      moved = close.2;
+    }
+
+goals_moves : (n : ℕ) (gs : List RawGoal) (rest v : List Marked) → Moved (goals_text n gs rest) v → Moves (goals_text n) (Pointwise SameGoal) gs rest v
+goals_moves n [] rest v h = record { it = []; after = v; whole = refl; same = tt; moved = h }
+goals_moves n (g ∷ gs) rest v h =
+    let later : List Marked = goals_text (n + 1) gs rest in
+    let clause : List Marked = clause_text g.premises g.conclusions later in
+    let a = name_moves None g.head (binds_text g.binds (sign Colon ∷ clause)) h.0 h.2 in
+    let b = binds_moves g.binds (sign Colon ∷ clause) a.after a.moved in
+    let colon = b.moved in
+    let c = clause_moves g.premises g.conclusions later colon.0 colon.2 in
+    let d = goals_moves (n + 1) gs rest c.after c.moved in
+    let behind : colon.0 ≡ clause_text c.premises c.conclusions (goals_text (n + 1) d.it d.after) = c.whole ∙ ap (clause_text c.premises c.conclusions) d.whole in
+    record {
+      it = record { head = a.it; binds = b.it; premises = c.premises; conclusions = c.conclusions } ∷ d.it;
+      after = d.after;
+      whole = h.1 ∙ ap (λ (w : List Marked). (Sign Goal, goal_mark n) ∷ w) (a.whole ∙ ap (name_text None a.it) (b.whole ∙ ap (binds_text b.it) (colon.1 ∙ ap (λ (w : List Marked). sign Colon ∷ w) behind)));
+      same = (record { head = a.same; binds = b.same; premises = c.same_premises; conclusions = c.same_conclusions }, d.same);
+      moved = d.moved;
+    }
+
+-- tokens of a raw specification with names at other places are those of one that is the same apart from places
+pub spec_moves : (raw : RawSpec) (w v : List Marked) → IsPlainText raw w → Moved w v → (again : RawSpec) × IsPlainText again v × IsSameButPlaces again raw
+spec_moves raw w v p h =
+    let m : Moved (sign Spike ∷ sign One ∷ p.sorts) v = subst (λ (x : List Marked). Moved x v) p.whole h in
+    let one = m.2 in
+    let goals : List Marked = goals_text 0 raw.goals [] in
+    let rules : List Marked = rules_text 0 raw.rules goals in
+    let s = sorts_move 0 0 raw.sorts p.sorts (funs_text 0 raw.funs rules) one.0 p.are one.2 in
+    let f = funs_moves 0 raw.funs rules s.after s.moved in
+    let r = rules_moves 0 raw.rules goals f.after f.moved in
+    let g = goals_moves 0 raw.goals [] r.after r.moved in
+    let rest : s.after ≡ funs_text 0 f.it (rules_text 0 r.it (goals_text 0 g.it [])) = f.whole ∙ ap (funs_text 0 f.it) (r.whole ∙ ap (rules_text 0 r.it) (g.whole ∙ ap (goals_text 0 g.it) g.moved)) in (
+      record { sorts = s.it; funs = f.it; rules = r.it; goals = g.it },
+      record {
+        sorts = one.0;
+        whole = m.1 ∙ ap (λ (x : List Marked). sign Spike ∷ x) one.1;
+        are = subst (λ (x : List Marked). AreSorts 0 0 s.it one.0 x) rest s.whole;
+      },
+      record { sorts = s.same; funs = f.same; rules = r.same; goals = g.same },
+    )

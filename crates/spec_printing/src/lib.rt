@@ -1,0 +1,15 @@
+//! The printed form of a raw specification.
+//!
+//! It stands on spec_grammar, whose raw specifications it prints, and on spec_text. The folder
+//! `specs/` says what the printed form is and when two raw specifications are the same apart from
+//! places. The layer above uses the contract of [`print`]: it is exact against the printed form,
+//! and what is printed of a specification that a text derives derives the same apart from places.
+#![tactic(auto)]
+
+mod laws;
+mod printing;
+#[cfg(test)]
+mod tests;
+
+pub use laws::printed_examples;
+pub use printing::print;
