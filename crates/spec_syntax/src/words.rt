@@ -12,7 +12,10 @@ use spec_text::{Token, TokenKind};
 use std::alloc::Global;
 use term_core::Name;
 
-/// The bytes of a text, and what names are taken from.
+/// The most bytes of a name.
+const NAME_BYTES: usize = 64;
+
+/// The bytes of a text, and the memory that what is read of it takes.
 #[derive(Clone, Copy)]
 pub(crate) struct Source<'a> {
     pub(crate) alloc: Global,
@@ -166,6 +169,3 @@ impl<'a> Source<'a> {
         Ok((RawName { name, at }, rest))
     }
 }
-
-/// The most bytes of a name.
-const NAME_BYTES: usize = 64;
