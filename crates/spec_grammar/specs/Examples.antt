@@ -36,9 +36,9 @@ pub record WorkedExamples : Type 0 where
   pub with_arrow : Derives IsSpecText (goal_items (Sign Arrow ∷ Word (codes "x") 20 ∷ Sign Equals ∷ Word (codes "y") 24 ∷ [])) (one_goal (equation 20 24 ∷ []))
   pub nothing : Derives IsSpecText (goal_items (Sign Arrow ∷ [])) (one_goal [])
   pub arguments : Derives IsTermText pair_items pair_term
-  -- no term begins with a comma, and none has ended behind its open parenthesis
+  -- no term begins with a comma
   pub comma : IsFault IsTermText [] (Sign Comma ∷ pair_items) None
-  -- the eighth argument is the last, the fifth conclusion is one too many, and a long name is told first
+  -- the eighth argument is the last, a word below 64 others is one too deep, the fifth conclusion is one too many
   pub eighth : term_mark 1 7 ≡ None
   pub ninth : term_mark 1 8 ≡ Some limit.Arity
   pub deep : term_mark 64 0 ≡ Some limit.Nesting

@@ -1,7 +1,7 @@
 ghost use Rattle.spec_grammar.specs.Examples.{WorkedExamples};
 ghost use Rattle.spec_grammar.specs.Laws.{OneReading};
 
-/// A text derives one raw specification or has one fault, and not both.
+/// A text derives one raw specification at most and has one fault at most, and not both.
 pub fn one_reading()
     ensures { OneReading }
 {}

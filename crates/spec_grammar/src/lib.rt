@@ -4,8 +4,8 @@
 //! declarations in their order, with each name as it stands there and its place. The folder
 //! `specs/` has the grammar with its limits as relations on whole token lists, what a fault of a
 //! text is, and a stack of grammar symbols that a reader goes along. The layers above use what a
-//! text derives, that it derives one raw specification at most, and that each text that derives
-//! none has one fault.
+//! text derives, that it derives one raw specification at most, and that it has one fault at most,
+//! and none where it derives one.
 #![tactic(auto)]
 
 mod keys;

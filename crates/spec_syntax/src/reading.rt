@@ -12,10 +12,11 @@ ghost use Rattle.spec_syntax.specs.declared.fault.SyntaxFault.{SyntaxFault};
 
 use crate::fault::SyntaxFault;
 use crate::stop::Stop;
-use crate::words::{Source, front};
+use crate::words::Source;
 use spec_grammar::{Key, RawSpec, RawTerm};
 use spec_text::{Token, scan};
 use std::alloc::Global;
+use term_core::front;
 
 /// The specification that the bytes of a text derive, or their first fault: a fault of the tokens
 /// before all others, else the first token with which no text goes on or that passes a limit. No

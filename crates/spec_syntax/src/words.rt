@@ -10,7 +10,7 @@ use crate::stop::Stop;
 use spec_grammar::{Key, LimitKind, RawName};
 use spec_text::{Token, TokenKind};
 use std::alloc::Global;
-use term_core::Name;
+use term_core::{Name, front};
 
 /// The most bytes of a name.
 const NAME_BYTES: usize = 64;
@@ -77,16 +77,6 @@ fn key_of(kind: TokenKind, text: &[u8]) -> Option<Key>
     }
 }
 
-/// The first token and the rest.
-pub(crate) fn front(tokens: &[Token]) -> Option<(Token, &[Token])>
-    ensures { MatchOption result (tokens.now ≡ []) (λ p. tokens.now ≡ p.0 ∷ p.1.now) }
-{
-    match tokens {
-        [] => None,
-        [token, rest @ ..] => Some((*token, rest)),
-    }
-}
-
 impl<'a> Source<'a> {
     /// A token's slice of the bytes.
     fn text(&self, token: Token) -> &'a [u8]
@@ -108,7 +98,7 @@ impl<'a> Source<'a> {
         ensures { MatchOption result (Lacks key (items_of self.now.bytes.now tokens.now)) (λ rest. items_of self.now.bytes.now tokens.now ≡ Sign key ∷ items_of self.now.bytes.now rest.now) }
     {
         let (token, rest) = front(tokens)?;
-        let found = key_of(token.kind, self.text(token))?;
+        let found = key_of(token.kind, self.text(*token))?;
         if found == key { Some(rest) } else { None }
     }
 
@@ -117,7 +107,7 @@ impl<'a> Source<'a> {
         ensures { MatchBool result (BeginsWord (items_of self.now.bytes.now tokens.now)) (LacksWord (items_of self.now.bytes.now tokens.now)) }
     {
         match front(tokens) {
-            Some((token, _)) => key_of(token.kind, self.text(token)).is_none(),
+            Some((token, _)) => key_of(token.kind, self.text(*token)).is_none(),
             None => false,
         }
     }
@@ -156,7 +146,7 @@ impl<'a> Source<'a> {
         let Some((token, rest)) = front(tokens) else {
             return Err(self.fault(tokens, None));
         };
-        let text = self.text(token);
+        let text = self.text(*token);
         if key_of(token.kind, text).is_some() {
             return Err(self.fault(tokens, None));
         }

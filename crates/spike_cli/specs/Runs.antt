@@ -28,11 +28,11 @@ file_limit = 1048576
 abbrev pub usage_line : List ℕ
 usage_line = codes "usage: spike check|eval|prove|refute|replay|load\n"
 
--- the text derives a raw specification over naturals that stands for this one
+-- the text derives a plain raw specification, which stands for this one
 abbrev pub TextStandsFor : List ℕ → Spec → Type 0
 TextStandsFor bytes spec = (raw : RawSpec) × TextDerives IsSpecText bytes raw × IsPlain raw × StandsFor raw spec
 
--- the text derives a raw specification that isn't over naturals alone, or stands for none
+-- the text derives a raw specification that isn't plain or stands for none
 abbrev pub IsNotYetTaken : List ℕ → Type 0
 IsNotYetTaken bytes = (raw : RawSpec) × TextDerives IsSpecText bytes raw × (IsPlain raw → (spec : Spec) → StandsFor raw spec → ⊥)
 

@@ -142,8 +142,8 @@ fn calls_end_with_the_status_of_their_cause(rt: HostRuntime) -> Result<(), Fail>
     Ok(())
 }
 
-/// Texts with faults, and those that aren't over naturals alone or stand for no specification. The
-/// file of naturals has 125 bytes, and the word of depth 65 stands behind 9 and 64 of `succ(`.
+/// Texts with faults, and those that aren't plain or stand for no specification. The file of naturals
+/// has 125 bytes, and the word of depth 65 stands behind 9 and 64 of `succ(`.
 #[test]
 fn texts_are_refused(rt: HostRuntime) -> Result<(), Fail> {
     let alloc = rt.alloc();
