@@ -1,110 +1,203 @@
 -- Calls with values, rule by rule.
-use Rattle.std.proofs.Common.{◌≡◌, ℕ, zero, suc, ◌+◌, ◌-◌, ◌<◌, ◌≤◌, List, [], ◌∷◌, Bool, true, false, cond, Some, None, ◌⊎◌, inl, inr, refl, ap, sym, ◌∙◌, subst, arith, length, get_or}
-use Rattle.std.specs.Prelude.{slice_get}
+use Rattle.std.proofs.Common.{◌≡◌, ℕ, zero, suc, ◌+◌, ◌-◌, ◌<◌, ◌≤◌, List, [], ◌∷◌, Bool, true, false, cond, Some, None, ◌⊎◌, inl, inr, refl, ap, sym, ◌∙◌, subst, arith, length, get_or, take, add-one}
+use Rattle.std.specs.Prelude.{slice_get, option_map}
 use Rattle.std.specs.List.{AllByRecursion}
 use Rattle.std.proofs.lemmas.Bool.Decides.{nat_tests}
+use Rattle.std.proofs.lemmas.List.{take_all}
 use Rattle.std.proofs.lemmas.Option.{slice_get_within, slice_get-get_or}
 use Rattle.term_core.specs.Tree.{Tree, Trees, var, app, instance, instances}
 use Rattle.term_core.specs.declared.ids.SortId.{SortId}
+use Rattle.spec_core.specs.declared.records.SymInfo.{SymInfo}
 use Rattle.spec_core.specs.declared.records.Rule.{Rule}
 use Rattle.spec_core.specs.declared.records.Guard.{Guard}
 use Rattle.spec_core.specs.declared.records.Spec.{Spec}
 use Rattle.spec_core.specs.Sig.{Sig, IsConstructor}
 use Rattle.spec_core.specs.Sorts.{Sorted, IsBuilt, AreBuilt}
-use Rattle.spec_core.specs.Gives.{Gives, GivesGuards, boolean, more_guards}
-use Rattle.spec_core.specs.WellSorted.{IsWellSorted, IsLeft, Numbered, sorts_of}
+use Rattle.spec_core.specs.Gives.{Gives, GivesGuards, boolean, no_guards, more_guards}
+use Rattle.spec_core.specs.WellSorted.{IsWellSorted, RuleIsSorted, IsLeft, Numbered, sorts_of}
 use Rattle.spec_core.specs.Overlap.{NoOverlap}
 use Rattle.spec_core.specs.Groups.{GroupsAreWhole, Whole, alone, split}
 use Rattle.spec_core.specs.Declarations.{bool_sort}
 use Rattle.spec_core.proofs.Keeps.{right_sorted}
 use Rattle.spec_core.proofs.Values.{env_built, call_costs}
-use Rattle.spec_core.proofs.Guarded.{call_by, call_makes, guards_same, both_match, call_only}
+use Rattle.spec_core.proofs.Guarded.{call_by, call_makes, both_match, call_only}
 use Rattle.spec_core.proofs.Groups.{In, in_rests, begins_with, bool_cases}
-use Rattle.spec_core.proofs.Determined.{determined, boolean_inj, in_its_group, sorted_by_left}
+use Rattle.spec_core.proofs.Determined.{determined, boolean_inj, in_its_group, sorted_by_left, left_symbol}
 use Rattle.ground_eval.specs.declared.answers.Eval.TheVariants.{Value, Spent}
-use Rattle.ground_eval.specs.declared.answers.Guarded.TheVariants.{Holds, Fails, Spent as GuardSpent}
 use Rattle.ground_eval.specs.Applications.{IsApplication, head_of, has_head}
 use Rattle.ground_eval.specs.Evals.{IsEval}
 use Rattle.ground_eval.specs.Index.{numbers_of}
-use Rattle.ground_eval.specs.Guarded.{AreStuck, AreGuards}
-use Rattle.ground_eval.specs.Tries.{DoesNotApply}
+use Rattle.ground_eval.specs.Entries.{HasSort}
+use Rattle.ground_eval.specs.Matches.{IsMatch}
+use Rattle.ground_eval.specs.Choices.{IsMatched, HaveHeld, GoesOn, NoneFollows, Follows, Applies}
+use Rattle.ground_eval.proofs.Guards.{held_more}
 use Rattle.ground_eval.proofs.Lists.{item_at}
 
 pub left_is_application : (sig : Sig) (left : Tree) → IsLeft sig left → IsApplication left
 left_is_application sig (var n) l = absurd l
 left_is_application sig (app f ts) l = tt
 
-head_is_function : (sig : Sig) (left : Tree) → IsLeft sig left → ¬ (IsConstructor sig (head_of left))
-head_is_function sig (var n) l = absurd l
-head_is_function sig (app f ts) l = l.0
+known_within : {X Y : Type 0} (v : X → Y) (xs : List X) (i : ℕ) (y : Y) → option_map v (slice_get xs i) ≡ Some y → i < length xs
+known_within v [] i y e = absurd (let q : None ≡ Some y = e in cc)
+known_within v (x ∷ xs) zero y e = omega arith
+known_within v (x ∷ xs) (suc i) y e = omega (arith, known_within v xs i y e)
 
-guards_all : (spec : Spec) (ctx : List SortId) (xs : List Tree) (gs : List Guard) → ((t : Tree) (s : SortId) → Sorted spec.sig ctx t s → Sorted spec.sig [] (instance xs t) s) → AllByRecursion (λ (g : Guard). Sorted spec.sig ctx g.test bool_sort) gs → AllByRecursion (λ (g : Guard). Sorted spec.sig [] (instance xs g.test) bool_sort) gs
-guards_all spec ctx xs [] keep h = tt
-guards_all spec ctx xs (g ∷ gs) keep h = (keep g.test bool_sort h.0, guards_all spec ctx xs gs keep h.1)
+-- the function of a rule has an entry in the table
+pub head_known : (spec : Spec) (rule : Rule) → RuleIsSorted spec.sig rule → head_of rule.left < length spec.sig.table
+head_known spec rule h = left_known spec.sig (sorts_of rule.vars) rule.left h.sides.0 h.left h.sides.1
+  where
+    left_known : (sig : Sig) (ctx : List SortId) (left : Tree) (s : SortId) → IsLeft sig left → Sorted sig ctx left s → head_of left < length sig.table
+    left_known sig ctx (var n) s l p = absurd l
+    left_known sig ctx (app f ts) s l p = known_within (λ (e : List ℕ × SymInfo). e.1) sig.table f p.0 p.1
 
+module _ (spec : Spec) where
+  -- a test has an answer, within a cost, with which the guards go on
+  pub record Asks (xs : List Tree) (k : ℕ) (test : Tree) (gs hs : List Guard) (n m : ℕ) : Type 0 where
+    pub wanted : Bool
+    pub cost : ℕ
+    pub gives : Gives spec (instance xs test) (boolean wanted) cost
+    pub within : n + cost ≤ m
+    pub on : GoesOn k (boolean wanted) gs hs
+
+-- where the first guards of one member of a whole group hold, and all of another, this asks the same next test
 module _ (spec : Spec) (fine : IsWellSorted spec) (apart : NoOverlap spec) (whole : GroupsAreWhole spec) where
-  -- where the guards of one member of a whole group hold within the budget, no other member is stuck
-  stuck_member : {ms : List (ℕ × List Guard)} → Whole ms → (j k : ℕ) (gs hs : List Guard) → In (j, gs) ms → In (k, hs) ms → (ctx : List SortId) → AllByRecursion (λ (g : Guard). Sorted spec.sig ctx g.test bool_sort) gs → (xs ys : List Tree) → ((t : Tree) (s : SortId) → Sorted spec.sig ctx t s → Sorted spec.sig [] (instance xs t) s) → ((t : Tree) (s : SortId) → Sorted spec.sig ctx t s → instance xs t ≡ instance ys t) → (b n : ℕ) → AreStuck spec xs gs b → GivesGuards spec ys hs n → n ≤ b → ⊥
-  stuck_member w j k [] hs p q ctx fs xs ys keep same b n st holds l = st
-  stuck_member (alone {k = m}) j k (g ∷ gs) hs (inl p) q ctx fs xs ys keep same b n st holds l = absurd (let e : (g ∷ gs) ≡ [] = ap (λ (m : ℕ × List Guard). m.1) p in cc)
-  stuck_member (alone {k = m}) j k (g ∷ gs) hs (inr p) q ctx fs xs ys keep same b n st holds l = absurd p
-  stuck_member (split {ms} test begins at_true at_false) j k (g ∷ gs) [] p q ctx fs xs ys keep same b n st holds l = absurd (begins_with ms test begins k [] q)
-  stuck_member (split {ms} test begins at_true at_false) j k (g ∷ gs) (h ∷ hs) p q ctx fs xs ys keep same b n (inl spent) (more_guards {n = i} {k = m} one more e) l =
-      let tests : g.test ≡ h.test = begins_with ms test begins j (g ∷ gs) p ∙ sym (begins_with ms test begins k (h ∷ hs) q) in
-      let back : instance ys h.test ≡ instance xs g.test = ap (λ t. instance ys t) (sym tests) ∙ sym (same g.test bool_sort fs.0) in
-      spent (boolean h.wanted) i (subst (λ t. Gives spec t (boolean h.wanted) i) back one) (omega (arith, e))
-  stuck_member (split {ms} test begins at_true at_false) j k (g ∷ gs) (h ∷ hs) p q ctx fs xs ys keep same b n (inr st) (more_guards {n = i} {k = m} one more e) l =
-      let tests : g.test ≡ h.test = begins_with ms test begins j (g ∷ gs) p ∙ sym (begins_with ms test begins k (h ∷ hs) q) in
-      let back : instance ys h.test ≡ instance xs g.test = ap (λ t. instance ys t) (sym tests) ∙ sym (same g.test bool_sort fs.0) in
-      let d = determined spec fine apart whole st.1 bool_sort (keep g.test bool_sort fs.0) (subst (λ t. Gives spec t (boolean h.wanted) i) back one) in
-      let w : g.wanted ≡ h.wanted = boolean_inj _ _ d.0 in
-      let c : m ≤ b - st.0 = omega (arith, e, d.1) in
-      elim (bool_cases g.wanted) [
-        | inl t ↦ stuck_member at_true j k gs hs (in_rests true ms j g gs p t) (in_rests true ms k h hs q (t ∙ w)) ctx fs.1 xs ys keep same (b - st.0) m st.2 more c
-        | inr f ↦ stuck_member at_false j k gs hs (in_rests false ms j g gs p f) (in_rests false ms k h hs q (f ∙ w)) ctx fs.1 xs ys keep same (b - st.0) m st.2 more c
-      ]
+  member_asks : {ms : List (ℕ × List Guard)} → Whole ms → (i j : ℕ) (gs hs : List Guard) → In (i, gs) ms → In (j, hs) ms → (ctx : List SortId) → AllByRecursion (λ (g : Guard). Sorted spec.sig ctx g.test bool_sort) gs → (xs ys : List Tree) → ((t : Tree) (s : SortId) → Sorted spec.sig ctx t s → Sorted spec.sig [] (instance xs t) s) → ((t : Tree) (s : SortId) → Sorted spec.sig ctx t s → instance xs t ≡ instance ys t) → (k : ℕ) (g : Guard) → slice_get gs k ≡ Some g → (n m : ℕ) → GivesGuards spec xs (take k gs) n → GivesGuards spec ys hs m → Asks spec xs k g.test gs hs n m
+  member_asks w i j [] hs p q ctx fs xs ys keep same k g at n m held holds = absurd (let e : None ≡ Some g = at in cc)
+  member_asks (alone {k = l}) i j (x ∷ gs) hs (inl p) q ctx fs xs ys keep same k g at n m held holds = absurd (let e : (x ∷ gs) ≡ [] = ap (λ (y : ℕ × List Guard). y.1) p in cc)
+  member_asks (alone {k = l}) i j (x ∷ gs) hs (inr p) q ctx fs xs ys keep same k g at n m held holds = absurd p
+  member_asks (split {ms} test begins at_true at_false) i j (x ∷ gs) [] p q ctx fs xs ys keep same k g at n m held holds = absurd (begins_with ms test begins j [] q)
+  member_asks (split {ms} test begins at_true at_false) i j (x ∷ gs) (h ∷ hs) p q ctx fs xs ys keep same zero g at n m no_guards (more_guards {n = c} one more e) =
+      let tests : x.test ≡ h.test = begins_with ms test begins i (x ∷ gs) p ∙ sym (begins_with ms test begins j (h ∷ hs) q) in
+      let here : Some x ≡ Some g = at in
+      let is : x ≡ g = cc in
+      let back : instance ys h.test ≡ instance xs g.test = ap (λ t. instance ys t) (sym tests) ∙ sym (same x.test bool_sort fs.0) ∙ ap (λ (y : Guard). instance xs y.test) is in
+      record {
+        wanted = h.wanted;
+        cost = c;
+        gives = subst (λ t. Gives spec t (boolean h.wanted) c) back one;
+        within = omega (arith, e);
+        on = (tests, refl);
+      }
+  member_asks (split {ms} test begins at_true at_false) i j (x ∷ gs) (h ∷ hs) p q ctx fs xs ys keep same (suc k) g at n m (more_guards {n = a} {k = b} first others d) (more_guards {n = c} {k = l} one more e) =
+      let tests : x.test ≡ h.test = begins_with ms test begins i (x ∷ gs) p ∙ sym (begins_with ms test begins j (h ∷ hs) q) in
+      let back : instance ys h.test ≡ instance xs x.test = ap (λ t. instance ys t) (sym tests) ∙ sym (same x.test bool_sort fs.0) in
+      let o = determined spec fine apart whole first bool_sort (keep x.test bool_sort fs.0) (subst (λ t. Gives spec t (boolean h.wanted) c) back one) in
+      let w : x.wanted ≡ h.wanted = boolean_inj _ _ o.0 in
+      let r : Asks spec xs k g.test gs hs b l = elim (bool_cases x.wanted) [
+        | inl t ↦ member_asks at_true i j gs hs (in_rests true ms i x gs p t) (in_rests true ms j h hs q (t ∙ w)) ctx fs.1 xs ys keep same k g at b l others more
+        | inr f ↦ member_asks at_false i j gs hs (in_rests false ms i x gs p f) (in_rests false ms j h hs q (f ∙ w)) ctx fs.1 xs ys keep same k g at b l others more
+      ] in
+      record {
+        wanted = r.wanted;
+        cost = r.cost;
+        gives = r.gives;
+        within = omega (arith, r.within, d, e, o.1);
+        on = (tests, w, r.on);
+      }
 
--- one rule of the function f, at a call with values
-module _ (spec : Spec) (fine : IsWellSorted spec) (f : ℕ) (vs : Trees) (s : SortId) (ok : AreBuilt spec.sig vs) (sorted : Sorted spec.sig [] (app f vs) s) (k : ℕ) (rule : Rule) (at : slice_get spec.rules k ≡ Some rule) (xs : List Tree) (is : instance xs rule.left ≡ app f vs) where
-  pub right_ready : Numbered 0 rule.left (length xs) → AllByRecursion (IsBuilt spec.sig) xs × Sorted spec.sig [] (instance xs rule.right) s
-  right_ready h =
-      let here = fine.rules k rule at in
-      (env_built spec.sig rule.left f vs xs here.left h is ok, right_sorted spec.sig rule s xs here (subst (λ t. Sorted spec.sig [] t s) (sym is) sorted))
+-- what the guards need, under entries
+guards_all : (spec : Spec) (ctx : List SortId) (xs : List Tree) (gs : List Guard) → ((t : Tree) (s : SortId) → Sorted spec.sig ctx t s → Sorted spec.sig [] (instance xs t) s) → AllByRecursion (λ (g : Guard). Sorted spec.sig ctx g.test bool_sort) gs → (k : ℕ) (g : Guard) → slice_get gs k ≡ Some g → Sorted spec.sig [] (instance xs g.test) bool_sort
+guards_all spec ctx xs [] keep h k g at = absurd (let q : None ≡ Some g = at in cc)
+guards_all spec ctx xs (x ∷ gs) keep h zero g at =
+    let q : Some x ≡ Some g = at in
+    let e : x ≡ g = cc in
+    subst (λ (y : Guard). Sorted spec.sig [] (instance xs y.test) bool_sort) e (keep x.test bool_sort h.0)
+guards_all spec ctx xs (x ∷ gs) keep h (suc k) g at = guards_all spec ctx xs gs keep h.1 k g at
 
-  pub guards_ready : AllByRecursion (λ (g : Guard). Sorted spec.sig [] (instance xs g.test) bool_sort) rule.guards
-  guards_ready =
-      let here = fine.rules k rule at in
-      guards_all spec (sorts_of rule.vars) xs rule.guards (sorted_by_left spec.sig rule s xs here (rw is sorted)) here.guards
+-- a rule and the entries of its match
+module _ (spec : Spec) (fine : IsWellSorted spec) (rule : Rule) (env : List Tree) (h : IsMatched spec rule env) where
+  here : RuleIsSorted spec.sig rule
+  here = fine.rules h.number rule h.listed
 
-  stuck_call : NoOverlap spec → GroupsAreWhole spec → (b : ℕ) → ¬ (IsConstructor spec.sig f) → AreStuck spec xs rule.guards (b - 1) → {v : Tree} {n : ℕ} → Gives spec (app f vs) v n → n ≤ b → ⊥
-  stuck_call apart whole b other st gives l =
-      let c = call_by spec fine f vs other ok gives in
-      let m = both_match spec fine apart f vs s k c.number rule c.rule xs c.values ok sorted at c.listed is c.is in
-      stuck_member spec fine apart whole (whole k rule at) k c.number rule.guards c.rule.guards (in_its_group rule.left spec.rules k rule at refl) (in_its_group rule.left spec.rules c.number c.rule c.listed m.lefts) (sorts_of rule.vars) (fine.rules k rule at).guards xs c.values m.keep m.same (b - 1) c.guards st c.hold (omega (arith, c.cost))
+  left_sorted : Sorted spec.sig [] (instance env rule.left) h.sort
+  left_sorted = subst (λ t. Sorted spec.sig [] t h.sort) (sym h.is) h.sorted
 
-  pub try_fails : (b : ℕ) → AreGuards spec xs rule.guards b Fails → DoesNotApply spec rule (app f vs)
-  try_fails b fails a w ys g e h =
-      let m = both_match spec fine a f vs s k k rule rule ys xs ok sorted at at e is in
-      fails a w g (guards_same spec xs (sorts_of rule.vars) (fine.rules k rule at).guards m.same h)
+  pub matched_built : AllByRecursion (IsBuilt spec.sig) env
+  matched_built = env_built spec.sig rule.left h.function h.values env here.left h.numbered h.is h.built
 
-  pub try_stuck : (b : ℕ) → ¬ (IsConstructor spec.sig f) → AreGuards spec xs rule.guards (b - 1) GuardSpent → IsEval spec (app f vs) b Spent
-  try_stuck b other st a w v n g l = stuck_call a w b other (st a w) g l
+  pub right_has_sort : HasSort spec env rule.right
+  right_has_sort = (h.sort, right_sorted spec.sig rule h.sort env here left_sorted)
 
-  pub try_spent : (b g : ℕ) → ¬ (IsConstructor spec.sig f) → AreGuards spec xs rule.guards (b - 1) (Holds g) → IsEval spec (instance xs rule.right) (b - 1 - g) Spent → IsEval spec (app f vs) b Spent
-  try_spent b g other gs one a w v n h l =
-      let m = call_only spec fine a w f vs s k rule xs g other ok sorted at is gs.0 h in
-      one a w v m.0 m.1 (omega (arith, m.2))
+  pub test_sorted : (k : ℕ) (g : Guard) → slice_get rule.guards k ≡ Some g → Sorted spec.sig [] (instance env g.test) bool_sort
+  test_sorted k g at = guards_all spec (sorts_of rule.vars) env rule.guards (sorted_by_left spec.sig rule h.sort env here left_sorted) here.guards k g at
 
-  pub try_value : Numbered 0 rule.left (length xs) → (b g n : ℕ) (v : Tree) → 0 < b → AreGuards spec xs rule.guards (b - 1) (Holds g) → IsEval spec (instance xs rule.right) (b - 1 - g) (Value v n) → IsEval spec (app f vs) b (Value v (1 + g + n))
-  try_value h b g n v pos gs one = (call_makes spec fine f vs k rule xs ok at h is gs.0 one.0, omega (arith, gs.1, one.1))
+  other : ¬ (IsConstructor spec.sig h.function)
+  other c = left_symbol spec.sig rule.left env h.function h.values here.left h.is c
+
+  -- a rule with the same left side matches with the same entries
+  pub matched_too : (next : Rule) (k : ℕ) → slice_get spec.rules k ≡ Some next → next.left ≡ rule.left → IsMatched spec next env
+  matched_too next k at e =
+      record {
+        number = k;
+        function = h.function;
+        values = h.values;
+        sort = h.sort;
+        listed = at;
+        numbered = subst (λ t. Numbered 0 t (length env)) (sym e) h.numbered;
+        is = ap (λ t. instance env t) e ∙ h.is;
+        built = h.built;
+        sorted = h.sorted;
+      }
+
+  -- a rule by which the call has a value goes on with the answer of the next test
+  module _ (apart : NoOverlap spec) (whole : GroupsAreWhole spec) (k : ℕ) (g : Guard) (at : slice_get rule.guards k ≡ Some g) (n : ℕ) (held : GivesGuards spec env (take k rule.guards) n) where
+    next_asks : {v : Tree} {m : ℕ} → Gives spec (instance env rule.left) v m → (next : Rule) × (j : ℕ) × (slice_get spec.rules j ≡ Some next) × (next.left ≡ rule.left) × (c : ℕ) × Asks spec env k g.test rule.guards next.guards n c × (1 + c ≤ m)
+    next_asks {v} {m} gives =
+        let c = call_by spec fine h.function h.values other h.built (subst (λ t. Gives spec t v m) h.is gives) in
+        let b = both_match spec fine apart h.function h.values h.sort h.number c.number rule c.rule env c.values h.built h.sorted h.listed c.listed h.is c.is in
+        let a = member_asks spec fine apart whole (whole h.number rule h.listed) h.number c.number rule.guards c.rule.guards (in_its_group rule.left spec.rules h.number rule h.listed refl) (in_its_group rule.left spec.rules c.number c.rule c.listed b.lefts) (sorts_of rule.vars) here.guards env c.values b.keep b.same k g at n c.guards held c.hold in
+        (c.rule, c.number, c.listed, sym b.lefts, c.guards, a, omega (arith, c.cost))
+
+  -- the test with number k, which is asked after the first k held
+  module _ (k : ℕ) (g : Guard) (at : slice_get rule.guards k ≡ Some g) (n : ℕ) (held : HaveHeld spec env rule.guards k n) (b : ℕ) where
+    pub test_spent : IsEval spec (instance env g.test) (b - n) Spent → IsEval spec (instance env rule.left) b Spent
+    test_spent one a w v m gives l =
+        let q = next_asks a w k g at held.0 held.1 gives in
+        one a w (boolean q.5.wanted) q.5.cost q.5.gives (omega (arith, q.5.within, q.6, held.2))
+
+    pub none_follows : (answer : Tree) (i c : ℕ) → IsEval spec (instance env g.test) c (Value answer i) → NoneFollows spec rule k answer → IsEval spec (instance env rule.left) b Spent
+    none_follows answer i c one none a w v m gives l =
+        let q = next_asks a w k g at held.0 held.1 gives in
+        let d = determined spec fine a w one.0 bool_sort (test_sorted k g at) q.5.gives in
+        none q.0 (record { number = q.1; listed = q.2; left = q.3; goes_on = subst (λ t. GoesOn k t rule.guards q.0.guards) (sym d.0) q.5.on })
+
+    pub next_held : (answer : Tree) (i c : ℕ) → IsEval spec (instance env g.test) c (Value answer i) → (next : Rule) → Follows spec rule k answer next → HaveHeld spec env next.guards (k + 1) (n + i)
+    next_held answer i c one next f =
+        let more : GivesGuards spec env (take (suc k) next.guards) (held.0 + i) = held_more spec env k rule.guards next.guards g answer held.0 i at f.goes_on held.1 one.0 in
+        (held.0 + i, rw add-one more, omega (arith, held.2))
+
+  pub applies : (k n b : ℕ) → length rule.guards ≤ k → HaveHeld spec env rule.guards k n → n ≤ b → Applies spec rule.left env b rule n
+  applies k n b end held l =
+      record {
+        number = h.number;
+        listed = h.listed;
+        left_is = refl;
+        guards = held.0;
+        hold = subst (λ gs. GivesGuards spec env gs held.0) (take_all k rule.guards end) held.1;
+        cost = held.2;
+        within = l;
+      }
+
+  -- the rule of the group that was chosen
+  module _ (next : Rule) (b s : ℕ) (a : Applies spec rule.left env b next s) where
+    pub group_value : (n : ℕ) (v : Tree) → IsEval spec (instance env next.right) (b - s) (Value v n) → IsEval spec (instance env rule.left) b (Value v (s + n))
+    unfolding matched_too
+    group_value n v one =
+        let m = matched_too next a.number a.listed a.left_is in
+        let g : Gives spec (app h.function h.values) v (1 + a.guards + n) = call_makes spec fine h.function h.values a.number next env h.built a.listed m.numbered m.is a.hold one.0 in
+        let e : 1 + a.guards + n ≡ s + n = omega (arith, a.cost) in
+        (subst (λ t. Gives spec t v (s + n)) (sym h.is) (subst (λ i. Gives spec (app h.function h.values) v i) e g), omega (arith, one.1, a.within))
+
+    pub group_spent : IsEval spec (instance env next.right) (b - s) Spent → IsEval spec (instance env rule.left) b Spent
+    unfolding matched_too
+    group_spent one apart whole v n gives l =
+        let m = matched_too next a.number a.listed a.left_is in
+        let c = call_only spec fine apart whole h.function h.values h.sort a.number next env a.guards other h.built h.sorted a.listed m.is a.hold (subst (λ t. Gives spec t v n) h.is gives) in
+        one apart whole v c.0 c.1 (omega (arith, c.2, a.cost))
 
 -- without budget
 pub try_nothing : (spec : Spec) (fine : IsWellSorted spec) (f : ℕ) (vs : Trees) (b : ℕ) → ¬ (IsConstructor spec.sig f) → b ≡ 0 → IsEval spec (app f vs) b Spent
 try_nothing spec fine f vs b other e a w v n g l = omega (arith, call_costs spec fine f vs other g)
-
--- the function of a rule is no constructor
-pub rule_function : (spec : Spec) → IsWellSorted spec → (k : ℕ) (rule : Rule) → slice_get spec.rules k ≡ Some rule → ¬ (IsConstructor spec.sig (head_of rule.left))
-rule_function spec fine k rule at = head_is_function spec.sig rule.left (fine.rules k rule at).left
 
 -- the numbers of a function's rules
 has_head_is : (f : ℕ) (left : Tree) → has_head f left ≡ true → head_of left ≡ f
@@ -205,11 +298,23 @@ rules_more P f rules i number here is before this j k rule h a b = elim (split_a
       subst P r this
 ]
 
--- where no rule of the function applies, the call has no value
-pub none_applies : (spec : Spec) (fine : IsWellSorted spec) (f : ℕ) (vs : Trees) (b : ℕ) → ¬ (IsConstructor spec.sig f) → AreBuilt spec.sig vs → ((j k : ℕ) (rule : Rule) → slice_get (numbers_of f 0 spec.rules) j ≡ Some k → slice_get spec.rules k ≡ Some rule → DoesNotApply spec rule (app f vs)) → IsEval spec (app f vs) b Spent
-none_applies spec fine f vs b other ok h a w v n g l =
+-- where no left side matches, the call has no value
+pub none_matches : (spec : Spec) (fine : IsWellSorted spec) (f : ℕ) (vs : Trees) (b : ℕ) → ¬ (IsConstructor spec.sig f) → AreBuilt spec.sig vs → ((j k : ℕ) (rule : Rule) → slice_get (numbers_of f 0 spec.rules) j ≡ Some k → slice_get spec.rules k ≡ Some rule → IsMatch rule.left (app f vs) None) → IsEval spec (app f vs) b Spent
+none_matches spec fine f vs b other ok h a w v n g l =
     let c = call_by spec fine f vs other ok g in
     let t = match_has_head spec.sig c.rule.left f c.values vs (fine.rules c.number c.rule c.listed).left c.is in
     let i = number_listed f 0 spec.rules c.number c.rule c.listed t in
     let z : 0 + c.number ≡ c.number = omega arith in
-    h i.0 c.number c.rule (i.1 ∙ ap (λ m. Some m) z) c.listed a w c.values c.guards c.is c.hold
+    h i.0 c.number c.rule (i.1 ∙ ap (λ m. Some m) z) c.listed c.values c.is
+
+own_head : (sig : Sig) (left : Tree) → IsLeft sig left → has_head (head_of left) left ≡ true
+own_head sig (var n) l = absurd l
+own_head sig (app f ts) l = grind (arith, nat_tests)
+
+-- a rule with this left side is one of the function's
+pub number_of_same : (rs : List Rule) (k : ℕ) (rule next : Rule) (sig : Sig) → IsLeft sig rule.left → slice_get rs k ≡ Some next → next.left ≡ rule.left → (j : ℕ) × (slice_get (numbers_of (head_of rule.left) 0 rs) j ≡ Some k)
+number_of_same rs k rule next sig l at e =
+    let z : 0 + k ≡ k = omega arith in
+    let h : has_head (head_of rule.left) next.left ≡ true = ap (λ t. has_head (head_of rule.left) t) e ∙ own_head sig rule.left l in
+    let i = number_listed (head_of rule.left) 0 rs k next at h in
+    (i.0, i.1 ∙ ap (λ m. Some m) z)

@@ -1,44 +1,37 @@
 -- Guards in their order.
-use Rattle.std.proofs.Common.{◌≡◌, ℕ, ◌+◌, ◌-◌, List, [], ◌∷◌, Bool, true, false, IsTrue, ◌↔◌, refl, sym, ◌∙◌, subst, arith}
+use Rattle.std.proofs.Common.{◌≡◌, ℕ, zero, suc, ◌+◌, List, [], ◌∷◌, Bool, true, false, Some, None, IsTrue, ◌↔◌, refl, ap, sym, ◌∙◌, subst, arith, take}
+use Rattle.std.specs.Prelude.{slice_get}
 use Rattle.term_core.specs.Tree.{Tree, app, none, some, instance, trees_of}
 use Rattle.spec_core.specs.declared.records.Guard.{Guard}
 use Rattle.spec_core.specs.declared.records.Spec.{Spec}
-use Rattle.spec_core.specs.Sorts.{Sorted}
 use Rattle.spec_core.specs.Gives.{Gives, GivesGuards, boolean, no_guards, more_guards}
-use Rattle.spec_core.specs.WellSorted.{IsWellSorted}
-use Rattle.spec_core.specs.Overlap.{NoOverlap}
-use Rattle.spec_core.specs.Groups.{GroupsAreWhole}
-use Rattle.spec_core.specs.Declarations.{bool_sort}
-use Rattle.spec_core.proofs.Determined.{determined}
-use Rattle.ground_eval.specs.declared.answers.Eval.TheVariants.{Value}
-use Rattle.ground_eval.specs.declared.answers.Guarded.TheVariants.{Holds, Fails}
-use Rattle.ground_eval.specs.Evals.{IsEval}
-use Rattle.ground_eval.specs.Guarded.{TestsAreSorted, AreGuards}
+use Rattle.ground_eval.specs.Choices.{GoesOn}
 
-pub guards_none : (spec : Spec) (xs : List Tree) (gs : List Guard) (b : ℕ) → gs ≡ [] → AreGuards spec xs gs b (Holds 0)
-guards_none spec xs gs b e = (subst (λ x. GivesGuards spec xs x 0) (sym e) no_guards, omega arith)
+module _ (spec : Spec) (xs : List Tree) where
+  same_guard : (g h : Guard) (n : ℕ) → g.test ≡ h.test → g.wanted ≡ h.wanted → Gives spec (instance xs g.test) (boolean g.wanted) n → Gives spec (instance xs h.test) (boolean h.wanted) n
+  same_guard g h n t w one = subst (λ b. Gives spec (instance xs h.test) (boolean b) n) w (subst (λ u. Gives spec (instance xs u) (boolean g.wanted) n) t one)
 
-first_guard : (spec : Spec) (fine : IsWellSorted spec) (apart : NoOverlap spec) (whole : GroupsAreWhole spec) (xs : List Tree) (g : Guard) (rest : List Guard) {v : Tree} {n k : ℕ} → Sorted spec.sig [] (instance xs g.test) bool_sort → Gives spec (instance xs g.test) v n → GivesGuards spec xs (g ∷ rest) k → v ≡ boolean g.wanted
-first_guard spec fine apart whole xs g rest s one (more_guards other more e) = (determined spec fine apart whole one bool_sort s other).0
+  -- the guards that were asked before, and the one that is asked here, hold of a rule that goes on
+  pub held_more : (k : ℕ) (gs hs : List Guard) (g : Guard) (answer : Tree) (n m : ℕ) → slice_get gs k ≡ Some g → GoesOn k answer gs hs → GivesGuards spec xs (take k gs) n → Gives spec (instance xs g.test) answer m → GivesGuards spec xs (take (suc k) hs) (n + m)
+  held_more k [] hs g answer n m at on held one = absurd (let q : None ≡ Some g = at in cc)
+  held_more k (x ∷ gs) [] g answer n m at on held one = absurd on
+  held_more zero (x ∷ gs) (h ∷ hs) g answer n m at on no_guards one =
+      let q : Some x ≡ Some g = at in
+      let e : x ≡ g = cc in
+      let t : g.test ≡ h.test = ap (λ (y : Guard). y.test) (sym e) ∙ on.0 in
+      let a : Gives spec (instance xs h.test) (boolean h.wanted) m = subst (λ v. Gives spec (instance xs h.test) v m) on.1 (subst (λ u. Gives spec (instance xs u) answer m) t one) in
+      more_guards a no_guards (omega arith)
+  held_more (suc k) (x ∷ gs) (h ∷ hs) g answer n m at on (more_guards {n = i} {k = j} first more e) one =
+      more_guards (same_guard x h i on.0 on.1 first) (held_more k gs hs g answer j m at on.2 more one) (omega (arith, e))
 
-rest_guards : (spec : Spec) (xs : List Tree) (g : Guard) (rest : List Guard) {k : ℕ} → GivesGuards spec xs (g ∷ rest) k → (n : ℕ) × GivesGuards spec xs rest n
-rest_guards spec xs g rest (more_guards {k = n} one more e) = (n, more)
-
-module _ (spec : Spec) (xs : List Tree) (gs rest : List Guard) (g : Guard) (e : gs ≡ g ∷ rest) where
-  pub guards_fail : IsWellSorted spec → (v : Tree) (n b : ℕ) → TestsAreSorted spec xs gs → IsEval spec (instance xs g.test) b (Value v n) → (v ≡ boolean g.wanted → ⊥) → AreGuards spec xs gs b Fails
-  guards_fail fine v n b sorted one differs a w k holds =
-      let s : TestsAreSorted spec xs (g ∷ rest) = subst (λ x. TestsAreSorted spec xs x) e sorted in
-      differs (first_guard spec fine a w xs g rest s.0 one.0 (subst (λ x. GivesGuards spec xs x k) e holds))
-
-  pub guards_more : (v : Tree) (n m b : ℕ) → IsEval spec (instance xs g.test) b (Value v n) → v ≡ boolean g.wanted → AreGuards spec xs rest (b - n) (Holds m) → AreGuards spec xs gs b (Holds (n + m))
-  guards_more v n m b one is more =
-      let h : GivesGuards spec xs (g ∷ rest) (n + m) = more_guards (subst (λ x. Gives spec (instance xs g.test) x n) is one.0) more.0 refl in
-      (subst (λ x. GivesGuards spec xs x (n + m)) (sym e) h, omega (arith, one.1, more.1))
-
-  pub guards_fail_later : (b : ℕ) → AreGuards spec xs rest b Fails → (c : ℕ) → AreGuards spec xs gs c Fails
-  guards_fail_later b fails c a w k holds =
-      let r = rest_guards spec xs g rest (subst (λ x. GivesGuards spec xs x k) e holds) in
-      fails a w r.0 r.1
+-- a rule goes on with the answer that it wants
+pub goes_on-self : (k : ℕ) (gs : List Guard) (g : Guard) (answer : Tree) → slice_get gs k ≡ Some g → answer ≡ boolean g.wanted → GoesOn k answer gs gs
+goes_on-self k [] g answer at is = absurd (let q : None ≡ Some g = at in cc)
+goes_on-self zero (x ∷ gs) g answer at is =
+    let q : Some x ≡ Some g = at in
+    let e : x ≡ g = cc in
+    (refl, is ∙ ap (λ (y : Guard). boolean y.wanted) (sym e))
+goes_on-self (suc k) (x ∷ gs) g answer at is = (refl, refl, goes_on-self k gs g answer at is)
 
 pub not_is : (r : Bool) (P : Type 0) → r ≡ false → (IsTrue r ↔ P) → P → ⊥
 not_is true P e h p = cc

@@ -3,23 +3,17 @@ use Rattle.std.proofs.Common.{◌≡◌, ℕ, List, [], Some, Option, subst}
 use Rattle.std.specs.Prelude.{Result, Ok, Err, IfOk}
 use Rattle.term_core.specs.Tree.{Tree}
 use Rattle.spec_core.specs.declared.records.Spec.{Spec}
-use Rattle.spec_core.specs.declared.records.Guard.{Guard}
 use Rattle.term_core.specs.declared.ids.SortId.{SortId}
 use Rattle.spec_core.specs.Sorts.{Sorted}
 use Rattle.spec_core.specs.WellSorted.{IsWellSorted}
 use Rattle.spec_core.proofs.Determined.{determined}
 use Rattle.ground_eval.specs.declared.answers.Eval.{Eval}
 use Rattle.ground_eval.specs.declared.answers.Eval.TheVariants.{Value, Spent}
-use Rattle.ground_eval.specs.declared.answers.Guarded.{Guarded}
 use Rattle.ground_eval.specs.Evals.{IsEval, IsOnly}
-use Rattle.ground_eval.specs.Guarded.{AreGuards}
 use Rattle.ground_eval.specs.Matches.{IsMatch}
 
 pub eval_same : (spec : Spec) (t u : Tree) (b : ℕ) (e f : Eval) → t ≡ u → e ≡ f → IsEval spec t b e → IsEval spec u b f
 eval_same spec t u b e f p q h = subst (λ x. IsEval spec u b x) q (subst (λ x. IsEval spec x b e) p h)
-
-pub guards_same_answer : (spec : Spec) (xs : List Tree) (gs hs : List Guard) (b : ℕ) (r q : Guarded) → gs ≡ hs → r ≡ q → AreGuards spec xs gs b r → AreGuards spec xs hs b q
-guards_same_answer spec xs gs hs b r q f h a = subst (λ x. AreGuards spec xs hs b x) h (subst (λ x. AreGuards spec xs x b r) f a)
 
 pub match_some : (left value : Tree) (found : Option (List Tree)) (xs : List Tree) → found ≡ Some xs → IsMatch left value found → IsMatch left value (Some xs)
 match_some left value found xs e m = subst (λ o. IsMatch left value o) e m

@@ -1,17 +1,19 @@
 -- The specification that the tests evaluate is well sorted.
-use Rattle.std.proofs.Common.{rules, ◌≡◌, ℕ, zero, suc, ◌<◌, ◌≤◌, List, [], ◌∷◌, Some, None, inl, inr, refl, subst, arith, length}
-use Rattle.std.specs.Prelude.{slice_get, option_map, codes, replicate, Bool}
+use Rattle.std.proofs.Common.{rules, ◌≡◌, ℕ, zero, suc, ◌<◌, ◌≤◌, List, [], ◌∷◌, ◌++◌, Some, None, inl, inr, refl, subst, arith, length}
+use Rattle.std.specs.Prelude.{slice_get, option_map, codes, replicate}
 use Rattle.std.specs.List.{AllByRecursion}
 use Rattle.term_core.specs.Tree.{Tree, var}
 use Rattle.term_core.specs.declared.ids.SortId.{SortId}
 use Rattle.spec_core.specs.declared.records.SymInfo.{SymInfo}
 use Rattle.spec_core.specs.declared.records.Equation.{Equation}
+use Rattle.spec_core.specs.declared.records.Guard.{Guard}
+use Rattle.spec_core.specs.declared.records.Rule.{Rule}
+use Rattle.spec_core.specs.Sig.{info_of}
 use Rattle.spec_core.specs.Sorts.{Sorted, IsValue}
-use Rattle.spec_core.specs.Constants.{HaveConstants, IsFirstConstant}
 use Rattle.spec_core.specs.Small.{AllHaveSmallValues}
 use Rattle.spec_core.specs.Declarations.{IsDeclared, AreDistinct, bool_sort}
 use Rattle.spec_core.specs.WellSorted.{RuleIsSorted, GoalIsSorted, GoalNamesAreDistinct, IsWellSorted, HasFewArguments, IsLeft, Numbered, Occurs, IsShallow, sorts_of}
-use Rattle.ground_eval.specs.Samples.{nat, takes, variable, plus_rules, le_rules, isz_rules, sample_sorts, sample_constructors, sample_functions, sample_sig, leaf_term, one_term, two_term, zero_term, succ_term, rule_of, is_zero, same_goal, less_goal, sample}
+use Rattle.ground_eval.specs.Samples.{nat, takes, variable, plus_rules, le_rules, isz_rules, pick_rules, grade_rules, turn_rules, part_rules, sample_sorts, sample_constructors, sample_functions, sample_sig, leaf_term, one_term, two_term, zero_term, succ_term, rule_of, rule_on, same_goal, less_goal, sample}
 use Rattle.ground_eval.proofs.Lists.{all_at}
 
 distinct : AreDistinct sample_sorts sample_constructors sample_functions
@@ -45,14 +47,6 @@ all_infos P (e ∷ es) h (suc f) i at = all_infos P es h.1 f i at
 
 few_arguments : HasFewArguments sample_sig
 few_arguments = all_infos (λ (i : SymInfo). length i.args ≤ 8) sample_sig.table (search rules)
-
-first_constant : IsFirstConstant sample_constructors 1 0
-first_constant = record { name = codes "zero"; info = takes 0 nat; there = refl; result = refl; constant = refl; first = λ k e h. absurd (omega arith) }
-
-pub have_constants : HaveConstants sample_sorts sample_constructors
-have_constants zero a b = absurd (omega arith)
-have_constants (suc zero) a b = (0, first_constant)
-have_constants (suc (suc n)) a b = absurd (omega arith)
 
 -- the sorts of n variables
 abbrev naturals : ℕ → List SortId
@@ -103,21 +97,51 @@ isz_sorted =
     let succ_left = one_term 6 (succ_term (var 0)) in
     (unguarded 0 zero_left _ bool_sort (search rules) (_, refl, refl, ((_, refl, refl, tt), tt)) (_, refl, refl, tt) (search rules) (no_bound zero_left) (omega arith) (search rules) (search rules), (unguarded 1 succ_left _ bool_sort (search rules) (_, refl, refl, ((_, refl, refl, (refl, tt)), tt)) (_, refl, refl, tt) (search rules) (one_bound succ_left (inl (inl refl))) (omega arith) (search rules) (search rules), tt))
 
-pick_sorted : (right : Tree) (wanted : Bool) → Sorted sample_sig (naturals 1) right nat → IsShallow right → RuleIsSorted sample_sig (rule_of 1 (one_term 7 (var 0)) right (is_zero wanted ∷ []))
-pick_sorted right wanted sorted shallow = record {
-  left = search rules;
-  sides = (nat, (_, refl, refl, (refl, tt)), sorted);
-  guards = ((_, refl, refl, (refl, tt)), tt);
+-- a rule for the call of a function with x
+on_sorted : (f : ℕ) (right : Tree) (guards : List Guard) → IsLeft sample_sig (one_term f (var 0)) → info_of sample_sig f ≡ Some (takes 1 nat) → Sorted sample_sig (naturals 1) right nat → AllByRecursion (λ (g : Guard). Sorted sample_sig (naturals 1) g.test bool_sort) guards → IsShallow right → AllByRecursion (λ (g : Guard). IsShallow g.test) guards → RuleIsSorted sample_sig (rule_on f right guards)
+on_sorted f right guards left known sorted tests shallow few = record {
+  left = left;
+  sides = (nat, (_, known, refl, (refl, tt)), sorted);
+  guards = tests;
   numbered = search rules;
-  bound = one_bound (one_term 7 (var 0)) (inl refl);
+  bound = one_bound (one_term f (var 0)) (inl refl);
   few_variables = omega arith;
   shallow_left = search rules;
   shallow_right = shallow;
-  shallow_guards = (search rules, tt);
+  shallow_guards = few;
 }
 
+zero_sorted : Sorted sample_sig (naturals 1) (one_term 6 (var 0)) bool_sort
+zero_sorted = (_, refl, refl, (refl, tt))
+
+small_sorted : Sorted sample_sig (naturals 1) (two_term 5 (var 0) (succ_term zero_term)) bool_sort
+small_sorted = (_, refl, refl, (refl, ((_, refl, refl, ((_, refl, refl, tt), tt)), tt)))
+
+succ_sorted : Sorted sample_sig (naturals 1) (succ_term (var 0)) nat
+succ_sorted = (_, refl, refl, (refl, tt))
+
+pick_sorted : AllByRecursion (RuleIsSorted sample_sig) pick_rules
+pick_sorted = (on_sorted 7 _ _ (search rules) refl succ_sorted (zero_sorted, tt) (search rules) (search rules), (on_sorted 7 _ _ (search rules) refl refl (zero_sorted, tt) (search rules) (search rules), tt))
+
+grade_sorted : AllByRecursion (RuleIsSorted sample_sig) grade_rules
+grade_sorted = (on_sorted 8 _ _ (search rules) refl (_, refl, refl, tt) (small_sorted, (zero_sorted, tt)) (search rules) (search rules), (on_sorted 8 _ _ (search rules) refl succ_sorted (small_sorted, (zero_sorted, tt)) (search rules) (search rules), (on_sorted 8 _ _ (search rules) refl refl (small_sorted, tt) (search rules) (search rules), tt)))
+
+turn_sorted : AllByRecursion (RuleIsSorted sample_sig) turn_rules
+turn_sorted = (on_sorted 9 _ _ (search rules) refl (_, refl, refl, (refl, (refl, tt))) (small_sorted, tt) (search rules) (search rules), (on_sorted 9 _ _ (search rules) refl (_, refl, refl, tt) (small_sorted, (zero_sorted, tt)) (search rules) (search rules), (on_sorted 9 _ _ (search rules) refl succ_sorted (small_sorted, (zero_sorted, tt)) (search rules) (search rules), tt)))
+
+part_sorted : AllByRecursion (RuleIsSorted sample_sig) part_rules
+part_sorted = (on_sorted 10 _ _ (search rules) refl succ_sorted (zero_sorted, tt) (search rules) (search rules), (on_sorted 10 _ _ (search rules) refl refl (zero_sorted, (small_sorted, tt)) (search rules) (search rules), tt))
+
+-- sorted rules before sorted rules
+both_sorted : (rs qs : List Rule) → AllByRecursion (RuleIsSorted sample_sig) rs → AllByRecursion (RuleIsSorted sample_sig) qs → AllByRecursion (RuleIsSorted sample_sig) (rs ++ qs)
+both_sorted [] qs a b = b
+both_sorted (r ∷ rs) qs a b = (a.0, both_sorted rs qs a.1 b)
+
+guarded_sorted : AllByRecursion (RuleIsSorted sample_sig) (pick_rules ++ grade_rules ++ (turn_rules ++ part_rules))
+guarded_sorted = both_sorted (pick_rules ++ grade_rules) (turn_rules ++ part_rules) (both_sorted pick_rules grade_rules pick_sorted grade_sorted) (both_sorted turn_rules part_rules turn_sorted part_sorted)
+
 rules_sorted : AllByRecursion (RuleIsSorted sample_sig) sample.rules
-rules_sorted = (plus_sorted.0, (plus_sorted.1.0, (le_sorted.0, (le_sorted.1.0, (le_sorted.1.1.0, (isz_sorted.0, (isz_sorted.1.0, (pick_sorted _ _ (_, refl, refl, (refl, tt)) (search rules), (pick_sorted _ _ refl (search rules), tt)))))))))
+rules_sorted = both_sorted (plus_rules ++ le_rules ++ isz_rules) (pick_rules ++ grade_rules ++ (turn_rules ++ part_rules)) (both_sorted (plus_rules ++ le_rules) isz_rules (both_sorted plus_rules le_rules plus_sorted le_sorted) isz_sorted) guarded_sorted
 
 abbrev OneSort : Equation → Type 0
 OneSort e = (s : SortId) × Sorted sample_sig (naturals 2) e.left s × Sorted sample_sig (naturals 2) e.right s
@@ -173,5 +197,5 @@ succ_value t v = ((_, refl, refl, (v.0, tt)), (omega arith, (v.1, tt)))
 pub call_sorted : (s t : Tree) → IsValue sample_sig nat s → IsValue sample_sig nat t → Sorted sample_sig [] (two_term 4 s t) nat
 call_sorted s t a b = (_, refl, refl, (a.0, (b.0, tt)))
 
-pub picked_sorted : (t : Tree) → IsValue sample_sig nat t → Sorted sample_sig [] (one_term 7 t) nat
-picked_sorted t a = (_, refl, refl, (a.0, tt))
+pub one_sorted : (f : ℕ) (t : Tree) → info_of sample_sig f ≡ Some (takes 1 nat) → IsValue sample_sig nat t → Sorted sample_sig [] (one_term f t) nat
+one_sorted f t known a = (_, known, refl, (a.0, tt))

@@ -8,8 +8,7 @@ pub mod Entries
 pub mod Matches
 pub mod Index
 pub mod Arguments
-pub mod Guarded
-pub mod Tries
+pub mod Choices
 pub mod Room
 pub mod Sides
 -- What the tests evaluate.

@@ -28,9 +28,9 @@ sample_sorts = codes "Nat" ∷ []
 abbrev pub sample_constructors : List (List ℕ × SymInfo)
 sample_constructors = (codes "zero", takes 0 nat) ∷ (codes "succ", takes 1 nat) ∷ []
 
--- fun plus(Nat, Nat) : Nat, fun le(Nat, Nat) : Bool, fun isz(Nat) : Bool, fun pick(Nat) : Nat
+-- fun plus(Nat, Nat) : Nat, fun le(Nat, Nat) : Bool, fun isz(Nat) : Bool, and pick, grade, turn and part, of Nat to Nat
 abbrev pub sample_functions : List (List ℕ × SymInfo)
-sample_functions = (codes "plus", takes 2 nat) ∷ (codes "le", takes 2 bool_sort) ∷ (codes "isz", takes 1 bool_sort) ∷ (codes "pick", takes 1 nat) ∷ []
+sample_functions = (codes "plus", takes 2 nat) ∷ (codes "le", takes 2 bool_sort) ∷ (codes "isz", takes 1 bool_sort) ∷ (codes "pick", takes 1 nat) ∷ (codes "grade", takes 1 nat) ∷ (codes "turn", takes 1 nat) ∷ (codes "part", takes 1 nat) ∷ []
 
 -- the signature of these declarations
 abbrev pub sample_sig : Sig
@@ -40,7 +40,7 @@ sample_sig = declared_by sample_sorts sample_constructors sample_functions
 abbrev pub leaf_term : ℕ → Tree
 leaf_term f = app f none
 
--- a symbol with one argument: succ is 3, isz 6 and pick 7
+-- a symbol with one argument: succ is 3, isz 6, pick 7, grade 8, turn 9 and part 10
 abbrev pub one_term : ℕ → Tree → Tree
 one_term f t = app f (some t none)
 
@@ -80,9 +80,29 @@ le_rules = rule_of 1 (two_term 5 zero_term (var 0)) (leaf_term 0) [] ∷ rule_of
 abbrev pub isz_rules : List Rule
 isz_rules = rule_of 0 (one_term 6 zero_term) (leaf_term 0) [] ∷ rule_of 1 (one_term 6 (succ_term (var 0))) (leaf_term 1) [] ∷ []
 
+-- the guard that wants this Boolean of le(x, succ(zero))
+abbrev pub is_small : Bool → Guard
+is_small wanted = record { test = two_term 5 (var 0) (succ_term zero_term); wanted = wanted }
+
+-- a rule for the call f(x)
+abbrev pub rule_on : ℕ → Tree → List Guard → Rule
+rule_on f right guards = rule_of 1 (one_term f (var 0)) right guards
+
 -- pick(x) = succ(x) if isz(x); pick(x) = x unless isz(x)
 abbrev pub pick_rules : List Rule
-pick_rules = rule_of 1 (one_term 7 (var 0)) (succ_term (var 0)) (is_zero true ∷ []) ∷ rule_of 1 (one_term 7 (var 0)) (var 0) (is_zero false ∷ []) ∷ []
+pick_rules = rule_on 7 (succ_term (var 0)) (is_zero true ∷ []) ∷ rule_on 7 (var 0) (is_zero false ∷ []) ∷ []
+
+-- where small is le(x, succ(zero)): grade(x) = zero if small if isz(x); grade(x) = succ(x) if small unless isz(x); grade(x) = x unless small
+abbrev pub grade_rules : List Rule
+grade_rules = rule_on 8 zero_term (is_small true ∷ is_zero true ∷ []) ∷ rule_on 8 (succ_term (var 0)) (is_small true ∷ is_zero false ∷ []) ∷ rule_on 8 (var 0) (is_small false ∷ []) ∷ []
+
+-- the same tests in another order of the rules: turn(x) = plus(x, x) unless small; turn(x) = zero if small unless isz(x); turn(x) = succ(x) if small if isz(x)
+abbrev pub turn_rules : List Rule
+turn_rules = rule_on 9 (two_term 4 (var 0) (var 0)) (is_small false ∷ []) ∷ rule_on 9 zero_term (is_small true ∷ is_zero false ∷ []) ∷ rule_on 9 (succ_term (var 0)) (is_small true ∷ is_zero true ∷ []) ∷ []
+
+-- no whole group: part(x) = succ(x) if isz(x); part(x) = x if isz(x) if small
+abbrev pub part_rules : List Rule
+part_rules = rule_on 10 (succ_term (var 0)) (is_zero true ∷ []) ∷ rule_on 10 (var 0) (is_zero true ∷ is_small true ∷ []) ∷ []
 
 -- the equation of two sides
 abbrev pub equation_of : Tree → Tree → Equation
@@ -102,4 +122,4 @@ less_goal = goal_of (codes "less") (equation_of (two_term 5 (var 0) (var 1)) (le
 
 -- all of them
 abbrev pub sample : Spec
-sample = record { sig = sample_sig; rules = plus_rules ++ le_rules ++ isz_rules ++ pick_rules; goals = same_goal ∷ less_goal ∷ [] }
+sample = record { sig = sample_sig; rules = plus_rules ++ le_rules ++ isz_rules ++ pick_rules ++ grade_rules ++ turn_rules ++ part_rules; goals = same_goal ∷ less_goal ∷ [] }

@@ -9,14 +9,6 @@ pub enum Eval {
     Spent,
 }
 
-/// Whether each guard gives the Boolean that it wants, with their cost.
-#[derive(Drop)]
-pub(crate) enum Guarded {
-    Holds(u32),
-    Fails,
-    Spent,
-}
-
 /// What the sides of an equation give within the budget.
 #[derive(Drop)]
 pub(crate) enum Sides {

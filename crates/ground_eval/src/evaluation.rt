@@ -1,23 +1,21 @@
-ghost use Rattle.std.specs.Prelude.{◌≡◌, ◌↔◌, ℕ, [], Some, IfOk, IsTrue, slice_get};
+ghost use Rattle.std.specs.Prelude.{◌≡◌, ◌<◌, ◌≤◌, [], IfOk};
 ghost use Rattle.std.specs.List.{AllByRecursion};
 ghost use Rattle.term_core.specs.Tree.{trees_of, instance};
 ghost use Rattle.term_core.specs.declared.ids.SortId.{SortId};
 ghost use Rattle.spec_core.specs.Sig.{IsConstructor};
 ghost use Rattle.spec_core.specs.Sorts.{Sorted, IsBuilt, AreBuilt};
-ghost use Rattle.spec_core.specs.Gives.{boolean};
 ghost use Rattle.spec_core.specs.WellSorted.{IsWellSorted};
 ghost use Rattle.ground_eval.specs.Evals.{IsEval};
 ghost use Rattle.ground_eval.specs.Entries.{HasSort, HaveSorts};
 ghost use Rattle.ground_eval.specs.Arguments.{IsEvalAll, IsEvalOfApplications, CanGather, gathered};
-ghost use Rattle.ground_eval.specs.Applications.{application, call_of};
-ghost use Rattle.ground_eval.specs.Guarded.{TestsAreSorted, AreGuards};
-ghost use Rattle.ground_eval.specs.Tries.{IsTry};
+ghost use Rattle.ground_eval.specs.Applications.{application};
+ghost use Rattle.ground_eval.specs.Choices.{IsMatched, HaveHeld, IsChoice};
 
-use crate::answers::{Eval, Guarded};
+use crate::answers::Eval;
 use crate::evaluators::Evaluator;
 use crate::matching::match_left;
 use crate::references::TermRefs;
-use spec_core::{Guard, Rule};
+use spec_core::Rule;
 use std::alloc::Global;
 use term_core::{Node, OutOfMemory, SymId, Term, Terms, front};
 
@@ -175,7 +173,8 @@ impl<'a> Evaluator<'a> {
         }
     }
 
-    /// The value of a function's call with values.
+    /// The value of a function's call with values. Where left sides don't overlap, the first that
+    /// matches is the only one, so the rules with this left side decide.
     #[cycle(eval)]
     fn call(
         &self,
@@ -190,84 +189,78 @@ impl<'a> Evaluator<'a> {
         requires sorted { (s : SortId) × Sorted self.now.sig [] (application sym.0 args.now) s }
         ensures { IfOk result (IsEval self.now (application sym.0 args.now) budget) }
     {
+        if budget == 0 {
+            return Ok(Eval::Spent);
+        }
         let rules = self.rules();
         for number in self.rules_of(sym) {
-            match self.try_rule(alloc, &rules[*number], args, budget)? {
-                Some(found) => return Ok(found),
+            let rule = &rules[*number];
+            match match_left(alloc, &rule.left, rule.vars.len(), args)? {
                 None => continue,
+                Some(env) => return self.use_group(alloc, rule, &env, budget),
             }
         }
         Ok(Eval::Spent)
     }
 
-    /// What this rule gives for its function's call with values, or None where it doesn't apply.
+    /// What the rules with this rule's left side give, under the entries of its match.
     #[cycle(eval)]
-    fn try_rule(
-        &self,
+    fn use_group<'s>(
+        &'s self,
         alloc: Global,
-        rule: &Rule,
-        args: &TermRefs,
+        first: &'s Rule,
+        env: &TermRefs,
         budget: u32,
-    ) -> Result<Option<Eval>, OutOfMemory>
+    ) -> Result<Eval, OutOfMemory>
         requires fine { IsWellSorted self.now }
-        requires listed { (k : ℕ) × (slice_get self.now.rules k ≡ Some rule.now) }
-        requires built { AreBuilt self.now.sig (trees_of args.now) }
-        requires sorted { (s : SortId) × Sorted self.now.sig [] (call_of rule.now.left args.now) s }
-        ensures { IfOk result (IsTry self.now rule.now (call_of rule.now.left args.now) budget) }
+        requires matched { IsMatched self.now first.now env.now }
+        requires some { 0 < budget }
+        ensures { IfOk result (IsEval self.now (instance env.now first.now.left) budget) }
     {
-        let found = match_left(alloc, &rule.left, rule.vars.len(), args)?;
-        match found {
-            None => Ok(None),
-            Some(env) => {
-                if budget == 0 {
-                    return Ok(Some(Eval::Spent));
-                }
-                match self.check_guards(alloc, rule.guards.as_slice(), &env, budget - 1)? {
-                    Guarded::Fails => Ok(None),
-                    Guarded::Spent => Ok(Some(Eval::Spent)),
-                    Guarded::Holds(steps) => {
-                        match self.eval_in(alloc, &rule.right, &env, budget - 1 - steps)? {
-                            Eval::Spent => Ok(Some(Eval::Spent)),
-                            Eval::Value { value, steps: more } => Ok(Some(Eval::Value {
-                                value,
-                                steps: 1 + steps + more,
-                            })),
-                        }
-                    }
+        match self.choose(alloc, first, 0, env, 1, budget)? {
+            None => Ok(Eval::Spent),
+            Some((rule, spent)) => {
+                match self.eval_in(alloc, &rule.right, env, budget - spent)? {
+                    Eval::Spent => Ok(Eval::Spent),
+                    Eval::Value { value, steps } => Ok(Eval::Value {
+                        value,
+                        steps: spent + steps,
+                    }),
                 }
             }
         }
     }
 
-    /// Whether each guard gives the Boolean that it wants. They are evaluated in their order, up
-    /// to one that doesn't.
+    /// Walks down the decision tree of the rules with this rule's left side, and gives the rule at
+    /// its leaf with the cost of the way. The rule stands below the place that is reached: its
+    /// first `asked` tests gave what it wants, and one use of a rule and these tests cost `spent`.
+    ///
+    /// Each test on the way is evaluated once, since the rule that goes on has asked the same tests
+    /// before. So the tests that are evaluated are those of the rule that is chosen.
     #[cycle(eval)]
-    fn check_guards(
-        &self,
+    fn choose<'s>(
+        &'s self,
         alloc: Global,
-        guards: &[Guard],
+        rule: &'s Rule,
+        asked: usize,
         env: &TermRefs,
+        spent: u32,
         budget: u32,
-    ) -> Result<Guarded, OutOfMemory>
+    ) -> Result<Option<(&'s Rule, u32)>, OutOfMemory>
         requires fine { IsWellSorted self.now }
-        requires built { AllByRecursion (IsBuilt self.now.sig) env.now }
-        requires sorted { TestsAreSorted self.now env.now guards.now }
-        ensures { IfOk result (AreGuards self.now env.now guards.now budget) }
+        requires matched { IsMatched self.now rule.now env.now }
+        requires held { HaveHeld self.now env.now rule.now.guards asked spent }
+        requires within { spent ≤ budget }
+        ensures { IfOk result (IsChoice self.now rule.now.left env.now budget) }
     {
-        match front(guards) {
-            None => Ok(Guarded::Holds(0)),
-            Some((guard, rest)) => match self.eval_in(alloc, &guard.test, env, budget)? {
-                Eval::Spent => Ok(Guarded::Spent),
-                Eval::Value { value, steps } => {
-                    if !is_boolean(&value, guard.wanted) {
-                        return Ok(Guarded::Fails);
-                    }
-                    match self.check_guards(alloc, rest, env, budget - steps)? {
-                        Guarded::Fails => Ok(Guarded::Fails),
-                        Guarded::Spent => Ok(Guarded::Spent),
-                        Guarded::Holds(more) => Ok(Guarded::Holds(steps + more)),
-                    }
-                }
+        match rule.guards.as_slice().get(asked) {
+            None => Ok(Some((rule, spent))),
+            Some(guard) => match self.eval_in(alloc, &guard.test, env, budget - spent)? {
+                Eval::Spent => Ok(None),
+                Eval::Value { value, steps } => match self.follow(rule, asked, &value) {
+                    None => Ok(None),
+                    Some(next) => self.choose(alloc, next, asked + 1, env, spent + steps, budget),
+                },
             },
         }
     }
@@ -298,19 +291,4 @@ fn gather<'e: 'v, 'v>(
         }
     }
     Ok(values)
-}
-
-/// Whether the term is this Boolean.
-fn is_boolean(term: &Term, wanted: bool) -> bool
-    ensures { IsTrue result ↔ (term.now ≡ boolean wanted) }
-{
-    match &term.node {
-        Node::Var(_) => false,
-        Node::App(sym, args) => {
-            if !args.is_empty() {
-                return false;
-            }
-            if wanted { sym.0 == 0 } else { sym.0 == 1 }
-        }
-    }
 }

@@ -8,6 +8,7 @@ ghost use Rattle.spec_core.specs.Groups.{GroupsAreWhole};
 ghost use Rattle.spec_core.specs.Truth.{AreValuesOf, GoalFails};
 ghost use Rattle.spec_core.specs.Verdict.{IsVerdict};
 ghost use Rattle.ground_eval.specs.Evals.{IsEval, IsOnly};
+ghost use Rattle.ground_eval.specs.Applications.{IsApplication, head_of};
 ghost use Rattle.ground_eval.specs.Index.{numbers_of};
 
 use crate::answers::Eval;
@@ -16,7 +17,7 @@ use crate::references::TermRefs;
 use spec_core::{Goal, Rule, Spec, Verdict};
 use std::alloc::Global;
 use std::marker::Model;
-use term_core::{OutOfMemory, SymId, Term};
+use term_core::{Node, OutOfMemory, SymId, Term};
 
 /// The rules of a specification, found by their function. Contracts see the specification.
 #[derive(Drop)]
@@ -100,6 +101,17 @@ impl<'a> Evaluator<'a> {
         ensures { result.now ≡ numbers_of sym.0 0 self.now.rules }
     {
         self.index[sym.0 as usize].as_slice()
+    }
+    /// The numbers of the rules of the function that this left side calls, in their order.
+    pub(crate) fn rules_with(&self, left: &Term) -> &[usize]
+        requires called { IsApplication left.now }
+        requires known { head_of left.now < length self.now.sig.table }
+        ensures { result.now ≡ numbers_of (head_of left.now) 0 self.now.rules }
+    {
+        match &left.node {
+            Node::Var(_) => unreachable!(),
+            Node::App(sym, _) => self.rules_of(*sym),
+        }
     }
 }
 

@@ -10,6 +10,7 @@
 mod answers;
 mod evaluation;
 mod evaluators;
+mod groups;
 mod index;
 mod laws;
 mod matching;

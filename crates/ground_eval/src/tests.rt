@@ -1,7 +1,8 @@
-ghost use Rattle.std.specs.Prelude.{◌≡◌, ◌<◌, ◌++◌, ◌∷◌, [], IfOk, IfSome, OnOk, replicate};
+ghost use Rattle.std.specs.Prelude.{◌≡◌, ◌<◌, ◌++◌, ◌∷◌, [], Some, IfOk, IfSome, OnOk, replicate, true};
 ghost use Rattle.term_core.specs.Tree.{var as variable_tree};
+ghost use Rattle.spec_core.specs.Sig.{info_of};
 ghost use Rattle.spec_core.specs.Sorts.{Sorted, IsValue};
-ghost use Rattle.ground_eval.specs.Samples.{nat as nat_sort, takes, leaf_term, one_term, two_term, variable, rule_of, is_zero, sample_sorts, sample_constructors, sample_functions, sample_sig, plus_rules as plus_rule_list, le_rules as le_rule_list, isz_rules as isz_rule_list, pick_rules as pick_rule_list, same_goal as the_same_goal, less_goal as the_less_goal, sample as the_sample};
+ghost use Rattle.ground_eval.specs.Samples.{nat as nat_sort, takes, leaf_term, one_term, two_term, variable, rule_of, rule_on, is_zero, is_small, sample_sorts, sample_constructors, sample_functions, sample_sig, plus_rules as plus_rule_list, le_rules as le_rule_list, isz_rules as isz_rule_list, pick_rules as pick_rule_list, grade_rules as grade_rule_list, turn_rules as turn_rule_list, part_rules as part_rule_list, same_goal as the_same_goal, less_goal as the_less_goal, sample as the_sample};
 
 use crate::{Eval, Verdict, eval, verdict};
 use spec_core::{Equation, Goal, Guard, Rule, Signature, Spec, SymInfo, VarInfo};
@@ -28,6 +29,12 @@ const LE: u32 = 5;
 const ISZ: u32 = 6;
 
 const PICK: u32 = 7;
+
+const GRADE: u32 = 8;
+
+const TURN: u32 = 9;
+
+const PART: u32 = 10;
 
 fn var(number: u32) -> Term
     ensures { result ≡ variable_tree number }
@@ -109,6 +116,9 @@ fn functions(alloc: Global) -> Result<Seq<(Name, SymInfo)>, OutOfMemory>
     made.push(symbol(alloc, b"le", 2, BOOL)?)?;
     made.push(symbol(alloc, b"isz", 1, BOOL)?)?;
     made.push(symbol(alloc, b"pick", 1, NAT)?)?;
+    made.push(symbol(alloc, b"grade", 1, NAT)?)?;
+    made.push(symbol(alloc, b"turn", 1, NAT)?)?;
+    made.push(symbol(alloc, b"part", 1, NAT)?)?;
     Ok(made)
 }
 
@@ -137,21 +147,59 @@ fn rule(alloc: Global, count: u32, left: Term, right: Term) -> Result<Rule, OutO
     })
 }
 
-/// A rule for `pick(x)` that asks `isz(x)`.
-fn pick_rule(alloc: Global, right: Term, wanted: bool) -> Result<Rule, OutOfMemory>
-    ensures { IfOk result (λ made. made ≡ rule_of 1 (one_term 7 (variable_tree 0)) right (is_zero wanted ∷ [])) }
+/// A rule for the call of this function with `x`.
+fn rule_for(alloc: Global, sym: u32, right: Term, guards: Seq<Guard>) -> Result<Rule, OutOfMemory>
+    ensures { IfOk result (λ made. made ≡ rule_on sym right guards) }
 {
-    let mut guards = Seq::new(alloc);
-    guards.push(Guard {
-        test: one(alloc, ISZ, var(0))?,
-        wanted,
-    })?;
     Ok(Rule {
         vars: variables(alloc, 1)?,
-        left: one(alloc, PICK, var(0))?,
+        left: one(alloc, sym, var(0))?,
         right,
         guards,
     })
+}
+
+/// The guard that asks `isz(x)`.
+fn zero_guard(alloc: Global, wanted: bool) -> Result<Guard, OutOfMemory>
+    ensures { IfOk result (λ made. made ≡ is_zero wanted) }
+{
+    Ok(Guard {
+        test: one(alloc, ISZ, var(0))?,
+        wanted,
+    })
+}
+
+/// The guard that asks `le(x, succ(zero))`.
+fn small_guard(alloc: Global, wanted: bool) -> Result<Guard, OutOfMemory>
+    ensures { IfOk result (λ made. made ≡ is_small wanted) }
+{
+    Ok(Guard {
+        test: two(alloc, LE, var(0), one(alloc, SUCC, leaf(alloc, ZERO))?)?,
+        wanted,
+    })
+}
+
+fn only(alloc: Global, guard: Guard) -> Result<Seq<Guard>, OutOfMemory>
+    ensures { IfOk result (λ made. made ≡ guard ∷ []) }
+{
+    let mut guards = Seq::new(alloc);
+    guards.push(guard)?;
+    Ok(guards)
+}
+
+fn both(alloc: Global, first: Guard, second: Guard) -> Result<Seq<Guard>, OutOfMemory>
+    ensures { IfOk result (λ made. made ≡ first ∷ second ∷ []) }
+{
+    let mut guards = only(alloc, first)?;
+    guards.push(second)?;
+    Ok(guards)
+}
+
+/// The guards that ask `le(x, succ(zero))` and then, of what is small, `isz(x)`.
+fn small_and(alloc: Global, zero: bool) -> Result<Seq<Guard>, OutOfMemory>
+    ensures { IfOk result (λ made. made ≡ is_small true ∷ is_zero zero ∷ []) }
+{
+    both(alloc, small_guard(alloc, true)?, zero_guard(alloc, zero)?)
 }
 
 fn add_plus(alloc: Global, rules: &mut Seq<Rule>) -> Result<(), OutOfMemory>
@@ -189,8 +237,43 @@ fn add_pick(alloc: Global, rules: &mut Seq<Rule>) -> Result<(), OutOfMemory>
     ensures { OnOk result (rules.new ≡ rules.old ++ pick_rule_list) }
 {
     let right = one(alloc, SUCC, var(0))?;
-    rules.push(pick_rule(alloc, right, true)?)?;
-    rules.push(pick_rule(alloc, var(0), false)?)
+    let guards = only(alloc, zero_guard(alloc, true)?)?;
+    rules.push(rule_for(alloc, PICK, right, guards)?)?;
+    let guards = only(alloc, zero_guard(alloc, false)?)?;
+    rules.push(rule_for(alloc, PICK, var(0), guards)?)
+}
+
+fn add_grade(alloc: Global, rules: &mut Seq<Rule>) -> Result<(), OutOfMemory>
+    ensures { OnOk result (rules.new ≡ rules.old ++ grade_rule_list) }
+{
+    let guards = small_and(alloc, true)?;
+    rules.push(rule_for(alloc, GRADE, leaf(alloc, ZERO), guards)?)?;
+    let right = one(alloc, SUCC, var(0))?;
+    rules.push(rule_for(alloc, GRADE, right, small_and(alloc, false)?)?)?;
+    let guards = only(alloc, small_guard(alloc, false)?)?;
+    rules.push(rule_for(alloc, GRADE, var(0), guards)?)
+}
+
+fn add_turn(alloc: Global, rules: &mut Seq<Rule>) -> Result<(), OutOfMemory>
+    ensures { OnOk result (rules.new ≡ rules.old ++ turn_rule_list) }
+{
+    let right = two(alloc, PLUS, var(0), var(0))?;
+    let guards = only(alloc, small_guard(alloc, false)?)?;
+    rules.push(rule_for(alloc, TURN, right, guards)?)?;
+    let guards = small_and(alloc, false)?;
+    rules.push(rule_for(alloc, TURN, leaf(alloc, ZERO), guards)?)?;
+    let right = one(alloc, SUCC, var(0))?;
+    rules.push(rule_for(alloc, TURN, right, small_and(alloc, true)?)?)
+}
+
+fn add_part(alloc: Global, rules: &mut Seq<Rule>) -> Result<(), OutOfMemory>
+    ensures { OnOk result (rules.new ≡ rules.old ++ part_rule_list) }
+{
+    let right = one(alloc, SUCC, var(0))?;
+    let guards = only(alloc, zero_guard(alloc, true)?)?;
+    rules.push(rule_for(alloc, PART, right, guards)?)?;
+    let guards = both(alloc, zero_guard(alloc, true)?, small_guard(alloc, true)?)?;
+    rules.push(rule_for(alloc, PART, var(0), guards)?)
 }
 
 fn same_goal(alloc: Global) -> Result<Goal, OutOfMemory>
@@ -247,6 +330,9 @@ fn sample(alloc: Global) -> Result<Option<Spec>, OutOfMemory>
     add_le(alloc, &mut rules)?;
     add_isz(alloc, &mut rules)?;
     add_pick(alloc, &mut rules)?;
+    add_grade(alloc, &mut rules)?;
+    add_turn(alloc, &mut rules)?;
+    add_part(alloc, &mut rules)?;
     let mut goals = Seq::new(alloc);
     goals.push(same_goal(alloc)?)?;
     goals.push(less_goal(alloc)?)?;
@@ -272,12 +358,13 @@ fn sum(alloc: Global, first: u32, second: u32) -> Result<Term, OutOfMemory>
     two(alloc, PLUS, first, second)
 }
 
-/// `pick(value)`.
-fn picked(alloc: Global, value: u32) -> Result<Term, OutOfMemory>
+/// The call of this function with the value.
+fn call(alloc: Global, sym: u32, value: u32) -> Result<Term, OutOfMemory>
+    requires { info_of sample_sig sym ≡ Some (takes 1 nat_sort) }
     ensures { IfOk result (λ t. Sorted sample_sig [] t nat_sort) }
 {
     let value = natural(alloc, value)?;
-    one(alloc, PICK, value)
+    one(alloc, sym, value)
 }
 
 /// Whether the evaluation found this natural at this cost; None stands for Spent.
@@ -324,8 +411,7 @@ fn ask(
     verdict(alloc, spec, goal, values.as_slice(), budget)
 }
 
-/// Costs by hand. `plus(1, 0)` uses both rules of plus once, `pick(1)` a rule of isz for its second
-/// guard and its own, and so does `pick(0)` for its first guard.
+/// Costs by hand: `plus(1, 0)` uses both rules of plus once.
 #[test]
 fn evaluates(rt: HostRuntime) -> Result<(), Fail> {
     let alloc = rt.alloc();
@@ -340,14 +426,79 @@ fn evaluates(rt: HostRuntime) -> Result<(), Fail> {
         let term = sum(alloc, x, y)?;
         assert!(rt; evaluate(alloc, &spec, &term, budget, wanted)?, "{x} + {y}");
     }
+    Ok(())
+}
+
+/// Costs by hand: `isz` costs 1, and a rule of pick one more.
+#[test]
+fn evaluates_by_one_test(rt: HostRuntime) -> Result<(), Fail> {
+    let alloc = rt.alloc();
+    let spec = sample(alloc)?.ok_or("no signature")?;
     for (x, budget, wanted) in [
         (0, 2, Some((1, 2))),
         (1, 2, Some((1, 2))),
         (1, 1, None),
         (0, 1, None),
     ] {
-        let term = picked(alloc, x)?;
+        let term = call(alloc, PICK, x)?;
         assert!(rt; evaluate(alloc, &spec, &term, budget, wanted)?, "pick({x})");
+    }
+    Ok(())
+}
+
+/// Costs by hand: `le(x, 1)` costs 1 for 0 and else 2, and `isz` 1. So `grade(0)` costs 1 + 1 + 1,
+/// `grade(1)` 1 + 2 + 1 and `grade(2)` 1 + 2.
+#[test]
+fn evaluates_by_two_tests(rt: HostRuntime) -> Result<(), Fail> {
+    let alloc = rt.alloc();
+    let spec = sample(alloc)?.ok_or("no signature")?;
+    for (x, budget, wanted) in [
+        (0, 3, Some((0, 3))),
+        (0, 2, None),
+        (1, 4, Some((2, 4))),
+        (1, 3, None),
+        (2, 3, Some((2, 3))),
+        (2, 2, None),
+        (5, 100, Some((5, 3))),
+    ] {
+        let term = call(alloc, GRADE, x)?;
+        assert!(rt;
+            evaluate(alloc, &spec, &term, budget, wanted)?,
+            "grade({x})"
+        );
+    }
+    Ok(())
+}
+
+/// The tests of grade, in another order of the rules. `turn(2)` costs 1 + 2 and the 3 of
+/// `plus(2, 2)`.
+#[test]
+fn evaluates_by_rules_in_another_order(rt: HostRuntime) -> Result<(), Fail> {
+    let alloc = rt.alloc();
+    let spec = sample(alloc)?.ok_or("no signature")?;
+    for (x, budget, wanted) in [
+        (0, 3, Some((1, 3))),
+        (0, 2, None),
+        (1, 4, Some((0, 4))),
+        (1, 3, None),
+        (2, 6, Some((4, 6))),
+        (2, 5, None),
+    ] {
+        let term = call(alloc, TURN, x)?;
+        assert!(rt; evaluate(alloc, &spec, &term, budget, wanted)?, "turn({x})");
+    }
+    Ok(())
+}
+
+/// The rules of part are no whole group. By hand: the first one gives `part(0)` for 1 + 1, and
+/// none gives `part(1)` a value.
+#[test]
+fn evaluates_where_no_group_is_whole(rt: HostRuntime) -> Result<(), Fail> {
+    let alloc = rt.alloc();
+    let spec = sample(alloc)?.ok_or("no signature")?;
+    for (x, budget, wanted) in [(0, 2, Some((1, 2))), (0, 1, None), (1, 100, None)] {
+        let term = call(alloc, PART, x)?;
+        assert!(rt; evaluate(alloc, &spec, &term, budget, wanted)?, "part({x})");
     }
     Ok(())
 }

@@ -1,33 +1,44 @@
--- Naturals with addition as a raw specification.
+-- What the definitions say of raw naturals with addition, and of a few that have faults.
 use Rattle.std.specs.Prelude.{ℕ, List, [], ◌∷◌, codes}
-use Rattle.spec_core.specs.declared.records.Rule.{Rule}
-use Rattle.spec_core.specs.WellSorted.{RuleIsSorted}
-use Rattle.spec_core.specs.Naturals.{naturals_sig, naturals}
+use Rattle.spec_core.specs.Naturals.{naturals}
 use Rattle.spec_grammar.specs.RawTree.{RawTree, word, none, some}
 use Rattle.spec_grammar.specs.declared.raw.RawName.{RawName}
 use Rattle.spec_grammar.specs.declared.raw.RawNames.{RawNames}
+use Rattle.spec_grammar.specs.declared.raw.RawSort.{RawSort}
+use Rattle.spec_grammar.specs.declared.raw.RawFun.{RawFun}
+use Rattle.spec_grammar.specs.declared.raw.RawEq.{RawEq}
 use Rattle.spec_grammar.specs.declared.raw.RawBind.{RawBind}
 use Rattle.spec_grammar.specs.declared.raw.RawRule.{RawRule}
+use Rattle.spec_grammar.specs.declared.raw.RawGoal.{RawGoal}
 use Rattle.spec_grammar.specs.declared.raw.RawSpec.{RawSpec}
-use Rattle.sort_check.specs.Rules.{RuleStands}
 use Rattle.sort_check.specs.StandsFor.{StandsFor}
-use Rattle.sort_check.specs.Plain.{IsPlain}
+use Rattle.sort_check.specs.FirstFault.{HasNoFault, HasFirstFault}
+use Rattle.sort_check.specs.declared.faults.SortKind.TheVariants.{RepeatedName, NotOnTheLeft, SortNotInferred}
 
--- each name stands at the place 0, since places don't matter
-abbrev at_zero : List ℕ → RawName
-at_zero name = record { name = name; at = 0 }
+-- a name at a place, 0 where the place doesn't matter
+abbrev name_at : List ℕ → ℕ → RawName
+name_at name at = record { name = name; at = at }
 
-abbrev declares : List ℕ → List RawName → RawNames
-declares name args = record { name = name; at = 0; args = args }
+abbrev raw_symbol : List ℕ → List RawName → RawNames
+raw_symbol name args = record { name = name; at = 0; args = args }
 
 abbrev nat : RawName
-nat = at_zero (codes "Nat")
+nat = name_at (codes "Nat") 0
 
-abbrev binds : List ℕ → RawBind
-binds name = record { name = at_zero name; sort = nat }
+abbrev pub binds : List ℕ → RawBind
+binds name = record { name = name_at name 0; sort = nat }
 
-abbrev single : List ℕ → RawTree
-single name = word name 0 none
+abbrev single : List ℕ → ℕ → RawTree
+single name at = word name at none
+
+abbrev pub x_at : ℕ → RawTree
+x_at at = single (codes "x") at
+
+abbrev pub y_at : ℕ → RawTree
+y_at at = single (codes "y") at
+
+abbrev zero_word : RawTree
+zero_word = single (codes "zero") 0
 
 abbrev succ_of : RawTree → RawTree
 succ_of t = word (codes "succ") 0 (some t none)
@@ -35,40 +46,61 @@ succ_of t = word (codes "succ") 0 (some t none)
 abbrev plus_of : RawTree → RawTree → RawTree
 plus_of s t = word (codes "plus") 0 (some s (some t none))
 
--- rule plus(zero, y) = y
-abbrev plus_zero : RawRule
-plus_zero = record { left = plus_of (single (codes "zero")) (single (codes "y")); right = single (codes "y"); guards = [] }
+-- sort Nat = zero | succ(Nat)
+abbrev nat_sort : RawSort
+nat_sort = record { head = nat; constructors = raw_symbol (codes "zero") [] ∷ raw_symbol (codes "succ") (nat ∷ []) ∷ [] }
+
+-- fun plus(Nat, Nat) : Nat
+abbrev plus_function : RawFun
+plus_function = record { head = raw_symbol (codes "plus") (nat ∷ nat ∷ []); result = nat }
+
+-- rule plus(zero, y) = t
+abbrev pub plus_zero_gives : RawTree → RawRule
+plus_zero_gives t = record { left = plus_of zero_word (y_at 0); right = t; guards = [] }
 
 -- rule plus(succ(x), y) = succ(plus(x, y))
-abbrev plus_succ : RawRule
-plus_succ = record { left = plus_of (succ_of (single (codes "x"))) (single (codes "y")); right = succ_of (plus_of (single (codes "x")) (single (codes "y"))); guards = [] }
+abbrev pub plus_succ : RawRule
+plus_succ = record { left = plus_of (succ_of (x_at 0)) (y_at 0); right = succ_of (plus_of (x_at 0) (y_at 0)); guards = [] }
 
--- sort Nat = zero | succ(Nat), fun plus(Nat, Nat) : Nat, these rules, and the goals
--- same(x : Nat, y : Nat) : plus(x, y) = plus(x, x) and unit(x : Nat) : plus(x, zero) = x
+-- plus(x, y) = plus(x, x)
+abbrev pub same_sums : RawEq
+same_sums = record { left = plus_of (x_at 0) (y_at 0); right = plus_of (x_at 0) (x_at 0) }
+
+-- plus(x, zero) = x
+abbrev pub zero_adds_nothing : RawEq
+zero_adds_nothing = record { left = plus_of (x_at 0) zero_word; right = x_at 0 }
+
+-- a goal of this name with these bindings and this conclusion
+abbrev pub concludes : List ℕ → List RawBind → RawEq → RawGoal
+concludes name bs e = record { head = name_at name 0; binds = bs; premises = []; conclusions = e ∷ [] }
+
+-- naturals with addition, these rules and these goals
+abbrev pub naturals_with : List RawRule → List RawGoal → RawSpec
+naturals_with rules goals = record { sorts = nat_sort ∷ []; funs = plus_function ∷ []; rules = rules; goals = goals }
+
+-- goal same(x : Nat, y : Nat) : plus(x, y) = plus(x, x), and goal unit : plus(x, zero) = x, whose x has no binding
 abbrev pub raw_naturals : RawSpec
-raw_naturals = record {
-  sorts = record { head = nat; constructors = declares (codes "zero") [] ∷ declares (codes "succ") (nat ∷ []) ∷ [] } ∷ [];
-  funs = record { head = declares (codes "plus") (nat ∷ nat ∷ []); result = nat } ∷ [];
-  rules = plus_zero ∷ plus_succ ∷ [];
-  goals = record {
-    head = at_zero (codes "same");
-    binds = binds (codes "x") ∷ binds (codes "y") ∷ [];
-    premises = [];
-    conclusions = record { left = plus_of (single (codes "x")) (single (codes "y")); right = plus_of (single (codes "x")) (single (codes "x")) } ∷ [];
-  } ∷ record {
-    head = at_zero (codes "unit");
-    binds = binds (codes "x") ∷ [];
-    premises = [];
-    conclusions = record { left = plus_of (single (codes "x")) (single (codes "zero")); right = single (codes "x") } ∷ [];
-  } ∷ [];
-}
+raw_naturals = naturals_with (plus_zero_gives (y_at 0) ∷ plus_succ ∷ []) (concludes (codes "same") (binds (codes "x") ∷ binds (codes "y") ∷ []) same_sums ∷ concludes (codes "unit") [] zero_adds_nothing ∷ [])
 
 -- rule plus(zero, y) = x
-abbrev pub unknown_right : RawRule
-unknown_right = record { left = plus_of (single (codes "zero")) (single (codes "y")); right = single (codes "x"); guards = [] }
+abbrev pub loose_rule : RawRule
+loose_rule = plus_zero_gives (x_at 5)
+
+-- goal free : x = y
+abbrev pub free_goal : RawGoal
+free_goal = concludes (codes "free") [] (record { left = x_at 3; right = y_at 4 })
+
+-- naturals with that rule, and behind it a sort that is named Nat once more
+abbrev pub nat_twice : RawSpec
+nat_twice = record { sorts = nat_sort ∷ record { head = name_at (codes "Nat") 9; constructors = [] } ∷ []; funs = plus_function ∷ []; rules = loose_rule ∷ []; goals = [] }
 
 pub record WorkedExamples : Type 0 where
-  pub plain : IsPlain raw_naturals
+  -- raw naturals stand for naturals, and no test finds a fault
   pub stands : StandsFor raw_naturals naturals
-  -- a variable on the right that isn't on the left stands for nothing
-  pub unknown : (rule : Rule) → RuleStands naturals_sig unknown_right rule → RuleIsSorted naturals_sig rule → ⊥
+  pub no_fault : HasNoFault raw_naturals
+  -- the variable x of plus(zero, y) = x isn't on the left side
+  pub loose : HasFirstFault (naturals_with (loose_rule ∷ []) []) 5 NotOnTheLeft
+  -- nothing gives a sort to the variables of x = y, of which x comes first
+  pub free : HasFirstFault (naturals_with [] (free_goal ∷ [])) 3 SortNotInferred
+  -- a repeated sort comes before the fault of a rule, although it stands later in the text
+  pub repeated : HasFirstFault nat_twice 9 RepeatedName

@@ -1,9 +1,31 @@
 -- What holds of all raw specifications.
-use Rattle.std.specs.Prelude.{◌≡◌}
+use Rattle.std.specs.Prelude.{◌≡◌, ℕ, List}
+use Rattle.term_core.specs.Tree.{Tree, tree_size}
 use Rattle.spec_core.specs.declared.records.Spec.{Spec}
+use Rattle.spec_core.specs.Sig.{Sig}
+use Rattle.spec_core.specs.WellSorted.{IsWellSorted}
+use Rattle.spec_grammar.specs.RawTree.{RawTree}
+use Rattle.spec_grammar.specs.Sizes.{words}
+use Rattle.spec_grammar.specs.KeepsLimits.{KeepsLimits}
 use Rattle.spec_grammar.specs.declared.raw.RawSpec.{RawSpec}
+use Rattle.sort_check.specs.Terms.{TermStands}
 use Rattle.sort_check.specs.StandsFor.{StandsFor}
+use Rattle.sort_check.specs.FirstFault.{HasNoFault, HasFirstFault}
+use Rattle.sort_check.specs.declared.faults.SortKind.{SortKind}
 
 -- a raw specification stands for at most one
 abbrev pub OneSpecification : Type 0
 OneSpecification = (raw : RawSpec) (s t : Spec) → StandsFor raw s → StandsFor raw t → s ≡ t
+
+-- a raw specification has one first fault at most, and none where no test finds one
+pub record OneFirstFault : Type 0 where
+  pub one : (raw : RawSpec) (at other : ℕ) (kind another : SortKind) → HasFirstFault raw at kind → HasFirstFault raw other another → (at ≡ other) × (kind ≡ another)
+  pub none : (raw : RawSpec) (at : ℕ) (kind : SortKind) → HasNoFault raw → HasFirstFault raw at kind → ⊥
+
+-- what a raw term stands for has as many symbols and variables as the raw term has words
+abbrev pub KeepsSizes : Type 0
+KeepsSizes = (sig : Sig) (names : List (List ℕ)) (raw : RawTree) (t : Tree) → TermStands sig names raw t → tree_size t ≡ words raw
+
+-- what a raw specification within the limits stands for is well sorted
+abbrev pub StandsWellSorted : Type 0
+StandsWellSorted = (raw : RawSpec) (spec : Spec) → KeepsLimits raw → StandsFor raw spec → IsWellSorted spec

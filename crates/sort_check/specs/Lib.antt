@@ -3,13 +3,22 @@ pub mod Pairwise
 pub mod Signatures
 pub mod Terms
 pub mod Rules
+pub mod Occurrence
+pub mod Inference
 pub mod Goals
-pub mod Limits
 pub mod StandsFor
--- The raw specifications that this crate answers.
-pub mod Plain
+-- The first fault of a raw specification, in the order in which to read it.
+pub mod Entries
+pub mod Words
+pub mod RuleTests
+pub mod Rounds
+pub mod GoalTests
+pub mod DeclarationTests
+pub mod FirstFault
+pub mod Counted
 pub mod Laws
 pub mod Examples
 -- What only this crate's own contracts speak of.
-pub mod Occurrence
+pub mod Answers
+pub mod Over
 pub mod Parts

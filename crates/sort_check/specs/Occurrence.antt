@@ -1,10 +1,9 @@
--- The variables of a raw term by first occurrence.
-use Rattle.std.specs.Prelude.{ℕ, List, [], ◌∷◌, ◌++◌, Option, Some, None, position, map}
+-- The variables of raw terms by first occurrence.
+use Rattle.std.specs.Prelude.{ℕ, List, [], ◌∷◌, ◌++◌, Option, Some, None, position}
 use Rattle.std.specs.Str.{bytes_eq}
-use Rattle.term_core.specs.declared.ids.SortId.{SortId}
-use Rattle.spec_core.specs.declared.records.VarInfo.{VarInfo}
 use Rattle.spec_core.specs.Sig.{Sig, names_of}
 use Rattle.spec_grammar.specs.RawTree.{RawTree, RawTrees, word, none as no_raws, some as more_raws}
+use Rattle.spec_grammar.specs.declared.raw.RawEq.{RawEq}
 
 -- the names with one more, unless it has a place among them
 abbrev pub with_name : List (List ℕ) → List ℕ → Option ℕ → List (List ℕ)
@@ -26,13 +25,7 @@ module _ (sig : Sig) where
     names_after_all seen no_raws = seen
     names_after_all seen (more_raws raw raws) = names_after_all (names_after seen raw) raws
 
--- the sort of naturals, which stands behind Bool
-abbrev pub nat_sort : SortId
-nat_sort = record { 0 = 1 }
-
-abbrev pub nat_variable : List ℕ → VarInfo
-nat_variable name = record { name = name; sort = nat_sort }
-
--- the variables with these names over naturals
-abbrev pub nat_variables : List (List ℕ) → List VarInfo
-nat_variables names = map nat_variable names
+  -- the names after the sides of equations
+  abbrev pub names_after_sides : List (List ℕ) → List RawEq → List (List ℕ)
+  names_after_sides seen [] = seen
+  names_after_sides seen (e ∷ es) = names_after_sides (names_after (names_after seen e.left) e.right) es

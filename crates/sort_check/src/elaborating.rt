@@ -1,75 +1,69 @@
-ghost use Rattle.std.specs.Prelude.{◌≡◌, ◌<◌, ◌↔◌, ◌^◌, IfOk, IfSome, IsTrue, MatchOption, length};
+ghost use Rattle.std.specs.Prelude.{◌≡◌, ℕ, [], IfOk, OnOk, Err};
+ghost use Rattle.term_core.specs.declared.ids.SortId.{SortId};
+ghost use Rattle.spec_core.specs.Sorts.{Sorted};
 ghost use Rattle.spec_core.specs.WellSorted.{IsWellSorted};
-ghost use Rattle.spec_core.specs.declared.records.Spec.{Spec};
-ghost use Rattle.sort_check.specs.Plain.{IsPlain};
+ghost use Rattle.spec_grammar.specs.KeepsLimits.{KeepsLimits};
+ghost use Rattle.sort_check.specs.Answers.{Answers, IsRefusal};
+ghost use Rattle.sort_check.specs.Counted.{HasFewDeclarations};
+ghost use Rattle.sort_check.specs.FirstFault.{spec_tests, ground_tests, HasNoFault, HasFirstFault, TermHasNoFault, TermHasFirstFault};
 ghost use Rattle.sort_check.specs.StandsFor.{StandsFor};
-ghost use Rattle.sort_check.specs.Parts.{IsWhole};
+ghost use Rattle.sort_check.specs.Terms.{TermStands};
+ghost use Rattle.sort_check.specs.declared.faults.SortKind.{SortKind};
+ghost use Rattle.sort_check.specs.declared.faults.SortFault.TheVariants.{Sort};
 
-use crate::declaring::signature_of;
+use crate::declarations::signature_of;
+use crate::faults::{Part, SortFault, SortKind};
 use crate::goals::goals_of;
-use crate::limits::{has_few_arguments, has_few_rules_of_one, have_distinct_names};
-use crate::plain::is_plain;
 use crate::rules::rules_of;
-use spec_core::Spec;
-use spec_grammar::RawSpec;
+use crate::walk::Walk;
+use spec_core::{Signature, Spec};
+use spec_grammar::{RawSpec, RawTerm};
 use std::alloc::Global;
-use term_core::OutOfMemory;
+use term_core::Term;
 
-/// How many rules there may be, and how many goals.
-const NUMBERS: usize = 4_294_967_295;
-
-/// The specification that a raw one over naturals stands for; None where the raw one isn't plain
-/// or stands for none.
-pub fn elaborate(alloc: Global, raw: &RawSpec) -> Result<Option<Spec>, OutOfMemory>
-    ensures stands { IfOk result (λ r. IfSome r (λ spec. IsPlain raw.now × StandsFor raw.now spec)) }
-    ensures sorted { IfOk result (λ r. IfSome r (λ spec. IsWellSorted spec)) }
-    ensures exact { result ≡ Ok None → IsPlain raw.now → (spec : Spec) → StandsFor raw.now spec → ⊥ }
+/// The specification that a raw one stands for, or the first of its faults: declarations come
+/// before rules, and these before goals. It is well sorted where the raw one keeps the limits of
+/// the grammar, as each one that a text derives does.
+pub fn elaborate(alloc: Global, raw: &RawSpec) -> Result<Spec, SortFault>
+    requires few { HasFewDeclarations raw.now }
+    ensures stands { IfOk result (StandsFor raw.now) }
+    ensures clean { OnOk result (HasNoFault raw.now) }
+    ensures sorted { IfOk result (λ spec. KeepsLimits raw.now → IsWellSorted spec) }
+    ensures fault { (at : ℕ) (kind : SortKind) → result ≡ Err (Sort at kind) → HasFirstFault raw.now at kind }
+    ensures exact { (at : ℕ) (kind : SortKind) → HasFirstFault raw.now at kind → IsRefusal at kind result }
 {
-    if is_plain(raw) {
-        spec_of(alloc, raw)
-    } else {
-        Ok(None)
-    }
+    spec_of(alloc, raw)
 }
 
-/// The specification that a plain raw one stands for.
-fn spec_of(alloc: Global, raw: &RawSpec) -> Result<Option<Spec>, OutOfMemory>
-    requires plain { IsPlain raw.now }
-    ensures { IfOk result (λ r. MatchOption r ((spec : Spec) → StandsFor raw.now spec → ⊥) (λ spec. StandsFor raw.now spec)) }
+/// The term without variables that a raw one stands for over a signature, or the first of its
+/// faults. A word alone that is no symbol is an unknown name.
+pub fn elaborate_term(alloc: Global, sig: &Signature, raw: &RawTerm) -> Result<Term, SortFault>
+    ensures stands { IfOk result (TermStands sig.now [] raw.now) }
+    ensures sorted { IfOk result (λ t. (s : SortId) × Sorted sig.now [] t s) }
+    ensures clean { OnOk result (TermHasNoFault sig.now raw.now) }
+    ensures fault { (at : ℕ) (kind : SortKind) → result ≡ Err (Sort at kind) → TermHasFirstFault sig.now raw.now at kind }
+    ensures exact { (at : ℕ) (kind : SortKind) → TermHasFirstFault sig.now raw.now at kind → IsRefusal at kind result }
 {
-    let Some(sig) = signature_of(alloc, raw)? else {
-        return Ok(None);
-    };
-    let Some(rules) = rules_of(alloc, &sig, raw.rules.as_slice())? else {
-        return Ok(None);
-    };
-    let Some(goals) = goals_of(alloc, &sig, raw.goals.as_slice())? else {
-        return Ok(None);
-    };
-    let spec = Spec { sig, rules, goals };
-    if is_whole(&spec) {
-        Ok(Some(spec))
-    } else {
-        Ok(None)
-    }
+    ground_term(alloc, sig, raw)
 }
 
-/// Whether the whole is within the limits and its goals have distinct names.
-fn is_whole(spec: &Spec) -> bool
-    ensures { IsTrue result ↔ IsWhole spec.now }
+fn spec_of(alloc: Global, raw: &RawSpec) -> Result<Spec, SortFault>
+    requires few { HasFewDeclarations raw.now }
+    ensures { Answers (spec_tests raw.now) (λ spec. StandsFor raw.now spec) result }
 {
-    if !have_numbers(spec) || !has_few_arguments(&spec.sig) {
-        return false;
-    }
-    if !has_few_rules_of_one(spec) {
-        return false;
-    }
-    have_distinct_names(spec.goals.as_slice())
+    let sig = signature_of(alloc, raw)?;
+    let rules = rules_of(alloc, &sig, raw.rules.as_slice())?;
+    let goals = goals_of(alloc, &sig, raw.goals.as_slice())?;
+    Ok(Spec { sig, rules, goals })
 }
 
-/// Whether the numbers of rules and of goals fit 32 bits.
-fn have_numbers(spec: &Spec) -> bool
-    ensures { IsTrue result ↔ ((length spec.now.rules < 2 ^ 32) × (length spec.now.goals < 2 ^ 32)) }
+fn ground_term(alloc: Global, sig: &Signature, raw: &RawTerm) -> Result<Term, SortFault>
+    ensures { Answers (ground_tests sig.now raw.now) (λ t. TermStands sig.now [] raw.now t × ((s : SortId) × Sorted sig.now [] t s)) result }
 {
-    spec.rules.len() <= NUMBERS && spec.goals.len() <= NUMBERS
+    let walk = Walk {
+        alloc,
+        sig,
+        part: Part::Ground,
+    };
+    walk.term(&mut Vec::new(alloc), SortKind::WrongSort, raw, None)
 }

@@ -1,21 +1,19 @@
-ghost use Rattle.std.specs.Prelude.{◌≡◌, ◌≤◌, ◌↔◌, ◌<◌, ◌^◌, [], IfOk, IsTrue, List, MatchOption, length};
-ghost use Rattle.std.specs.List.{All};
-ghost use Rattle.spec_core.specs.Declarations.{IsDeclared, IsNewName, AreNewNames};
-ghost use Rattle.spec_core.specs.Sig.{names_of};
-ghost use Rattle.spec_core.specs.TermText.{variable_names};
-ghost use Rattle.spec_core.specs.declared.records.Equation.{Equation};
-ghost use Rattle.spec_core.specs.declared.records.Goal.{Goal};
-ghost use Rattle.spec_core.specs.declared.records.VarInfo.{VarInfo};
+ghost use Rattle.std.specs.Prelude.{◌≡◌, ◌≤◌, [], IfOk, length, map, position};
+ghost use Rattle.std.specs.Str.{bytes_eq};
+ghost use Rattle.spec_core.specs.Declarations.{IsDeclared, IsNewName};
+ghost use Rattle.spec_core.specs.Findings.{each_after, test};
+ghost use Rattle.sort_check.specs.Answers.{Answers};
+ghost use Rattle.sort_check.specs.GoalTests.{bind_tests, binds_tests, bound, clause_tests, goal_tests};
+ghost use Rattle.sort_check.specs.Goals.{GoalStands};
 ghost use Rattle.sort_check.specs.Pairwise.{Pairwise};
-ghost use Rattle.sort_check.specs.Goals.{VariableStands};
-ghost use Rattle.sort_check.specs.Parts.{AreVariablesOf, IsEquationOf, IsGoalOf, bind_names};
+ghost use Rattle.sort_check.specs.declared.faults.SortFault.TheVariants.{Sort};
+ghost use Rattle.sort_check.specs.declared.faults.SortKind.TheVariants.{RepeatedName as repeated_name};
 
-use crate::naming::{copy_name, sort_named, symbol_named};
-use crate::sorting::have_one_sort;
-use crate::terms::term_of;
-use crate::variables::VARIABLES;
-use spec_core::{Equation, Goal, Signature, VarInfo};
-use spec_grammar::{RawBind, RawEq, RawGoal};
+use crate::entries::{Entry, add, copy_name};
+use crate::faults::{Part, SortFault, SortKind, fault};
+use crate::walk::{VARIABLES, Walk};
+use spec_core::{Goal, Signature};
+use spec_grammar::{RawBind, RawGoal, RawName};
 use std::alloc::Global;
 use term_core::{OutOfMemory, Seq};
 
@@ -24,156 +22,105 @@ pub(crate) fn goals_of(
     alloc: Global,
     sig: &Signature,
     raws: &[RawGoal],
-) -> Result<Option<Seq<Goal>>, OutOfMemory>
+) -> Result<Seq<Goal>, SortFault>
     requires declared { IsDeclared sig.now }
-    ensures { IfOk result (λ r. MatchOption r ((goals : List Goal) → Pairwise (IsGoalOf sig.now) raws.now goals → ⊥) (λ goals. Pairwise (IsGoalOf sig.now) raws.now goals)) }
+    ensures { Answers (each_after (goal_tests sig.now) [] raws.now) (λ goals. Pairwise (GoalStands sig.now) raws.now goals) result }
 {
     let mut made = Seq::new(alloc);
-    for raw in raws {
-        match goal_of(alloc, sig, raw)? {
-            Some(goal) => made.push(goal)?,
-            None => return Ok(None),
-        }
+    for (place, raw) in raws.iter().enumerate() {
+        check_name(&raws[..place], &raw.head)?;
+        made.push(goal_of(alloc, sig, raw)?)?;
     }
-    Ok(Some(made))
+    Ok(made)
+}
+
+/// Tests that no goal before has this name.
+fn check_name(before: &[RawGoal], name: &RawName) -> Result<(), SortFault>
+    ensures { Answers (test (Sort name.now.at repeated_name) (¬ (IsNewName name.now.name (map (λ goal. goal.head.name) before.now)))) (λ _. Unit {0}) result }
+{
+    match goal_named(before, name.name.as_bytes()) {
+        Some(_) => Err(fault(name.at, SortKind::RepeatedName)),
+        None => Ok(()),
+    }
+}
+
+/// The first of the goals with this name.
+fn goal_named(goals: &[RawGoal], name: &[u8]) -> Option<usize>
+    ensures { result ≡ position (λ goal. bytes_eq name.now goal.head.name) goals.now }
+{
+    goals
+        .iter()
+        .position(|goal| name == goal.head.name.as_bytes())
 }
 
 /// The goal that a raw one stands for.
-fn goal_of(alloc: Global, sig: &Signature, raw: &RawGoal) -> Result<Option<Goal>, OutOfMemory>
+fn goal_of(alloc: Global, sig: &Signature, raw: &RawGoal) -> Result<Goal, SortFault>
     requires declared { IsDeclared sig.now }
-    ensures { IfOk result (λ r. MatchOption r ((goal : Goal) → IsGoalOf sig.now raw.now goal → ⊥) (λ goal. IsGoalOf sig.now raw.now goal)) }
+    ensures { Answers (clause_tests sig.now raw.now) (λ goal. GoalStands sig.now raw.now goal) result }
 {
-    let Some(vars) = bound_by(alloc, sig, raw.binds.as_slice())? else {
-        return Ok(None);
+    let mut entries = bindings(alloc, sig, raw.binds.as_slice())?;
+    let walk = Walk {
+        alloc,
+        sig,
+        part: Part::Goal,
     };
-    let Some(premises) = equations_of(alloc, sig, vars.as_slice(), raw.premises.as_slice())? else {
-        return Ok(None);
-    };
-    let Some(conclusions) = equations_of(alloc, sig, vars.as_slice(), raw.conclusions.as_slice())?
-    else {
-        return Ok(None);
-    };
-    let name = copy_name(alloc, &raw.head.name)?;
-    Ok(Some(Goal {
-        name,
+    let clause = walk.clause(&mut entries, raw)?;
+    let vars = walk.variables(&mut entries, raw)?;
+    Ok(Goal {
+        name: copy_name(alloc, &raw.head.name)?,
         vars,
-        premises,
-        conclusions,
-    }))
+        premises: clause.premises,
+        conclusions: clause.conclusions,
+    })
 }
 
-/// The variables that bindings stand for.
-fn bound_by(
-    alloc: Global,
-    sig: &Signature,
-    raws: &[RawBind],
-) -> Result<Option<Seq<VarInfo>>, OutOfMemory>
-    ensures { IfOk result (λ r. MatchOption r ((vars : List VarInfo) → AreVariablesOf sig.now raws.now vars → ⊥) (λ vars. AreVariablesOf sig.now raws.now vars)) }
+/// The variables that bindings give, of which there are at most 16.
+fn bindings(alloc: Global, sig: &Signature, raws: &[RawBind]) -> Result<Vec<Entry>, SortFault>
+    ensures few { IfOk result (λ entries. length entries.items ≤ 16) }
+    ensures answer { Answers (binds_tests sig.now raws.now) (λ entries. entries.items ≡ map (bound sig.now) raws.now) result }
 {
-    if raws.len() > VARIABLES || !are_new(sig, raws) {
-        return Ok(None);
-    }
-    variables_bound(alloc, sig, raws)
-}
-
-/// Whether no binding is named like a symbol or like one before it.
-fn are_new(sig: &Signature, raws: &[RawBind]) -> bool
-    ensures { IsTrue result ↔ AreNewNames (names_of sig.now) (bind_names raws.now) }
-{
+    let mut entries = Vec::new(alloc);
     for (place, raw) in raws.iter().enumerate() {
-        let name = raw.name.name.as_bytes();
-        if symbol_named(sig, name).is_some() {
-            return false;
-        }
-        if !is_new(&raws[..place], name) {
-            return false;
-        }
+        check_bind(sig, &raws[..place], raw)?;
+        add(&mut entries, bound_by(alloc, sig, raw)?)?;
     }
-    true
-}
-
-/// Whether no binding has this name.
-fn is_new(raws: &[RawBind], name: &[u8]) -> bool
-    ensures { IsTrue result ↔ All (λ raw. name.now ≡ raw.name.name → ⊥) raws.now }
-{
-    raws.iter().all(|raw| name != raw.name.name.as_bytes())
-}
-
-fn variables_bound(
-    alloc: Global,
-    sig: &Signature,
-    raws: &[RawBind],
-) -> Result<Option<Seq<VarInfo>>, OutOfMemory>
-    ensures { IfOk result (λ r. MatchOption r ((vars : List VarInfo) → Pairwise (VariableStands sig.now) raws.now vars → ⊥) (λ vars. Pairwise (VariableStands sig.now) raws.now vars)) }
-{
-    let mut made = Seq::new(alloc);
-    for raw in raws {
-        match variable_of(alloc, sig, raw)? {
-            Some(variable) => made.push(variable)?,
-            None => return Ok(None),
-        }
-    }
-    Ok(Some(made))
-}
-
-fn variable_of(
-    alloc: Global,
-    sig: &Signature,
-    raw: &RawBind,
-) -> Result<Option<VarInfo>, OutOfMemory>
-    ensures { IfOk result (λ r. MatchOption r ((v : VarInfo) → VariableStands sig.now raw.now v → ⊥) (λ v. VariableStands sig.now raw.now v)) }
-{
-    match sort_named(sig, raw.sort.name.as_bytes()) {
-        Some(sort) => {
-            let name = copy_name(alloc, &raw.name.name)?;
-            Ok(Some(VarInfo { name, sort }))
-        }
-        None => Ok(None),
+    match raws.get(VARIABLES) {
+        Some(raw) => Err(fault(raw.name.at, SortKind::TooManyVariables)),
+        None => Ok(entries),
     }
 }
 
-/// The equations that raw ones stand for over these variables, in their order.
-fn equations_of(
-    alloc: Global,
-    sig: &Signature,
-    vars: &[VarInfo],
-    raws: &[RawEq],
-) -> Result<Option<Seq<Equation>>, OutOfMemory>
-    requires declared { IsDeclared sig.now }
-    requires distinct { AreNewNames [] (variable_names vars.now) }
-    requires few { length vars.now ≤ 16 }
-    ensures { IfOk result (λ r. MatchOption r ((es : List Equation) → Pairwise (IsEquationOf sig.now vars.now) raws.now es → ⊥) (λ es. Pairwise (IsEquationOf sig.now vars.now) raws.now es)) }
+/// Tests that no symbol and no binding before has the variable's name, and that its sort is
+/// declared.
+fn check_bind(sig: &Signature, before: &[RawBind], raw: &RawBind) -> Result<(), SortFault>
+    ensures { Answers (bind_tests sig.now before.now raw.now) (λ _. Unit {0}) result }
 {
-    let mut made = Seq::new(alloc);
-    for raw in raws {
-        match equation_of(alloc, sig, vars, raw)? {
-            Some(equation) => made.push(equation)?,
-            None => return Ok(None),
-        }
+    let name = raw.name.name.as_bytes();
+    if sig.symbol(name).is_some() || bind_named(before, name).is_some() {
+        return Err(fault(raw.name.at, SortKind::RepeatedName));
     }
-    Ok(Some(made))
+    if sig.sort(raw.sort.name.as_bytes()).is_none() {
+        return Err(fault(raw.sort.at, SortKind::UnknownName));
+    }
+    Ok(())
 }
 
-fn equation_of(
-    alloc: Global,
-    sig: &Signature,
-    vars: &[VarInfo],
-    raw: &RawEq,
-) -> Result<Option<Equation>, OutOfMemory>
-    requires declared { IsDeclared sig.now }
-    requires distinct { AreNewNames [] (variable_names vars.now) }
-    requires few { length vars.now ≤ 16 }
-    ensures { IfOk result (λ r. MatchOption r ((e : Equation) → IsEquationOf sig.now vars.now raw.now e → ⊥) (λ e. IsEquationOf sig.now vars.now raw.now e)) }
+/// The first of the bindings with this name.
+fn bind_named(binds: &[RawBind], name: &[u8]) -> Option<usize>
+    ensures { result ≡ position (λ bind. bytes_eq name.now bind.name.name) binds.now }
 {
-    let Some(left) = term_of(alloc, sig, vars, &raw.left)? else {
-        return Ok(None);
-    };
-    let Some(right) = term_of(alloc, sig, vars, &raw.right)? else {
-        return Ok(None);
-    };
-    if have_one_sort(alloc, sig, vars, &left, &right)? {
-        Ok(Some(Equation { left, right }))
-    } else {
-        Ok(None)
-    }
+    binds
+        .iter()
+        .position(|bind| name == bind.name.name.as_bytes())
+}
+
+/// The variable that a binding gives.
+fn bound_by(alloc: Global, sig: &Signature, raw: &RawBind) -> Result<Entry, OutOfMemory>
+    ensures { IfOk result (λ entry. entry ≡ bound sig.now raw.now) }
+{
+    Ok(Entry {
+        name: copy_name(alloc, &raw.name.name)?,
+        at: raw.name.at,
+        sort: sig.sort(raw.sort.name.as_bytes()),
+    })
 }

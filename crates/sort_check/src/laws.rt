@@ -1,12 +1,27 @@
 ghost use Rattle.sort_check.specs.Examples.{WorkedExamples};
-ghost use Rattle.sort_check.specs.Laws.{OneSpecification};
+ghost use Rattle.sort_check.specs.Laws.{KeepsSizes, OneFirstFault, OneSpecification, StandsWellSorted};
 
 /// A raw specification stands for at most one specification.
 pub fn one_specification()
     ensures { OneSpecification }
 {}
 
-/// The definitions say of naturals with addition what one works out by hand.
+/// A raw specification has at most one first fault, and none where no test finds one.
+pub fn one_first_fault()
+    ensures { OneFirstFault }
+{}
+
+/// What a raw term stands for has as many symbols and variables as the raw term has words.
+pub fn sizes_are_kept()
+    ensures { KeepsSizes }
+{}
+
+/// What a raw specification within the limits stands for is well sorted.
+pub fn well_sorted()
+    ensures { StandsWellSorted }
+{}
+
+/// The definitions say of naturals with addition, and of a few faults, what one works out by hand.
 pub fn worked_examples()
     ensures { WorkedExamples }
 {}

@@ -9,5 +9,10 @@ pub mod OneSort
 pub mod Table
 pub mod OneVerdict
 pub mod Fresh
-pub mod SmallConstants
+pub mod LeastSizes
+pub mod Rounds
+pub mod SmallValues
+pub mod Ranges
 pub mod SortedNaturals
+pub mod SmallShapes
+pub mod Findings

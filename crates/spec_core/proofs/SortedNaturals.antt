@@ -8,25 +8,17 @@ use Rattle.spec_core.specs.declared.records.SymInfo.{SymInfo}
 use Rattle.spec_core.specs.declared.records.Equation.{Equation}
 use Rattle.spec_core.specs.Sig.{Sig}
 use Rattle.spec_core.specs.Sorts.{Sorted, SortedAll, IsBuilt}
-use Rattle.spec_core.specs.Constants.{HaveConstants, IsFirstConstant}
 use Rattle.spec_core.specs.Small.{HasSmallValue, AllHaveSmallValues, IsFirstWithout, sort_of_number}
 use Rattle.spec_core.specs.Declarations.{AreFresh, IsDeclared, bool_symbol}
 use Rattle.spec_core.specs.WellSorted.{RuleIsSorted, GoalIsSorted, GoalNamesAreDistinct, IsWellSorted, HasFewArguments, Occurs}
 use Rattle.spec_core.specs.Naturals.{nat, declares, nat_sorts, nat_constructors, nat_function, naturals_sig, repeated_sig, endless_sig, naturals, twice, plus_zero_rule, plus_succ_rule, loose_rule, same_goal, unit_goal, mixed_goal, zero_term, plus_term}
-use Rattle.spec_core.proofs.SmallConstants.{constants_small}
 
 -- The signature.
 
-first_constant : IsFirstConstant nat_constructors 1 0
-first_constant = record { name = codes "zero"; info = declares []; there = refl; result = refl; constant = refl; first = λ k e h. absurd (omega arith) }
-
-pub have_constants : HaveConstants nat_sorts nat_constructors
-have_constants zero a b = absurd (omega arith)
-have_constants (suc zero) a b = (0, first_constant)
-have_constants (suc (suc n)) a b = absurd (omega arith)
-
 small : AllHaveSmallValues naturals_sig
-small = constants_small nat_sorts nat_constructors (nat_function (codes "plus")) have_constants
+small zero h = (app 0 none, ((_, refl, refl, tt), (omega arith, tt)), omega arith)
+small (suc zero) h = (zero_term, ((_, refl, refl, tt), (omega arith, tt)), omega arith)
+small (suc (suc n)) h = absurd (omega arith)
 
 pub declared : IsDeclared naturals_sig
 declared = record {

@@ -1,9 +1,9 @@
--- What the definitions say of naturals with addition.
+-- What the definitions say of naturals with addition, and of a few sorts.
 use Rattle.std.specs.Prelude.{◌≡◌, [], ◌∷◌, true, false, codes}
-use Rattle.term_core.specs.Tree.{Tree, var}
+use Rattle.term_core.specs.Tree.{Tree, var, app, none}
 use Rattle.spec_core.specs.declared.records.Verdict.TheVariants.{Holds, Fails}
 use Rattle.spec_core.specs.Sorts.{Sorted, IsValue}
-use Rattle.spec_core.specs.Small.{HasSmallValue, IsFirstWithout}
+use Rattle.spec_core.specs.Small.{HasSmallValue, IsFirstWithout, IsSmall}
 use Rattle.spec_core.specs.Declarations.{IsDeclared, bool_sort}
 use Rattle.spec_core.specs.WellSorted.{Numbered, RuleIsSorted, GoalIsSorted, IsWellSorted}
 use Rattle.spec_core.specs.Gives.{Gives}
@@ -14,6 +14,7 @@ use Rattle.spec_core.specs.Verdict.{IsVerdict}
 use Rattle.spec_core.specs.Order.{is_small, values, substitutions}
 use Rattle.spec_core.specs.TermText.{term_text}
 use Rattle.spec_core.specs.Naturals.{nat, naturals_sig, repeated_sig, endless_sig, naturals, twice, overlapping, plus_zero_rule, plus_succ_rule, loose_rule, same_goal, mixed_goal, number, zero_term, succ_term, plus_term}
+use Rattle.spec_core.specs.Shapes.{shape, tree_sig, color_sig, wide_sig}
 
 pub record WorkedExamples : Type 0 where
   -- succ(zero) is a value of the sort Nat, and plus(x, zero) has this sort where x has it
@@ -29,6 +30,12 @@ pub record WorkedExamples : Type 0 where
   -- Nat has a small value, and has none where succ is its one constructor
   pub nat_has_a_small_value : HasSmallValue naturals_sig nat
   pub no_small_value : IsFirstWithout endless_sig nat
+  -- nor has a sort of which each value has 256 symbols
+  pub no_small_wide_value : IsFirstWithout (wide_sig 255) shape
+  -- the small value of Nat is zero, that of Tree = node(Tree, Tree) | leaf is leaf, and that of Color = red | green is red
+  pub small_nat : IsSmall naturals_sig nat zero_term
+  pub small_tree : IsSmall tree_sig shape (app 3 none)
+  pub small_color : IsSmall color_sig shape (app 2 none)
   -- a value of 255 symbols is small, and one of 256 isn't
   pub last_small : is_small (number 254) ≡ true
   pub first_large : is_small (number 255) ≡ false

@@ -13,7 +13,10 @@ pub mod Order
 pub mod TermText
 pub mod Laws
 pub mod Naturals
+pub mod Shapes
 pub mod Examples
+-- The first of several faults, for the layers above that look for one.
+pub mod Findings
 -- What only this crate's own contracts speak of.
-pub mod Constants
+pub mod Sizes
 pub mod Pairs

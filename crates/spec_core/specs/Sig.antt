@@ -1,5 +1,6 @@
 -- What a signature declares.
-use Rattle.std.specs.Prelude.{ℕ, ◌<◌, List, Option, slice_get, option_map, map, length}
+use Rattle.std.specs.Prelude.{◌≡◌, ℕ, ◌<◌, List, Option, Some, slice_get, option_map, map, length}
+use Rattle.std.specs.List.{AllByRecursion}
 use Rattle.term_core.specs.declared.ids.SortId.{SortId}
 use Rattle.spec_core.specs.declared.records.SymInfo.{SymInfo}
 
@@ -19,6 +20,10 @@ IsConstructor sig f = f < sig.constructors
 -- the sort is one of the signature's
 abbrev pub IsSort : Sig → SortId → Type 0
 IsSort sig s = s.0 < length sig.sorts
+
+-- the sorts of each symbol are sorts of the signature
+abbrev pub SortsAreInRange : Sig → Type 0
+SortsAreInRange sig = (f : ℕ) (i : SymInfo) → info_of sig f ≡ Some i → IsSort sig i.result × AllByRecursion (IsSort sig) i.args
 
 -- the names of the symbols, by number
 abbrev pub names_of : Sig → List (List ℕ)

@@ -2,14 +2,15 @@ ghost use Rattle.std.specs.Prelude.{◌≡◌, ◌+◌, ◌<◌, ◌^◌, ◌∷
 ghost use Rattle.std.specs.Bool.{MatchBool};
 ghost use Rattle.std.specs.List.{AllByRecursion};
 ghost use Rattle.term_core.specs.declared.ids.SortId.{SortId};
-ghost use Rattle.spec_core.specs.Constants.{HaveConstants};
 ghost use Rattle.spec_core.specs.Declarations.{IsNew, AreFresh, IsNewName, AreNewNames, bool_symbol, bool_symbols, all_symbols, declared_by, AreDistinct, IsBelow, IsNotBool, IsDeclared};
 ghost use Rattle.spec_core.specs.Pairs.{pairs_of};
 ghost use Rattle.spec_core.specs.Small.{IsFirstWithout};
 ghost use Rattle.spec_core.specs.declared.building.BuildError.TheVariants.{OutOfMemory as out_of_memory};
 
 use crate::records::SymInfo;
+use crate::small::first_without;
 use crate::symbols::Signature;
+use crate::tables::Tables;
 use indexmap::IndexMap;
 use std::alloc::Global;
 use term_core::{Name, OutOfMemory, Seq, SortId};
@@ -35,8 +36,7 @@ impl From<OutOfMemory> for BuildError {
 
 impl Signature {
     /// Makes the signature of these declarations, with `Bool`, `true` and `false` before them.
-    /// `Repeated` goes before `NoSmallValue`, which can't come while each sort begins with a
-    /// constant.
+    /// `Repeated` goes before `NoSmallValue`.
     pub fn build(
         alloc: Global,
         sorts: Seq<Name>,
@@ -48,7 +48,6 @@ impl Signature {
         requires constructors_in_range { AllByRecursion (IsBelow (1 + length sorts)) constructors }
         requires functions_in_range { AllByRecursion (IsBelow (1 + length sorts)) functions }
         requires no_more_booleans { AllByRecursion IsNotBool constructors }
-        requires constants { HaveConstants sorts constructors }
 
         ensures made { IfOk result (λ sig. sig ≡ declared_by sorts constructors functions) }
         ensures declared { IfOk result (λ sig. IsDeclared sig) }
@@ -58,20 +57,40 @@ impl Signature {
         ensures repeated { result ≡ Err BuildError.Repeated → AreDistinct sorts constructors functions → ⊥ }
         ensures no_small_value { (s : SortId) → result ≡ Err (BuildError.NoSmallValue s) → AreDistinct sorts constructors functions × IsFirstWithout (declared_by sorts constructors functions) s }
     {
-        let count = 2 + constructors.len() as u32;
-        let Some(names) = all_sort_names(alloc, sorts.into_vec())? else {
+        let Some(tables) = all_tables(alloc, sorts, constructors, functions)? else {
             return Err(BuildError::Repeated);
         };
-        let Some(table) = all_symbol_table(alloc, constructors.into_vec(), functions.into_vec())?
-        else {
-            return Err(BuildError::Repeated);
-        };
-        Ok(Signature {
-            sorts: names,
-            table,
-            constructors: count,
-        })
+        if let Some(sort) = first_without(alloc, &tables)? {
+            return Err(BuildError::NoSmallValue { sort });
+        }
+        Ok(Signature { tables })
     }
+}
+
+/// The tables of these declarations with those of `Bool`, or None where a name occurs twice.
+fn all_tables(
+    alloc: Global,
+    sorts: Seq<Name>,
+    constructors: Seq<(Name, SymInfo)>,
+    functions: Seq<(Name, SymInfo)>,
+) -> Result<Option<Tables>, OutOfMemory>
+    requires few_sorts { length sorts + 1 < 2 ^ 32 }
+    requires few_symbols { length constructors + length functions + 2 < 2 ^ 32 }
+    ensures { IfOk result (λ r. MatchOption r (AreDistinct sorts constructors functions → ⊥) (λ tables. (tables ≡ declared_by sorts constructors functions) × AreDistinct sorts constructors functions)) }
+{
+    let count = 2 + constructors.len() as u32;
+    let Some(names) = all_sort_names(alloc, sorts.into_vec())? else {
+        return Ok(None);
+    };
+    let Some(symbols) = all_symbol_table(alloc, constructors.into_vec(), functions.into_vec())?
+    else {
+        return Ok(None);
+    };
+    Ok(Some(Tables {
+        sorts: names,
+        symbols,
+        constructors: count,
+    }))
 }
 
 /// The names of all sorts, or None where one occurs twice.

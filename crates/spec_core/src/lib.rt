@@ -1,9 +1,9 @@
 //! Specifications, and the definitions on which every answer of the prover rests.
 //!
 //! It stands on term_core and on `indexmap`. The folder `specs/` has a file for each notion: what a
-//! signature declares, sorts and values, well sorted specifications, evaluation with its cost,
-//! truth, overlap, whole groups, the verdict within a budget, the order of a search and the text of
-//! a term. The layers above use these definitions, and of [`Signature`] that a symbol's number is
+//! signature declares, sorts and values, small values, well sorted specifications, evaluation with
+//! its cost, truth, overlap, whole groups, the verdict within a budget, the order of a search and
+//! the text of a term. The layers above use these definitions, and of [`Signature`] that a symbol's number is
 //! its place in the table and that each call is exact against the lists of declarations.
 #![tactic(auto)]
 
@@ -11,12 +11,14 @@ mod building;
 mod laws;
 mod printing;
 mod records;
+mod small;
 mod sorting;
 mod symbols;
+mod tables;
 #[cfg(test)]
 mod tests;
 
 pub use building::BuildError;
-pub use laws::{one_value, worked_examples};
+pub use laws::{one_small_value, one_value, worked_examples};
 pub use records::{Equation, Goal, Guard, Rule, Spec, SymInfo, VarInfo, Verdict};
 pub use symbols::Signature;

@@ -6,3 +6,4 @@ pub mod Unique
 pub mod ItemLemmas
 pub mod SizeLemmas
 pub mod Readings
+pub mod KeepsLimits

@@ -1,5 +1,5 @@
 -- Small texts and faults.
-use Rattle.std.specs.Prelude.{◌≡◌, ℕ, List, [], ◌∷◌, Some, None, codes}
+use Rattle.std.specs.Prelude.{◌≡◌, ℕ, zero, suc, List, [], ◌∷◌, Some, None, codes}
 use Rattle.spec_grammar.specs.declared.keys.Key.TheVariants.{Spike, Goal, One, LeftPar, RightPar, Comma, Colon, Equals, Arrow}
 use Rattle.spec_grammar.specs.declared.limits.LimitKind.TheVariants as limit
 use Rattle.spec_grammar.specs.declared.raw.RawEq.{RawEq}
@@ -9,6 +9,7 @@ use Rattle.spec_grammar.specs.Items.{Item, Word, Sign}
 use Rattle.spec_grammar.specs.Limits.{term_mark, conclusion_mark}
 use Rattle.spec_grammar.specs.Grammar.{IsSpecText, IsTermText}
 use Rattle.spec_grammar.specs.Derives.{Derives, IsFault}
+use Rattle.spec_grammar.specs.KeepsLimits.{raw_depth, TermKeepsLimits}
 
 -- `f(x, y)` at the places of its words
 abbrev pub pair_term : RawTree
@@ -16,6 +17,11 @@ pair_term = word (codes "f") 0 (some (word (codes "x") 2 none) (some (word (code
 
 abbrev pub pair_items : List Item
 pair_items = Word (codes "f") 0 ∷ Sign LeftPar ∷ Word (codes "x") 2 ∷ Sign Comma ∷ Word (codes "y") 5 ∷ Sign RightPar ∷ []
+
+-- `f(..f(x)..)`, with n words above the last
+abbrev pub chain : ℕ → RawTree
+chain zero = word (codes "x") 0 none
+chain (suc n) = word (codes "f") 0 (some (chain n) none)
 
 -- `x = y` at these places
 abbrev pub equation : ℕ → ℕ → RawEq
@@ -43,3 +49,8 @@ pub record WorkedExamples : Type 0 where
   pub ninth : term_mark 1 8 ≡ Some limit.Arity
   pub deep : term_mark 64 0 ≡ Some limit.Nesting
   pub fifth : conclusion_mark 4 ≡ Some limit.Conclusions
+  -- a word alone has the depth 1; the deepest term has 63 words above its last, and with 64 it is too deep
+  pub depth_of_word : raw_depth (word (codes "x") 0 none) ≡ 1
+  pub depth_of_pair : raw_depth pair_term ≡ 2
+  pub deepest : TermKeepsLimits (chain 63)
+  pub too_deep : TermKeepsLimits (chain 64) → ⊥

@@ -5,6 +5,7 @@ pub mod Limits
 pub mod Grammar
 pub mod Derives
 pub mod Sizes
+pub mod KeepsLimits
 pub mod Laws
 pub mod Examples
 -- A stack of symbols for readers: no text is told by it.

@@ -4,8 +4,8 @@
 //! declarations in their order, with each name as it stands there and its place. The folder
 //! `specs/` has the grammar with its limits as relations on whole token lists, what a fault of a
 //! text is, and a stack of grammar symbols that a reader goes along. The layers above use what a
-//! text derives, that it derives one raw specification at most, and that it has one fault at most,
-//! and none where it derives one.
+//! text derives, that it derives one raw specification at most, which keeps the limits, and that it
+//! has one fault at most, and none where it derives one.
 #![tactic(auto)]
 
 mod keys;
@@ -15,7 +15,7 @@ mod raw;
 mod terms;
 
 pub use keys::Key;
-pub use laws::{one_reading, worked_examples};
+pub use laws::{one_reading, within_limits, worked_examples};
 pub use limits::LimitKind;
 pub use raw::{
     RawBind, RawEq, RawFun, RawGoal, RawGuard, RawName, RawNames, RawRule, RawSort, RawSpec,

@@ -1,5 +1,5 @@
 -- Claims on goals, and the status that they give.
-use Rattle.std.proofs.Common.{◌≡◌, ◌≢◌, ℕ, zero, suc, ◌+◌, ◌<◌, min, List, [], ◌∷◌, ◌++◌, Some, None, ◌⊎◌, inl, inr, refl, ap, sym, ◌∙◌, subst, arith, length, take, add-one}
+use Rattle.std.proofs.Common.{◌≡◌, ◌≢◌, ℕ, zero, suc, ◌+◌, ◌<◌, List, [], ◌∷◌, ◌++◌, Some, None, inl, inr, refl, sym, subst, arith, length, take, add-one}
 use Rattle.std.specs.Prelude.{slice_get, option_map}
 use Rattle.std.proofs.lemmas.Option.{slice_get_within}
 use Rattle.term_core.specs.Tree.{Tree, Trees, var, app, none, some}
@@ -8,7 +8,7 @@ use Rattle.spec_core.specs.declared.records.SymInfo.{SymInfo}
 use Rattle.spec_core.specs.declared.records.VarInfo.{VarInfo}
 use Rattle.spec_core.specs.declared.records.Goal.{Goal}
 use Rattle.spec_core.specs.declared.records.Spec.{Spec}
-use Rattle.spec_core.specs.Sig.{Sig, info_of}
+use Rattle.spec_core.specs.Sig.{Sig}
 use Rattle.spec_core.specs.Sorts.{Sorted, SortedAll}
 use Rattle.spec_core.specs.Overlap.{NoOverlap}
 use Rattle.spec_core.specs.Groups.{GroupsAreWhole}
@@ -99,7 +99,7 @@ symbol_in_range (e ∷ table) (suc f) i h = omega (arith, symbol_in_range table 
 
 -- values have symbols of the signature
 mutual
-  sorted_in_range : (sig : Sig) (ctx : List SortId) (t : Tree) (s : SortId) → Sorted sig ctx t s → SymbolsAreInRange sig t
+  pub sorted_in_range : (sig : Sig) (ctx : List SortId) (t : Tree) (s : SortId) → Sorted sig ctx t s → SymbolsAreInRange sig t
   sorted_in_range sig ctx (var n) s p = tt
   sorted_in_range sig ctx (app f ts) s p = (symbol_in_range sig.table f p.0 p.1, all_in_range sig ctx ts p.0.args p.3)
 

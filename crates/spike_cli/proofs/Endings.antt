@@ -1,6 +1,6 @@
 -- What each ending of a call says.
-use Rattle.std.proofs.Common.{◌≡◌, ◌≤◌, ◌<◌, ℕ, List, [], ◌∷◌, ◌++◌, Option, Some, None, ◌⊎◌, inl, inr, refl, sym, subst, length}
-use Rattle.std.specs.Prelude.{Result, Ok, Err, OnOk, OnErr, IfSome}
+use Rattle.std.proofs.Common.{◌≡◌, ◌≤◌, ℕ, List, Option, inl, inr, refl, sym, subst, length}
+use Rattle.std.specs.Prelude.{Result, Ok, Err, OnOk, OnErr}
 use Rattle.io_core.specs.Count.{Rose}
 use Rattle.io_core.specs.Piece.{Appended, AppendedPrefix}
 use Rattle.io_core.specs.declared.faults.WriteError.{WriteError}
@@ -10,14 +10,17 @@ use Rattle.spike_cli.specs.declared.statuses.Status.{Status}
 use Rattle.spike_cli.specs.declared.statuses.Status.TheVariants as status
 use Rattle.spike_cli.specs.declared.stops.Stop.{Stop}
 use Rattle.spike_cli.specs.declared.stops.Stop.TheVariants.{WriteFault, OutOfMemory}
-use Rattle.spike_cli.specs.Words.{AsksToRefute, AskNothing}
+use Rattle.spike_cli.specs.declared.claims.Claim.{Claim}
+use Rattle.spike_cli.specs.Claims.{IsStatusOfClaims}
+use Rattle.spike_cli.specs.Words.{Task, refuting, evaluating, Asks}
+use Rattle.spike_cli.specs.Evaluations.{IsEvaluation, valued, spent, refused}
 use Rattle.spike_cli.specs.Parts.{AppendsPartOf}
-use Rattle.spike_cli.specs.Runs.{BeginsReport, IsReport, TextStandsFor, IsRefusalOf, MayWriteFor, faulty, refusal, reports, Reported, AreBytesOf, ReadsFile, MayWrite, for_file, Means, file_limit}
-use Rattle.spike_cli.specs.Refusals.{IsFaultLine}
-use Rattle.spec_grammar.specs.Grammar.{IsSpecText}
-use Rattle.spec_syntax.specs.Faults.{TellsFault}
-use Rattle.spec_syntax.specs.declared.fault.SyntaxFault.{SyntaxFault}
-use Rattle.spec_syntax.specs.declared.fault.SyntaxFault.TheVariants as faults
+use Rattle.spike_cli.specs.Meanings.{TextStandsFor}
+use Rattle.spike_cli.specs.Refusals.{IsRefusalOf}
+use Rattle.spike_cli.specs.Tellings.{Tells, IsLineOf}
+use Rattle.spike_cli.specs.declared.refusals.Refusal.{Refusal}
+use Rattle.spike_cli.specs.declared.refusals.Refusal.TheVariants.{Line, OutOfMemory as NoMemory}
+use Rattle.spike_cli.specs.Runs.{IsEnd, MayWriteOn, MayWriteFor, refusal, on_spec, Ended, RefusedBytes, AreBytesOf, ReadsFile, MayWrite, for_file, Means, file_limit}
 use Rattle.spike_cli.specs.Stops.{Stopped, Refuses, MeansFor, status_ended, status_of_stop}
 
 -- a part of a text of one kind is one of another kind
@@ -39,53 +42,77 @@ module _ (Holds : Status → Type 0) (IsText : List ℕ → Type 0) (old new : O
 pub line_refuses : (IsText : List ℕ → Type 0) (line : List ℕ) (old new : Option (List ℕ)) (writes writes' : ℕ) (result : Status) → IsText line → (wrote : Result Unit WriteError) → OnOk wrote (Appended old new line) → OnErr wrote (AppendedPrefix old new line) → (wrote ≡ Err write.Failed → Rose writes writes') → result ≡ status_ended status.Refused wrote → Refuses IsText old new writes writes' result
 line_refuses IsText line old new writes writes' result is wrote ok err failed e = line_ends (Refuses IsText old new writes writes') IsText old new writes writes' (λ r p. (r, p)) (λ p. p) status.Refused result line is (λ a. (line, is, a)) wrote ok err failed e
 
--- the line of a fault that is told is a refusal of the bytes
-fault_refuses : (bytes : List ℕ) (fault : SyntaxFault) → TellsFault IsSpecText bytes fault → (line : List ℕ) → IsFaultLine fault line → IsRefusalOf bytes line
-fault_refuses bytes (faults.Text at) h line is = faulty (faults.Text at) h is
-fault_refuses bytes (faults.Syntax at) h line is = faulty (faults.Syntax at) h is
-fault_refuses bytes (faults.Limit at what) h line is = faulty (faults.Limit at what) h is
-fault_refuses bytes faults.OutOfMemory h line is = absurd is
+-- the line that a refusal has is one of those that it tells
+pub line_told : (IsLine : List ℕ → Type 0) (r : Refusal) → Tells IsLine r → (text : List ℕ) → IsLineOf r text → IsLine text
+line_told IsLine (Line line) h text is = subst IsLine (sym is) h
+line_told IsLine NoMemory h text is = absurd is
 
-module _ (bytes : List ℕ) (old new : Option (List ℕ)) (writes writes' : ℕ) where
-  pub line_means_for : (result : Status) (line : List ℕ) → IsRefusalOf bytes line → (wrote : Result Unit WriteError) → OnOk wrote (Appended old new line) → OnErr wrote (AppendedPrefix old new line) → (wrote ≡ Err write.Failed → Rose writes writes') → result ≡ status_ended status.Refused wrote → MeansFor bytes old new writes writes' result
-  line_means_for result line is wrote ok err failed e = line_ends (MeansFor bytes old new writes writes') (MayWriteFor bytes) old new writes writes' (λ r p. (r, p)) (λ p. p) status.Refused result line (refusal is) (λ a. (line, is, a)) wrote ok err failed e
+-- a status with which no task ends
+abbrev IsNoEnd : Status → Type 0
+IsNoEnd status.No = Unit {0}
+IsNoEnd status.ReadFault = Unit {0}
+IsNoEnd status.WriteFault = Unit {0}
+IsNoEnd status.Usage = Unit {0}
+IsNoEnd status.OutOfMemory = Unit {0}
+IsNoEnd _ = ⊥
 
-  -- the line of a fault
-  pub refused_means : (fault : SyntaxFault) → TellsFault IsSpecText bytes fault → (result : Status) → Refuses (IsFaultLine fault) old new writes writes' result → MeansFor bytes old new writes writes' result
-  refused_means fault told status.Done h = absurd h
-  refused_means fault told status.Refuted h = absurd h
-  refused_means fault told status.Open h = absurd h
-  refused_means fault told status.Refused h = (h.0, fault_refuses bytes fault told h.0 h.1, h.2)
-  refused_means fault told status.No h = absurd h
-  refused_means fault told status.ReadFault h = absurd h
-  refused_means fault told status.WriteFault h = (h.0, part_of (IsFaultLine fault) (MayWriteFor bytes) old new (λ t is. refusal (fault_refuses bytes fault told t is)) h.1)
-  refused_means fault told status.Usage h = absurd h
-  refused_means fault told status.OutOfMemory h = part_of (IsFaultLine fault) (MayWriteFor bytes) old new (λ t is. refusal (fault_refuses bytes fault told t is)) h
+no_evaluation : (spec : Spec) (term : List ℕ) (steps : ℕ) (text : List ℕ) (s : Status) → IsNoEnd s → IsEvaluation spec term steps text s → ⊥
+no_evaluation spec term steps text s n (valued t v k stands gives within) = n
+no_evaluation spec term steps text s n (spent t stands none) = n
+no_evaluation spec term steps text s n (refused is) = n
+
+no_claims : (claims : List Claim) (s : Status) → IsNoEnd s → IsStatusOfClaims claims s → ⊥
+no_claims claims status.No n h = h
+no_claims claims status.ReadFault n h = h
+no_claims claims status.WriteFault n h = h
+no_claims claims status.Usage n h = h
+no_claims claims status.OutOfMemory n h = h
+no_claims claims status.Done n h = n
+no_claims claims status.Refuted n h = n
+no_claims claims status.Open n h = n
+no_claims claims status.Refused n h = n
+
+no_end : (task : Task) (spec : Spec) (text : List ℕ) (s : Status) → IsNoEnd s → IsEnd task spec text s → ⊥
+no_end refuting spec text s n is = no_claims is.claims s n is.answers
+no_end (evaluating term steps) spec text s n is = no_evaluation spec term steps text s n is
+
+module _ (task : Task) (bytes : List ℕ) (old new : Option (List ℕ)) (writes writes' : ℕ) where
+  -- the line of a refusal
+  pub refused_means : (r : Refusal) → Tells (IsRefusalOf bytes) r → (result : Status) → Refuses (IsLineOf r) old new writes writes' result → MeansFor task bytes old new writes writes' result
+  refused_means r told status.Done h = absurd h
+  refused_means r told status.Refuted h = absurd h
+  refused_means r told status.Open h = absurd h
+  refused_means r told status.Refused h = inl (h.0, line_told (IsRefusalOf bytes) r told h.0 h.1, h.2)
+  refused_means r told status.No h = absurd h
+  refused_means r told status.ReadFault h = absurd h
+  refused_means r told status.WriteFault h = (h.0, part_of (IsLineOf r) (MayWriteFor task bytes) old new (λ t is. refusal (line_told (IsRefusalOf bytes) r told t is)) h.1)
+  refused_means r told status.Usage h = absurd h
+  refused_means r told status.OutOfMemory h = part_of (IsLineOf r) (MayWriteFor task bytes) old new (λ t is. refusal (line_told (IsRefusalOf bytes) r told t is)) h
 
   module _ (spec : Spec) (stands : TextStandsFor bytes spec) where
-    made : (s : Status) (text : List ℕ) → IsReport spec text s → Appended old new text → Reported bytes old new s
-    made s text is done = record { spec = spec; stands = stands; text = text; report = is; appended = done }
+    made : (s : Status) (text : List ℕ) → IsEnd task spec text s → Appended old new text → Ended task bytes old new s
+    made s text is done = record { spec = spec; stands = stands; text = text; is_end = is; appended = done }
 
-    -- a report that was written whole
-    pub report_means : (s : Status) (text : List ℕ) → IsReport spec text s → Appended old new text → MeansFor bytes old new writes writes' s
-    report_means status.Done text is done = made status.Done text is done
-    report_means status.Refuted text is done = made status.Refuted text is done
-    report_means status.Open text is done = made status.Open text is done
-    report_means status.Refused text is done = absurd is.answers
-    report_means status.No text is done = absurd is.answers
-    report_means status.ReadFault text is done = absurd is.answers
-    report_means status.WriteFault text is done = absurd is.answers
-    report_means status.Usage text is done = absurd is.answers
-    report_means status.OutOfMemory text is done = absurd is.answers
+    -- a task's text that was written whole
+    pub finished_means : (s : Status) (text : List ℕ) → IsEnd task spec text s → Appended old new text → MeansFor task bytes old new writes writes' s
+    finished_means status.Done text is done = made status.Done text is done
+    finished_means status.Refuted text is done = made status.Refuted text is done
+    finished_means status.Open text is done = made status.Open text is done
+    finished_means status.Refused text is done = inr (made status.Refused text is done)
+    finished_means status.No text is done = no_end task spec text status.No tt is
+    finished_means status.ReadFault text is done = absurd (no_end task spec text status.ReadFault tt is)
+    finished_means status.WriteFault text is done = absurd (no_end task spec text status.WriteFault tt is)
+    finished_means status.Usage text is done = no_end task spec text status.Usage tt is
+    finished_means status.OutOfMemory text is done = absurd (no_end task spec text status.OutOfMemory tt is)
 
-    part : AppendsPartOf (BeginsReport spec) old new → AppendsPartOf (MayWriteFor bytes) old new
-    part p = part_of (BeginsReport spec) (MayWriteFor bytes) old new (λ t b. reports spec stands b) p
+    part : AppendsPartOf (MayWriteOn task spec) old new → AppendsPartOf (MayWriteFor task bytes) old new
+    part p = part_of (MayWriteOn task spec) (MayWriteFor task bytes) old new (λ t b. on_spec spec stands b) p
 
-    -- a report that stopped before its end
-    pub stopped_means : (stop : Stop) (result : Status) → Stopped old new writes writes' (BeginsReport spec) stop → result ≡ status_of_stop stop → MeansFor bytes old new writes writes' result
-    stopped_means stop result s e = subst (MeansFor bytes old new writes writes') (sym e) (by stop s)
+    -- one that stopped before its end
+    pub stopped_means : (stop : Stop) (result : Status) → Stopped old new writes writes' (MayWriteOn task spec) stop → result ≡ status_of_stop stop → MeansFor task bytes old new writes writes' result
+    stopped_means stop result s e = subst (MeansFor task bytes old new writes writes') (sym e) (by stop s)
       where
-        by : (stop : Stop) → Stopped old new writes writes' (BeginsReport spec) stop → MeansFor bytes old new writes writes' (status_of_stop stop)
+        by : (stop : Stop) → Stopped old new writes writes' (MayWriteOn task spec) stop → MeansFor task bytes old new writes writes' (status_of_stop stop)
         by WriteFault s = (s.0, part s.1)
         by OutOfMemory s = part s
 
@@ -94,18 +121,18 @@ module _ (words : List (List ℕ)) (held : List ℕ → Option (List ℕ)) (read
   line_means s result line may done wrote ok err failed e = line_ends (Means words held reads reads' old new writes writes') (MayWrite words held) old new writes writes' (λ r p. (r, p)) (λ p. p) s result line may done wrote ok err failed e
 
   -- what was done on the bytes of the file that the words name
-  module _ (file bytes : List ℕ) (asks : AsksToRefute words file) (read : AreBytesOf (held file) bytes) (within : length bytes ≤ file_limit) where
-    with_file : (Holds : List ℕ → Type 0) → Holds bytes → ReadsFile words held Holds
-    with_file Holds h = record { file = file; asked = asks; bytes = bytes; read = read; within = within; holds = h }
+  module _ (task : Task) (file bytes : List ℕ) (asks : Asks words file task) (read : AreBytesOf (held file) bytes) (within : length bytes ≤ file_limit) where
+    with_file : (Holds : Task → List ℕ → Type 0) → Holds task bytes → ReadsFile words held Holds
+    with_file Holds h = record { file = file; task = task; asked = asks; bytes = bytes; read = read; within = within; holds = h }
 
-    file_part : AppendsPartOf (MayWriteFor bytes) old new → AppendsPartOf (MayWrite words held) old new
-    file_part p = part_of (MayWriteFor bytes) (MayWrite words held) old new (λ t m. for_file (with_file (λ b. MayWriteFor b t) m)) p
+    file_part : AppendsPartOf (MayWriteFor task bytes) old new → AppendsPartOf (MayWrite words held) old new
+    file_part p = part_of (MayWriteFor task bytes) (MayWrite words held) old new (λ t m. for_file (with_file (λ k b. MayWriteFor k b t) m)) p
 
-    pub file_means : (s : Status) → MeansFor bytes old new writes writes' s → Means words held reads reads' old new writes writes' s
-    file_means status.Done h = with_file (λ b. Reported b old new status.Done) h
-    file_means status.Refuted h = with_file (λ b. Reported b old new status.Refuted) h
-    file_means status.Open h = with_file (λ b. Reported b old new status.Open) h
-    file_means status.Refused h = inr (with_file (λ b. (line : List ℕ) × IsRefusalOf b line × Appended old new line) h)
+    pub file_means : (s : Status) → MeansFor task bytes old new writes writes' s → Means words held reads reads' old new writes writes' s
+    file_means status.Done h = with_file (λ k b. Ended k b old new status.Done) h
+    file_means status.Refuted h = with_file (λ k b. Ended k b old new status.Refuted) h
+    file_means status.Open h = with_file (λ k b. Ended k b old new status.Open) h
+    file_means status.Refused h = inr (with_file (λ k b. RefusedBytes k b old new) h)
     file_means status.No h = h
     file_means status.ReadFault h = absurd h
     file_means status.WriteFault h = (h.0, file_part h.1)

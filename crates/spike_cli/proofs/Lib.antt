@@ -1,5 +1,9 @@
 pub mod Walks
 pub mod Pieces
 pub mod ClaimLemmas
+pub mod WordLemmas
+pub mod Told
 pub mod Endings
+pub mod EvaluationLemmas
+pub mod OneText
 pub mod OneEnding

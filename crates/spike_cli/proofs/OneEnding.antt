@@ -1,44 +1,46 @@
--- What a text leads to is one thing.
-use Rattle.std.proofs.Common.{◌≡◌, ℕ, List, sym, subst, refl, ◌∙◌}
+-- What the text of a file leads to is one thing, and that of a term over a signature too.
+use Rattle.std.proofs.Common.{◌≡◌, ℕ, List, [], subst}
+use Rattle.term_core.specs.Tree.{Tree}
 use Rattle.spec_core.specs.declared.records.Spec.{Spec}
+use Rattle.spec_core.specs.Sig.{Sig}
+use Rattle.spec_core.specs.Declarations.{IsDeclared}
+use Rattle.spec_core.proofs.Findings.{not_both}
+use Rattle.spec_grammar.specs.RawTree.{RawTree}
 use Rattle.spec_grammar.specs.declared.raw.RawSpec.{RawSpec}
-use Rattle.spec_grammar.specs.Derives.{TextDerives}
-use Rattle.spec_grammar.specs.Grammar.{IsSpecText}
-use Rattle.spec_grammar.specs.Symbols.{spec_symbols}
-use Rattle.spec_grammar.proofs.Agrees.{spec_agrees}
-use Rattle.spec_grammar.proofs.Means.{spec_means}
-use Rattle.spec_grammar.proofs.Unique.{one_spec}
-use Rattle.spec_grammar.proofs.Readings.{one_derived}
-use Rattle.spec_syntax.specs.declared.fault.SyntaxFault.{SyntaxFault}
-use Rattle.spec_syntax.specs.declared.fault.SyntaxFault.TheVariants.{Text, Syntax, Limit, OutOfMemory}
-use Rattle.spec_syntax.proofs.OneFault.{no_fault, same_fault}
-use Rattle.sort_check.specs.Plain.{IsPlain}
+use Rattle.spec_grammar.specs.Grammar.{IsSpecText, IsTermText}
+use Rattle.spec_grammar.specs.Symbols.{spec_symbols, term_symbols}
+use Rattle.spec_grammar.proofs.Agrees.{spec_agrees, term_text_agrees}
+use Rattle.spec_grammar.proofs.Means.{spec_means, term_means}
+use Rattle.spec_grammar.proofs.Unique.{one_spec as one_spec_text, one_term_text as one_raw_term}
 use Rattle.sort_check.specs.StandsFor.{StandsFor}
-use Rattle.sort_check.proofs.SpecLaws.{one_spec as one_sorted}
-use Rattle.spike_cli.specs.Refusals.{IsFaultLine}
-use Rattle.spike_cli.specs.Runs.{TextStandsFor, IsRefusalOf, faulty, not_yet}
+use Rattle.sort_check.specs.Terms.{TermStands}
+use Rattle.sort_check.specs.FirstFault.{spec_tests, ground_tests}
+use Rattle.sort_check.proofs.OneSpec.{one_spec}
+use Rattle.sort_check.proofs.Names.{symbols_distinct}
+use Rattle.sort_check.proofs.OneTerm.{one_term}
+use Rattle.spike_cli.specs.declared.refusals.Subject.TheVariants.{File, Term}
+use Rattle.spike_cli.specs.Meanings.{TextStandsFor, TermTextStandsFor}
+use Rattle.spike_cli.specs.Refusals.{IsRefusalOf, IsTermRefusal}
+use Rattle.spike_cli.proofs.OneText.{one_raw, taken_or_refused, same_refusal}
 
-one_raw : (bytes : List ℕ) (raw other : RawSpec) → TextDerives IsSpecText bytes raw → TextDerives IsSpecText bytes other → raw ≡ other
-one_raw bytes raw other a b = one_derived spec_symbols IsSpecText spec_agrees spec_means one_spec bytes raw other a b
+pub one_specification : (bytes : List ℕ) (spec other : Spec) → TextStandsFor bytes spec → TextStandsFor bytes other → spec ≡ other
+one_specification bytes spec other a b =
+    let same : b.0 ≡ a.0 = one_raw spec_symbols IsSpecText spec_agrees spec_means one_spec_text bytes b.0 a.0 b.1 a.1 in
+    one_spec a.0 spec other a.3 (subst (λ (raw : RawSpec). StandsFor raw other) same b.3)
 
-pub same_specification : (bytes : List ℕ) (spec other : Spec) → TextStandsFor bytes spec → TextStandsFor bytes other → spec ≡ other
-same_specification bytes spec other a b = one_sorted a.0 spec other a.3 (subst (λ (raw : RawSpec). StandsFor raw other) (one_raw bytes b.0 a.0 b.1 a.1) b.3)
+pub no_refusal : (bytes line : List ℕ) (spec : Spec) → TextStandsFor bytes spec → IsRefusalOf bytes line → ⊥
+no_refusal bytes line spec a r = taken_or_refused spec_symbols IsSpecText spec_agrees spec_means one_spec_text bytes File spec_tests a.0 line a.1 (λ fault first. not_both (spec_tests a.0) fault a.2 first) r
 
-pub taken_or_refused : (bytes line : List ℕ) (spec : Spec) → TextStandsFor bytes spec → IsRefusalOf bytes line → ⊥
-taken_or_refused bytes line spec a (faulty fault has is) = no_fault bytes a.0 fault a.1 has
-taken_or_refused bytes line spec a (not_yet n) =
-    let same = one_raw bytes a.0 n.0 a.1 n.1 in
-    n.2 (subst (λ (raw : RawSpec). IsPlain raw) same a.2) spec (subst (λ (raw : RawSpec). StandsFor raw spec) same a.3)
+pub one_refusal : (bytes line other : List ℕ) → IsRefusalOf bytes line → IsRefusalOf bytes other → line ≡ other
+one_refusal bytes line other a b = same_refusal spec_symbols IsSpecText spec_agrees spec_means one_spec_text bytes File spec_tests line other a b
 
--- a fault has one line
-one_line : (fault : SyntaxFault) (line other : List ℕ) → IsFaultLine fault line → IsFaultLine fault other → line ≡ other
-one_line (Text at) line other a b = a ∙ sym b
-one_line (Syntax at) line other a b = a ∙ sym b
-one_line (Limit at what) line other a b = a ∙ sym b
-one_line OutOfMemory line other a b = absurd a
+pub one_term_text : (sig : Sig) (bytes : List ℕ) (t other : Tree) → IsDeclared sig → TermTextStandsFor sig bytes t → TermTextStandsFor sig bytes other → t ≡ other
+one_term_text sig bytes t other declared a b =
+    let same : b.0 ≡ a.0 = one_raw term_symbols IsTermText term_text_agrees term_means one_raw_term bytes b.0 a.0 b.1 a.1 in
+    one_term sig (symbols_distinct sig declared) [] tt a.0 t other a.3 (subst (λ (raw : RawTree). TermStands sig [] raw other) same b.3)
 
-pub same_refusal : (bytes line other : List ℕ) → IsRefusalOf bytes line → IsRefusalOf bytes other → line ≡ other
-same_refusal bytes line other (faulty fault has is) (faulty fault2 has2 is2) = one_line fault line other is (subst (λ (f : SyntaxFault). IsFaultLine f other) (same_fault bytes fault2 fault has2 has) is2)
-same_refusal bytes line other (faulty fault has is) (not_yet n) = absurd (no_fault bytes n.0 fault n.1 has)
-same_refusal bytes line other (not_yet n) (faulty fault has is) = absurd (no_fault bytes n.0 fault n.1 has)
-same_refusal bytes line other (not_yet n) (not_yet m) = refl
+pub no_term_refusal : (sig : Sig) (bytes line : List ℕ) (t : Tree) → TermTextStandsFor sig bytes t → IsTermRefusal sig bytes line → ⊥
+no_term_refusal sig bytes line t a r = taken_or_refused term_symbols IsTermText term_text_agrees term_means one_raw_term bytes Term (ground_tests sig) a.0 line a.1 (λ fault first. not_both (ground_tests sig a.0) fault a.2 first) r
+
+pub one_term_refusal : (sig : Sig) (bytes line other : List ℕ) → IsTermRefusal sig bytes line → IsTermRefusal sig bytes other → line ≡ other
+one_term_refusal sig bytes line other a b = same_refusal term_symbols IsTermText term_text_agrees term_means one_raw_term bytes Term (ground_tests sig) line other a b

@@ -16,7 +16,8 @@ use Rattle.spike_cli.specs.declared.claims.Claim.{Claim}
 use Rattle.spike_cli.specs.Claims.{IsClaimOn}
 use Rattle.spike_cli.specs.Texts.{claim_text, header_text}
 use Rattle.spike_cli.specs.Parts.{AppendsPartOf}
-use Rattle.spike_cli.specs.Runs.{BeginsReport, IsReport, Reported, IsRefusalOf, MayWriteFor}
+use Rattle.spike_cli.specs.Words.{Task}
+use Rattle.spike_cli.specs.Runs.{IsEnd, MayWriteOn, Ended, RefusedBytes, MayWriteFor}
 
 abbrev pub stop_of : WriteError → Stop
 stop_of write.Failed = WriteFault
@@ -47,10 +48,10 @@ module _ (old new : Option (List ℕ)) (writes writes' : ℕ) where
   WritesClaim spec goal before (Ok after) = (claim : Claim) × IsClaimOn spec goal claim × Appended old new (claim_text spec.sig claim) × (after ≡ joined before claim.outcome)
   WritesClaim spec goal before (Err stop) = Stopped (λ text. (claim : Claim) × IsClaimOn spec goal claim × (text ≡ claim_text spec.sig claim)) stop
 
-  -- a whole report was appended, with its status
-  abbrev pub Reports : Spec → Result Status Stop → Type 0
-  Reports spec (Ok after) = (text : List ℕ) × IsReport spec text after × Appended old new text
-  Reports spec (Err stop) = Stopped (BeginsReport spec) stop
+  -- a task's whole text was appended, with its status
+  abbrev pub Finishes : Task → Spec → Result Status Stop → Type 0
+  Finishes task spec (Ok after) = (text : List ℕ) × IsEnd task spec text after × Appended old new text
+  Finishes task spec (Err stop) = Stopped (MayWriteOn task spec) stop
 
 -- one of these texts was appended as a refusal, or a part of one where the command stopped
 module _ (IsText : List ℕ → Type 0) (old new : Option (List ℕ)) (writes writes' : ℕ) where
@@ -60,15 +61,15 @@ module _ (IsText : List ℕ → Type 0) (old new : Option (List ℕ)) (writes wr
   Refuses status.OutOfMemory = AppendsPartOf IsText old new
   Refuses _ = ⊥
 
--- what a command did on the bytes of its file, by its status
-module _ (bytes : List ℕ) (old new : Option (List ℕ)) (writes writes' : ℕ) where
+-- what a task did on the bytes of its file, by its status
+module _ (task : Task) (bytes : List ℕ) (old new : Option (List ℕ)) (writes writes' : ℕ) where
   abbrev pub MeansFor : Status → Type 0
-  MeansFor status.Done = Reported bytes old new status.Done
-  MeansFor status.Refuted = Reported bytes old new status.Refuted
-  MeansFor status.Open = Reported bytes old new status.Open
-  MeansFor status.Refused = (line : List ℕ) × IsRefusalOf bytes line × Appended old new line
-  MeansFor status.WriteFault = Rose writes writes' × AppendsPartOf (MayWriteFor bytes) old new
-  MeansFor status.OutOfMemory = AppendsPartOf (MayWriteFor bytes) old new
+  MeansFor status.Done = Ended task bytes old new status.Done
+  MeansFor status.Refuted = Ended task bytes old new status.Refuted
+  MeansFor status.Open = Ended task bytes old new status.Open
+  MeansFor status.Refused = RefusedBytes task bytes old new
+  MeansFor status.WriteFault = Rose writes writes' × AppendsPartOf (MayWriteFor task bytes) old new
+  MeansFor status.OutOfMemory = AppendsPartOf (MayWriteFor task bytes) old new
   MeansFor _ = ⊥
 
 -- the status of a command whose text was written, or wasn't

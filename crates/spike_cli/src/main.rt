@@ -1,4 +1,9 @@
-//! The program `spike`: it reads a file of sorts, functions, rules and goals and writes a report.
+//! The program `spike`: it reads a file of sorts, functions, rules and goals, and writes a report on
+//! the goals or the value of a term.
+//!
+//! `refute FILE` looks for counterexamples of the goals, and `eval FILE TERM [--steps NUMBER]`
+//! evaluates a term without variables. A file or a term that isn't one gets a line of refusal, which
+//! says what its first fault is.
 //!
 //! It stands on all the other crates. [`run`] is the whole program over a store of files and a
 //! sink, and its contract is what the program promises; `main` hands it the words after the
@@ -6,14 +11,19 @@
 #![tactic(auto)]
 
 mod claims;
+mod evaluating;
 mod laws;
 mod refusals;
+mod refuting;
 mod reports;
 mod running;
+#[cfg(test)]
+mod sort_tests;
 mod statuses;
 mod stops;
 #[cfg(test)]
 mod tests;
+mod texts;
 mod words;
 
 pub use claims::{Budget, Claim, Outcome};

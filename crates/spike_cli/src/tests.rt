@@ -1,11 +1,12 @@
 use crate::{Status, run};
 use io_core::{MemFiles, MemSink};
 use std::alloc::{AllocError, Global};
+use std::process::Abort;
 use std::test::Fail;
 use term_core::{Name, Seq};
 
 /// Naturals with addition.
-const NATURALS: &str = "spike 1
+pub(crate) const NATURALS: &str = "spike 1
 sort Nat = zero | succ(Nat)
 fun plus(Nat, Nat) : Nat
 rule plus(zero, y) = y
@@ -21,6 +22,119 @@ rule plus(succ(x), y) = succ(plus(x, y))
 ";
 
 const USAGE: &str = "usage: spike check|eval|prove|refute|replay|load\n";
+
+/// Goals over naturals, with the status and the claims of their report. They are worked out by hand
+/// from the order of the search: x is slower than y, and zero comes before succ(zero).
+const REPORTS: [(&str, Status, &str); 8] = [
+    (
+        "goal bad(x : Nat, y : Nat) : plus(x, y) = plus(x, x)\n\
+         goal plus_zero(x : Nat) : plus(x, zero) = x\n",
+        Status::Refuted,
+        "refuted bad index 1 with 2\nx = zero\ny = succ(zero)\n\
+         open plus_zero depth 3 tried 3 skipped 0 cut no plain 0 nodes 0\n",
+    ),
+    (
+        "goal bad : plus(x, y) = plus(x, x)\n",
+        Status::Refuted,
+        "refuted bad index 1 with 2\nx = zero\ny = succ(zero)\n",
+    ),
+    (
+        "goal g(x : Nat, y : Nat) : x = y\n",
+        Status::Refuted,
+        "refuted g index 1 with 2\nx = zero\ny = succ(zero)\n",
+    ),
+    (
+        "goal g : plus(succ(zero), zero) = zero\n",
+        Status::Refuted,
+        "refuted g index 0 with 0\n",
+    ),
+    (
+        "goal g : x = zero\n",
+        Status::Refuted,
+        "refuted g index 1 with 1\nx = succ(zero)\n",
+    ),
+    (
+        "goal g(x : Nat) : x = zero => x = x\n",
+        Status::Open,
+        "open g depth 3 tried 3 skipped 0 cut no plain 0 nodes 0\n",
+    ),
+    (
+        "goal assoc(x : Nat, y : Nat, z : Nat) : plus(plus(x, y), z) = plus(x, plus(y, z))\n",
+        Status::Open,
+        "open assoc depth 3 tried 27 skipped 0 cut no plain 0 nodes 0\n",
+    ),
+    ("", Status::Done, ""),
+];
+
+/// Declarations over naturals and trees, with guards.
+const TREES: &str = "spike 1
+sort Nat = zero | succ(Nat)
+sort Tree = leaf | node(Tree, Tree)
+fun plus(Nat, Nat) : Nat
+fun isz(Nat) : Bool
+fun pick(Nat) : Nat
+fun twice(Tree) : Tree
+fun grow(Nat) : Tree
+rule plus(zero, y) = y
+rule plus(succ(x), y) = succ(plus(x, y))
+rule isz(zero) = true
+rule isz(succ(x)) = false
+rule pick(x) = succ(x) if isz(x)
+rule pick(x) = x unless isz(x)
+rule twice(t) = node(t, t)
+rule grow(zero) = leaf
+rule grow(succ(x)) = twice(grow(x))
+";
+
+/// The words behind `eval` and the file, with the status and the output. The costs are worked out by
+/// hand: one for each use of a rule, and those of its guards and its right side. A tree of 13 levels
+/// above its leaves has 16,383 symbols.
+const VALUES: [(&[&str], Status, &str); 10] = [
+    (
+        &["plus(succ(zero), zero)"],
+        Status::Done,
+        "value succ(zero)\nsteps 2\n",
+    ),
+    (
+        &["plus(succ(zero), zero)", "--steps", "1"],
+        Status::Open,
+        "spent 1\n",
+    ),
+    (
+        &["plus(succ(zero), zero)", "--steps", "0000001"],
+        Status::Open,
+        "spent 1\n",
+    ),
+    (
+        &["plus(succ(zero), zero)", "--steps", "2000"],
+        Status::Done,
+        "value succ(zero)\nsteps 2\n",
+    ),
+    (
+        &["zero", "--steps", "1"],
+        Status::Done,
+        "value zero\nsteps 0\n",
+    ),
+    (&["isz(zero)"], Status::Done, "value true\nsteps 1\n"),
+    (
+        &["pick(succ(zero))"],
+        Status::Done,
+        "value succ(zero)\nsteps 2\n",
+    ),
+    (&["pick(zero)"], Status::Done, "value succ(zero)\nsteps 2\n"),
+    (
+        &["grow(succ(zero))"],
+        Status::Done,
+        "value node(leaf, leaf)\nsteps 3\n",
+    ),
+    (
+        &[
+            "grow(succ(succ(succ(succ(succ(succ(succ(succ(succ(succ(succ(succ(succ(zero))))))))))))))",
+        ],
+        Status::Done,
+        "value large\nsteps 27\n",
+    ),
+];
 
 /// The file `a` with these bytes.
 fn one_file(alloc: Global, text: &[u8]) -> Result<Seq<(Name, Seq<u8>)>, AllocError> {
@@ -58,41 +172,55 @@ fn call(
     Ok((status, written))
 }
 
-/// The reports are worked out by hand from the order of the search: x is slower than y, and zero
-/// comes before succ(zero).
+/// Asserts what a command on this text writes.
+pub(crate) fn expect(
+    rt: &impl Abort,
+    alloc: Global,
+    words: &[&str],
+    text: &str,
+    status: Status,
+    want: &str,
+) -> Result<(), Fail> {
+    let (got, written) = call(alloc, words, text.as_bytes(), &[], &[])?;
+    assert_eq!(rt; got, status, "at {words:?} {text}");
+    assert_eq!(rt; written.as_slice(), want.as_bytes(), "at {words:?} {text}");
+    Ok(())
+}
+
 #[test]
 fn goals_are_refuted_or_left_open(rt: HostRuntime) -> Result<(), Fail> {
     let alloc = rt.alloc();
-    let rows = [
-        (
-            "goal bad(x : Nat, y : Nat) : plus(x, y) = plus(x, x)\n\
-             goal plus_zero(x : Nat) : plus(x, zero) = x\n",
-            Status::Refuted,
-            "refuted bad index 1 with 2\nx = zero\ny = succ(zero)\n\
-             open plus_zero depth 3 tried 3 skipped 0 cut no plain 0 nodes 0\n",
-        ),
-        (
-            "goal g : plus(succ(zero), zero) = zero\n",
-            Status::Refuted,
-            "refuted g index 0 with 0\n",
-        ),
-        (
-            "goal assoc(x : Nat, y : Nat, z : Nat) : plus(plus(x, y), z) = plus(x, plus(y, z))\n",
-            Status::Open,
-            "open assoc depth 3 tried 27 skipped 0 cut no plain 0 nodes 0\n",
-        ),
-        ("", Status::Done, ""),
-    ];
-    for (goals, status, claims) in rows {
+    for (goals, status, claims) in REPORTS {
         let want = format!(in alloc; "spike-report 1\nsteps 1000\n{claims}done\n")?;
         for naturals in [NATURALS, WIDE_NATURALS] {
             let text = format!(in alloc; "{naturals}{goals}")?;
-            let (got, written) = call(alloc, &["refute", "a"], text.as_bytes(), &[], &[])?;
-            assert_eq!(rt; got, status, "at {goals}");
-            assert_eq!(rt; written.as_slice(), want.as_bytes(), "at {goals}");
+            expect(&rt, alloc, &["refute", "a"], &text, status, &want)?;
         }
     }
     Ok(())
+}
+
+/// No natural is above its successor: each of three values was tried.
+#[test]
+fn goals_without_conclusions_are_tried(rt: HostRuntime) -> Result<(), Fail> {
+    let alloc = rt.alloc();
+    let text = "spike 1
+sort Nat = zero | succ(Nat)
+fun plus(Nat, Nat) : Nat
+fun le(Nat, Nat) : Bool
+rule plus(zero, y) = y
+rule plus(succ(x), y) = succ(plus(x, y))
+rule le(zero, y) = true
+rule le(succ(x), zero) = false
+rule le(succ(x), succ(y)) = le(x, y)
+goal no : le(succ(x), x) = true =>
+";
+    let want = "spike-report 1
+steps 1000
+open no depth 3 tried 3 skipped 0 cut no plain 0 nodes 0
+done
+";
+    expect(&rt, alloc, &["refute", "a"], text, Status::Open, want)
 }
 
 /// Faults of the store and the sink, and words that are no command.
@@ -142,8 +270,8 @@ fn calls_end_with_the_status_of_their_cause(rt: HostRuntime) -> Result<(), Fail>
     Ok(())
 }
 
-/// Texts with faults, and those that aren't plain or stand for no specification. The file of naturals
-/// has 125 bytes, and the word of depth 65 stands behind 9 and 64 of `succ(`.
+/// Texts with faults, and those that stand for no specification. The file of naturals has 125
+/// bytes, the word of depth 65 stands behind 9 and 64 of `succ(`, and the line of a sort behind 8.
 #[test]
 fn texts_are_refused(rt: HostRuntime) -> Result<(), Fail> {
     let alloc = rt.alloc();
@@ -153,25 +281,31 @@ fn texts_are_refused(rt: HostRuntime) -> Result<(), Fail> {
     }
     let deep = format!(in alloc; "{NATURALS}{nested}zero")?;
     let guarded = format!(in alloc; "{NATURALS}rule plus(x, y) = x if plus(x, y)\n")?;
-    let unbound = format!(in alloc; "{NATURALS}goal g : x = zero\n")?;
     let unknown = format!(in alloc; "{NATURALS}rule plus(x, y) = z\n")?;
-    let premise = format!(in alloc; "{NATURALS}goal g(x : Nat) : x = zero => x = x\n")?;
     let rows = [
         ("", "syntax at 0"),
         ("spike 1\n$\n", "text at 8"),
         ("spike 3\n", "syntax at 6"),
         (deep.as_str(), "limit at 454: nesting"),
-        ("spike 1\nsort S = c\n", "not yet"),
-        (guarded.as_str(), "not yet"),
-        (unbound.as_str(), "not yet"),
-        (unknown.as_str(), "not yet"),
-        (premise.as_str(), "not yet"),
+        (guarded.as_str(), "sort at 148: guard not Bool"),
+        (unknown.as_str(), "sort at 143: variable not on the left"),
+        ("spike 1\nsort S = c(S)\n", "sort at 13: no small value"),
+        (
+            "spike 1\nsort Nat = zero | succ(Nat)\ngoal g : x = y\n",
+            "sort at 45: sort not inferred",
+        ),
     ];
     for (text, why) in rows {
         let want = format!(in alloc; "refused {why}\n")?;
-        let (got, written) = call(alloc, &["refute", "a"], text.as_bytes(), &[], &[])?;
-        assert_eq!(rt; got, Status::Refused, "at {why}");
-        assert_eq!(rt; written.as_slice(), want.as_bytes(), "at {why}");
+        expect(&rt, alloc, &["refute", "a"], text, Status::Refused, &want)?;
+        expect(
+            &rt,
+            alloc,
+            &["eval", "a", "foo"],
+            text,
+            Status::Refused,
+            &want,
+        )?;
     }
     Ok(())
 }
@@ -211,6 +345,76 @@ fn long_files_are_refused(rt: HostRuntime) -> Result<(), Fail> {
         let (got, written) = call(alloc, &["refute", "a"], &text, &[], &[])?;
         assert_eq!(rt; got, status, "at {length}");
         assert_eq!(rt; written.as_slice(), want.as_bytes(), "at {length}");
+    }
+    Ok(())
+}
+
+#[test]
+fn terms_are_evaluated(rt: HostRuntime) -> Result<(), Fail> {
+    let alloc = rt.alloc();
+    for (words, status, want) in VALUES {
+        let mut all = Vec::from_slice(alloc, &["eval", "a"])?;
+        all.extend_from_slice(words)?;
+        expect(&rt, alloc, &all, TREES, status, want)?;
+    }
+    Ok(())
+}
+
+/// Places are counted in the term. The word of depth 65 stands behind 64 of `succ(`.
+#[test]
+fn terms_are_refused(rt: HostRuntime) -> Result<(), Fail> {
+    let alloc = rt.alloc();
+    let mut deep = String::from_str(alloc, "")?;
+    for _ in 0..64 {
+        deep.push_str("succ(")?;
+    }
+    deep.push_str("zero")?;
+    let rows = [
+        ("", "syntax at 0"),
+        ("plus(zero", "syntax at 9"),
+        ("$", "text at 0"),
+        (deep.as_str(), "limit at 320: nesting"),
+        ("foo", "sort at 0: unknown name"),
+        ("succ(true)", "sort at 5: wrong sort"),
+        ("plus(zero)", "sort at 0: wrong number of arguments"),
+    ];
+    for (term, why) in rows {
+        let want = format!(in alloc; "refused term {why}\n")?;
+        expect(
+            &rt,
+            alloc,
+            &["eval", "a", term],
+            NATURALS,
+            Status::Refused,
+            &want,
+        )?;
+    }
+    Ok(())
+}
+
+/// Words that ask for no evaluation: a step too few or too many, eight digits, no digits, and
+/// words that are missing or too many.
+#[test]
+fn words_of_eval_are_checked(rt: HostRuntime) -> Result<(), Fail> {
+    let alloc = rt.alloc();
+    let rows: [&[&str]; 14] = [
+        &["eval"],
+        &["eval", "a"],
+        &["eval", "a", "b", "--steps"],
+        &["eval", "a", "b", "--steps", "0"],
+        &["eval", "a", "b", "--steps", "2001"],
+        &["eval", "a", "b", "--steps", "12345678"],
+        &["eval", "a", "b", "--steps", "00000001"],
+        &["eval", "a", "b", "--steps", "x"],
+        &["eval", "a", "b", "--steps", "+1"],
+        &["eval", "a", "b", "--steps", ""],
+        &["eval", "-a", "b"],
+        &["eval", "a", "-b"],
+        &["eval", "a", "b", "--steps", "1", "--steps", "1"],
+        &["eval", "a", "b", "c"],
+    ];
+    for words in rows {
+        expect(&rt, alloc, words, NATURALS, Status::Usage, USAGE)?;
     }
     Ok(())
 }

@@ -1,60 +1,77 @@
-use Rattle.std.proofs.Common.{◌≡◌, sym, subst, ◌≤◌, length, List, []}
-use Rattle.term_core.specs.Tree.{Tree, tree_size}
-use Rattle.spec_core.specs.declared.records.Guard.{Guard}
+use Rattle.std.proofs.Common.{rules, Err, List, ◌≡◌, ◌∙◌, sym, ap, subst, refl, []}
 use Rattle.spec_core.specs.declared.records.Rule.{Rule}
 use Rattle.spec_core.specs.declared.records.VarInfo.{VarInfo}
-use Rattle.spec_core.specs.TermText.{variable_names}
-use Rattle.spec_core.specs.WellSorted.{RuleIsSorted}
-use Rattle.spec_core.proofs.Fresh.{some_of, none_of, is_not}
-use Rattle.sort_check.specs.Terms.{TermStands}
-use Rattle.sort_check.specs.Occurrence.{names_after, nat_variables}
-use Rattle.sort_check.proofs.RuleLaws.{few_names, no_left, no_right, made_numbered, rule_same, made_stands}
+use Rattle.spec_core.specs.Findings.{Clean, each}
+use Rattle.sort_check.specs.Answers.{Tells}
+use Rattle.sort_check.specs.Entries.{known_sorts}
+use Rattle.sort_check.specs.RuleTests.{guard_tests}
+use Rattle.sort_check.specs.Over.{variables_of}
+use Rattle.sort_check.specs.Parts.{AreSorted, below_tests, root_name, root_place}
+use Rattle.sort_check.specs.Rules.{RuleStands}
+use Rattle.sort_check.proofs.Telling.{answer_err}
+use Rattle.sort_check.proofs.RuleFacts.{root_long, left_sorted, guards_fault, rule_made, lefts_are, rights_are, guards_are, root_whole}
 use Rattle.sort_check.proofs.rules.rule_of.Goals as goal
-use Rattle.sort_check.proofs.rules.rule_of.Goals.{In-Some, In-Some-2, In-Some-3}
 
-vars_are : (c : In-Some) → (c.in-Some.vars ≡ nat_variables (names_after c.args.sig.now [] c.args.raw.now.left)) × (length c.in-Some.vars ≤ 16)
-vars_are c = some_of c.in_ok-vars.field-0 c.in-Some.vars _ _ c.in-Some.is c.in_ok-vars.ensures
+pub terms-requires-clause-long : goal.terms-requires-clause-long
+terms-requires-clause-long c = root_long c.args.sig.now c.args.raw.now (root_name c.args.raw.now.left) (root_place c.args.raw.now.left) c.args.sym.0 c.arguments-raws.result.now (root_whole c.args.raw.now.left c.arguments-raws.result.now c.arguments-raws.ensures) c.requires c.info-info.result.now c.arguments-raws.result.now c.as_slice.result.now c.info-info.ensures refl c.as_slice.ensures
 
-left_is : (c : In-Some-2) → TermStands c.args.sig.now (variable_names c.in-Some.vars) c.args.raw.now.left c.in-Some-2.left
-left_is c = subst (λ (vs : List VarInfo). TermStands c.args.sig.now (variable_names vs) c.args.raw.now.left c.in-Some-2.left) c.as_slice.ensures (some_of c.in_ok-left.field-0 c.in-Some-2.left _ _ c.in-Some-2.is c.in_ok-left.ensures)
+pub guards-requires-clause-sorted : goal.guards-requires-clause-sorted
+guards-requires-clause-sorted c =
+    let sig = c.args.sig.now in
+    let raw = c.args.raw.now in
+    let f = c.args.sym.0 in
+    let xs = c.arguments-raws.result.now in
+    let i = c.info-info.result.now in
+    let empty : c.in_ok-args.args ≡ [] = search rules in
+    let lefts = lefts_are sig raw (root_name c.args.raw.now.left) (root_place c.args.raw.now.left) f xs (root_whole c.args.raw.now.left c.arguments-raws.result.now c.arguments-raws.ensures) c.requires c.new-entries.result.items c.terms.new.entries.items c.arguments-raws.result.now c.as_slice.result.now c.in_ok-args.args c.terms.new.made i c.info-info.ensures c.new-entries.ensures.items empty refl c.as_slice.ensures c.in_ok-terms.ensures.answer in
+    let sorted = left_sorted sig raw (root_name c.args.raw.now.left) (root_place c.args.raw.now.left) f xs (root_whole c.args.raw.now.left c.arguments-raws.result.now c.arguments-raws.ensures) c.requires c.terms.new.entries.items lefts.1.0 in
+    let rights = rights_are sig raw (root_name c.args.raw.now.left) (root_place c.args.raw.now.left) f xs (root_whole c.args.raw.now.left c.arguments-raws.result.now c.arguments-raws.ensures) c.requires c.terms.new.entries.items c.term.new.entries.items i.result c.in_ok-right.right i c.info-info.ensures refl sorted c.in_ok-right.ensures.answer in
+    subst (λ es. AreSorted es) (sym rights.1.0) sorted
 
-right_is : (c : In-Some-3) → TermStands c.args.sig.now (variable_names c.in-Some.vars) c.args.raw.now.right c.in-Some-3.right
-right_is c = subst (λ (vs : List VarInfo). TermStands c.args.sig.now (variable_names vs) c.args.raw.now.right c.in-Some-3.right) c.as_slice-2.ensures (some_of c.in_ok-right.field-0 c.in-Some-3.right _ _ c.in-Some-3.is c.in_ok-right.ensures)
+pub returns-in_err-guards : goal.returns-in_err-guards
+returns-in_err-guards c =
+    let sig = c.args.sig.now in
+    let raw = c.args.raw.now in
+    let f = c.args.sym.0 in
+    let xs = c.arguments-raws.result.now in
+    let i = c.info-info.result.now in
+    let empty : c.in_ok-args.args ≡ [] = search rules in
+    let lefts = lefts_are sig raw (root_name c.args.raw.now.left) (root_place c.args.raw.now.left) f xs (root_whole c.args.raw.now.left c.arguments-raws.result.now c.arguments-raws.ensures) c.requires c.new-entries.result.items c.terms.new.entries.items c.arguments-raws.result.now c.as_slice.result.now c.in_ok-args.args c.terms.new.made i c.info-info.ensures c.new-entries.ensures.items empty refl c.as_slice.ensures c.in_ok-terms.ensures.answer in
+    let sorted = left_sorted sig raw (root_name c.args.raw.now.left) (root_place c.args.raw.now.left) f xs (root_whole c.args.raw.now.left c.arguments-raws.result.now c.arguments-raws.ensures) c.requires c.terms.new.entries.items lefts.1.0 in
+    let rights = rights_are sig raw (root_name c.args.raw.now.left) (root_place c.args.raw.now.left) f xs (root_whole c.args.raw.now.left c.arguments-raws.result.now c.arguments-raws.ensures) c.requires c.terms.new.entries.items c.term.new.entries.items i.result c.in_ok-right.right i c.info-info.ensures refl sorted c.in_ok-right.ensures.answer in
+    let es = c.terms.new.entries.items in
+    let e = c.in_err-guards.field-0.0 in
+    let q : c.from_residual-in_err-guards.result ≡ Err e = search rules in
+    let h : Tells (each (guard_tests sig es) raw.guards) e = subst (λ rs. Tells (each (guard_tests sig es) rs) e) c.as_slice-2.ensures (subst (λ vs. Tells (each (guard_tests sig vs) c.as_slice-2.result.now) e) rights.1.0 c.in_err-guards.ensures.answer) in
+    answer_err (below_tests sig raw.left raw) (λ (rule : Rule). RuleStands sig raw rule) c.from_residual-in_err-guards.result e q (guards_fault sig raw (root_name c.args.raw.now.left) (root_place c.args.raw.now.left) f xs (root_whole c.args.raw.now.left c.arguments-raws.result.now c.arguments-raws.ensures) c.requires es lefts.1.0 lefts.0 e rights.0 h)
 
-pub returns-in_default : goal.returns-in_default
-returns-in_default c rule is = few_names c.args.sig.now c.args.raw.now rule is (none_of c.in_ok-vars.field-0 _ _ c.in_default.is c.in_ok-vars.ensures)
+pub variables_of_rule-requires : goal.variables_of_rule-requires
+variables_of_rule-requires c =
+    let sig = c.args.sig.now in
+    let raw = c.args.raw.now in
+    let f = c.args.sym.0 in
+    let xs = c.arguments-raws.result.now in
+    let i = c.info-info.result.now in
+    let empty : c.in_ok-args.args ≡ [] = search rules in
+    let lefts = lefts_are sig raw (root_name c.args.raw.now.left) (root_place c.args.raw.now.left) f xs (root_whole c.args.raw.now.left c.arguments-raws.result.now c.arguments-raws.ensures) c.requires c.new-entries.result.items c.terms.new.entries.items c.arguments-raws.result.now c.as_slice.result.now c.in_ok-args.args c.terms.new.made i c.info-info.ensures c.new-entries.ensures.items empty refl c.as_slice.ensures c.in_ok-terms.ensures.answer in
+    let sorted = left_sorted sig raw (root_name c.args.raw.now.left) (root_place c.args.raw.now.left) f xs (root_whole c.args.raw.now.left c.arguments-raws.result.now c.arguments-raws.ensures) c.requires c.terms.new.entries.items lefts.1.0 in
+    let rights = rights_are sig raw (root_name c.args.raw.now.left) (root_place c.args.raw.now.left) f xs (root_whole c.args.raw.now.left c.arguments-raws.result.now c.arguments-raws.ensures) c.requires c.terms.new.entries.items c.term.new.entries.items i.result c.in_ok-right.right i c.info-info.ensures refl sorted c.in_ok-right.ensures.answer in
+    let tests = guards_are sig raw (root_name c.args.raw.now.left) (root_place c.args.raw.now.left) f xs (root_whole c.args.raw.now.left c.arguments-raws.result.now c.arguments-raws.ensures) c.requires c.terms.new.entries.items c.term.new.entries.items c.guards.new.entries.items c.as_slice-2.result.now c.in_ok-guards.guards rights.1.0 c.as_slice-2.ensures c.in_ok-guards.ensures.answer in
+    subst (λ es. AreSorted es) (sym (c.deref.ensures.value ∙ tests.1.0)) sorted
 
-pub returns-in_default-2 : goal.returns-in_default-2
-returns-in_default-2 c =
-    let d = (goal.at.returns-in_default-2 c).In-Some in
-    no_left c.args.sig.now c.requires.declared c.requires.takes_nats c.args.raw.now c.requires.plain c.in-Some.vars (vars_are d).0 (subst (λ (vs : List VarInfo). (t : Tree) → TermStands c.args.sig.now (variable_names vs) c.args.raw.now.left t → ⊥) c.as_slice.ensures (none_of c.in_ok-left.field-0 _ _ c.in_default-2.is c.in_ok-left.ensures))
-
-pub returns-in_default-3 : goal.returns-in_default-3
-returns-in_default-3 c =
-    let d = (goal.at.returns-in_default-3 c).In-Some in
-    no_right c.args.sig.now c.requires.declared c.requires.takes_nats c.args.raw.now c.requires.plain c.in-Some.vars (vars_are d).0 (subst (λ (vs : List VarInfo). (t : Tree) → TermStands c.args.sig.now (variable_names vs) c.args.raw.now.right t → ⊥) c.as_slice-2.ensures (none_of c.in_ok-right.field-0 _ _ c.in_default-3.is c.in_ok-right.ensures))
-
-pub rule_is_sorted-requires-clause-numbered : goal.rule_is_sorted-requires-clause-numbered
-rule_is_sorted-requires-clause-numbered c =
-    let d = (goal.at.rule_is_sorted-requires-clause-numbered c).In-Some in
-    let e = (goal.at.rule_is_sorted-requires-clause-numbered c).In-Some-2 in
-    let f = (goal.at.rule_is_sorted-requires-clause-numbered c).In-Some-3 in
-    made_numbered c.args.sig.now c.requires.declared c.requires.takes_nats c.args.raw.now c.requires.plain c.in-Some.vars (vars_are d).0 c.in-Some-2.left c.in-Some-3.right (left_is e) (right_is f)
-
-pub returns-then-branch : goal.returns-then-branch
-returns-then-branch c =
-    let d = (goal.at.returns-then-branch c).In-Some in
-    let e = (goal.at.returns-then-branch c).In-Some-2 in
-    let f = (goal.at.returns-then-branch c).In-Some-3 in
-    let rule : Rule = record { vars = c.in-Some.vars; left = c.in-Some-2.left; right = c.in-Some-3.right; guards = c.new.result } in
-    let sorted : RuleIsSorted c.args.sig.now rule × (tree_size rule.left ≤ 200) = c.in_ok-rule_is_sorted.ensures.0 c.if-branch.true in
-    (made_stands c.args.sig.now c.requires.declared c.requires.takes_nats c.args.raw.now c.requires.plain c.in-Some.vars (vars_are d).0 c.in-Some-2.left c.in-Some-3.right (left_is e) (right_is f) c.new.result c.new.ensures sorted.1, sorted.0)
-
-pub returns-else-branch : goal.returns-else-branch
-returns-else-branch c rule is =
-    let d = (goal.at.returns-else-branch c).In-Some in
-    let e = (goal.at.returns-else-branch c).In-Some-2 in
-    let f = (goal.at.returns-else-branch c).In-Some-3 in
-    let Good : Rule → Type 0 = λ (r : Rule). RuleIsSorted c.args.sig.now r × (tree_size r.left ≤ 200) in
-    let good : Good (record { vars = c.in-Some.vars; left = c.in-Some-2.left; right = c.in-Some-3.right; guards = [] }) = subst Good (rule_same c.args.sig.now c.requires.declared c.requires.takes_nats c.args.raw.now c.requires.plain c.in-Some.vars (vars_are d).0 c.in-Some-2.left c.in-Some-3.right (left_is e) (right_is f) rule is) (is.1, is.0.left_size) in
-    is_not c.in_ok-rule_is_sorted.field-0 c.if-branch.false (c.in_ok-rule_is_sorted.ensures.1 (subst (λ (gs : List Guard). Good (record { vars = c.in-Some.vars; left = c.in-Some-2.left; right = c.in-Some-3.right; guards = gs })) (sym c.new.ensures) good))
+pub returns : goal.returns
+returns c =
+    let sig = c.args.sig.now in
+    let raw = c.args.raw.now in
+    let f = c.args.sym.0 in
+    let xs = c.arguments-raws.result.now in
+    let i = c.info-info.result.now in
+    let empty : c.in_ok-args.args ≡ [] = search rules in
+    let lefts = lefts_are sig raw (root_name c.args.raw.now.left) (root_place c.args.raw.now.left) f xs (root_whole c.args.raw.now.left c.arguments-raws.result.now c.arguments-raws.ensures) c.requires c.new-entries.result.items c.terms.new.entries.items c.arguments-raws.result.now c.as_slice.result.now c.in_ok-args.args c.terms.new.made i c.info-info.ensures c.new-entries.ensures.items empty refl c.as_slice.ensures c.in_ok-terms.ensures.answer in
+    let sorted = left_sorted sig raw (root_name c.args.raw.now.left) (root_place c.args.raw.now.left) f xs (root_whole c.args.raw.now.left c.arguments-raws.result.now c.arguments-raws.ensures) c.requires c.terms.new.entries.items lefts.1.0 in
+    let rights = rights_are sig raw (root_name c.args.raw.now.left) (root_place c.args.raw.now.left) f xs (root_whole c.args.raw.now.left c.arguments-raws.result.now c.arguments-raws.ensures) c.requires c.terms.new.entries.items c.term.new.entries.items i.result c.in_ok-right.right i c.info-info.ensures refl sorted c.in_ok-right.ensures.answer in
+    let es = c.terms.new.entries.items in
+    let tests = guards_are sig raw (root_name c.args.raw.now.left) (root_place c.args.raw.now.left) f xs (root_whole c.args.raw.now.left c.arguments-raws.result.now c.arguments-raws.ensures) c.requires es c.term.new.entries.items c.guards.new.entries.items c.as_slice-2.result.now c.in_ok-guards.guards rights.1.0 c.as_slice-2.ensures c.in_ok-guards.ensures.answer in
+    let made = rule_made sig raw (root_name c.args.raw.now.left) (root_place c.args.raw.now.left) f xs (root_whole c.args.raw.now.left c.arguments-raws.result.now c.arguments-raws.ensures) c.requires es lefts.1.0 lefts.0 c.terms.new.made c.app.result c.in_ok-right.right c.in_ok-guards.guards (search rules) lefts.1.1 c.app.ensures rights.0 rights.1.1 tests.0 tests.1.1 in
+    let vars : c.in_ok-variables_of_rule.field-0 ≡ variables_of es (known_sorts es) = c.in_ok-variables_of_rule.ensures.1 ∙ ap (λ xs. variables_of xs (known_sorts xs)) (c.deref.ensures.value ∙ tests.1.0) in
+    subst (λ (vs : List VarInfo). Clean (below_tests sig raw.left raw) × RuleStands sig raw (record { vars = vs; left = c.app.result; right = c.in_ok-right.right; guards = c.in_ok-guards.guards })) (sym vars) made

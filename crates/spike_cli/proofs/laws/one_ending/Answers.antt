@@ -1,5 +1,10 @@
-use Rattle.spike_cli.proofs.OneEnding.{same_specification, taken_or_refused, same_refusal}
+use Rattle.spike_cli.proofs.OneEnding.{one_specification, no_refusal, one_refusal, one_term_text, no_term_refusal, one_term_refusal}
 use Rattle.spike_cli.proofs.laws.one_ending.Goals as goal
 
 pub returns : goal.returns
-returns c = record { one_specification = same_specification; no_refusal = taken_or_refused; one_refusal = same_refusal }
+returns c = record {
+  one_specification = one_specification;
+  no_refusal = no_refusal;
+  one_refusal = one_refusal;
+  terms = record { one_term = one_term_text; no_refusal = no_term_refusal; one_refusal = one_term_refusal };
+}

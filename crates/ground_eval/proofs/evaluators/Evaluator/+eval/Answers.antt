@@ -1,26 +1,27 @@
-use Rattle.std.proofs.Common.{◌≡◌, ◌<◌, ◌+◌, ◌-◌, ◌*◌, [], length, Some, refl, sym, ap, ◌∙◌, arith, subst}
-use Rattle.std.specs.List.{AllByRecursion}
+use Rattle.std.proofs.Common.{◌≡◌, ◌<◌, ◌≤◌, ◌+◌, ◌-◌, ◌*◌, [], length, Some, None, refl, sym, ap, ◌∙◌, arith, subst}
+use Rattle.std.specs.Prelude.{slice_get, IfOk}
+use Rattle.std.proofs.Math.Nat.{mul-le-mul_right}
 use Rattle.std.proofs.lemmas.Option.{slice_get_within}
 use Rattle.term_core.specs.Tree.{trees_of, instance, instances, app, var}
 use Rattle.term_core.specs.View.{tree_of}
 use Rattle.term_core.specs.Measure.{weight}
-use Rattle.spec_core.specs.declared.records.Guard.{Guard}
-use Rattle.spec_core.specs.Sorts.{Sorted}
+use Rattle.spec_core.specs.declared.records.Rule.{Rule}
+use Rattle.spec_core.specs.Gives.{no_guards}
 use Rattle.spec_core.specs.Declarations.{bool_sort}
 use Rattle.ground_eval.specs.declared.answers.Eval.TheVariants.{Value, Spent}
-use Rattle.ground_eval.specs.declared.answers.Guarded.TheVariants.{Holds, Fails, Spent as GuardSpent}
 use Rattle.ground_eval.specs.Evals.{IsEval}
 use Rattle.ground_eval.specs.Arguments.{IsEvalAll, IsEvalOfApplications}
-use Rattle.ground_eval.specs.Applications.{application, head_of, call_of}
+use Rattle.ground_eval.specs.Applications.{application, call_of}
+use Rattle.ground_eval.specs.Matches.{IsMatch}
 use Rattle.ground_eval.specs.Index.{numbers_of}
-use Rattle.ground_eval.specs.Tries.{IsTry, DoesNotApply}
-use Rattle.ground_eval.specs.Room.{room, guards_weight}
+use Rattle.ground_eval.specs.Choices.{IsMatched, IsChoice, Applies, Follows}
+use Rattle.ground_eval.specs.Room.{room, room_from}
 use Rattle.ground_eval.proofs.Entries.{entry_gives}
 use Rattle.ground_eval.proofs.Arguments.{all_none, all_first_spent, all_rest_spent, all_more, applications_none, applications_variable, applications_more, owned_are, gathered_give, app_built, call_ready, app_called, app_call_spent}
-use Rattle.ground_eval.proofs.Calls.{left_is_application, rule_function, right_ready, guards_ready, try_fails, try_stuck, try_spent, try_value, try_nothing, number_within, rule_at, rules_more, none_applies}
-use Rattle.ground_eval.proofs.Falls.{less_budget, use_falls, right_falls, rule_below_room}
-use Rattle.ground_eval.proofs.Guards.{guards_none, guards_fail, guards_more, guards_fail_later, not_is, yes_is}
-use Rattle.ground_eval.proofs.Same.{eval_same, guards_same_answer, match_some, if_ok_map}
+use Rattle.ground_eval.proofs.Calls.{left_is_application, try_nothing, number_within, rule_at, rules_more, none_matches, matched_built, right_has_sort, test_sorted, matched_too, test_spent, none_follows, next_held, applies, group_value, group_spent}
+use Rattle.ground_eval.proofs.Falls.{less_budget, use_falls, right_falls, right_below_room, test_falls, step_falls}
+use Rattle.ground_eval.proofs.Lists.{item_at}
+use Rattle.ground_eval.proofs.Same.{eval_same, match_some, if_ok_map}
 use Rattle.ground_eval.proofs.evaluators.Evaluator.+eval.Goals as goal
 
 pub eval_in-returns-in_ok-copy-in-Var : goal.eval_in-returns-in_ok-copy-in-Var
@@ -143,124 +144,152 @@ call-offset_bounds-rules-number t c =
     let h = number_within c.args.sym.0 c.args.self.now.rules c.rules-rules.result.now c.rules_of-number-items.result.now c.loop-number.number-index c.rules-rules.ensures c.rules_of-number-items.ensures c.loop-number-test.true in
     omega (arith, h, c.rules-rules.type_inv)
 
-pub call-try_rule-requires : goal.call-try_rule-requires
-call-try_rule-requires t c =
-    let r = rule_at c.args.sym.0 c.args.self.now.rules c.rules-rules.result.now c.rules_of-number-items.result.now c.loop-number.number-index c.rules-rules.ensures c.rules_of-number-items.ensures c.loop-number-test.true c.index-rules-number.result c.index-rules-number.is in
-    (omega arith, (c.requires.fine, ((_, r.there), (c.requires.built, (c.requires.sorted.0, subst (λ f. Sorted c.args.self.now.sig [] (application f c.args.args.now) c.requires.sorted.0) (sym r.function) c.requires.sorted.1)))))
+pub call-returns-then-budget-eq0 : goal.call-returns-then-budget-eq0
+call-returns-then-budget-eq0 t c = try_nothing c.args.self.now c.requires.fine c.args.sym.0 (trees_of c.args.args.now) c.args.budget c.requires.function c.if-budget-eq0.true
 
-pub call-returns-in-Some : goal.call-returns-in-Some
-call-returns-in-Some t c =
+pub call-match_left-requires-clause-numbered : goal.call-match_left-requires-clause-numbered
+call-match_left-requires-clause-numbered t c =
     let spec = c.args.self.now in
     let rule = c.index-rules-number.result in
     let r = rule_at c.args.sym.0 spec.rules c.rules-rules.result.now c.rules_of-number-items.result.now c.loop-number.number-index c.rules-rules.ensures c.rules_of-number-items.ensures c.loop-number-test.true rule c.index-rules-number.is in
-    let tried = subst (λ o. IsTry spec rule (call_of rule.left c.args.args.now) c.args.budget o) c.in-Some.is c.in_ok-found.ensures in
-    subst (λ f. IsEval spec (application f c.args.args.now) c.args.budget c.in-Some.found) r.function tried
+    (_, (c.requires.fine.rules _ rule r.there).numbered)
+
+pub call-match_left-requires-clause-called : goal.call-match_left-requires-clause-called
+call-match_left-requires-clause-called t c =
+    let spec = c.args.self.now in
+    let rule = c.index-rules-number.result in
+    let r = rule_at c.args.sym.0 spec.rules c.rules-rules.result.now c.rules_of-number-items.result.now c.loop-number.number-index c.rules-rules.ensures c.rules_of-number-items.ensures c.loop-number-test.true rule c.index-rules-number.is in
+    left_is_application spec.sig rule.left (c.requires.fine.rules _ rule r.there).left
 
 pub call-loop-number-preserved : goal.call-loop-number-preserved
 call-loop-number-preserved t c =
     let spec = c.args.self.now in
     let rule = c.index-rules-number.result in
+    let args = c.args.args.now in
     let r = rule_at c.args.sym.0 spec.rules c.rules-rules.result.now c.rules_of-number-items.result.now c.loop-number.number-index c.rules-rules.ensures c.rules_of-number-items.ensures c.loop-number-test.true rule c.index-rules-number.is in
-    let tried = subst (λ o. IsTry spec rule (call_of rule.left c.args.args.now) c.args.budget o) c.in-None.is c.in_ok-found.ensures in
-    rules_more (λ x. DoesNotApply spec x (application c.args.sym.0 c.args.args.now)) c.args.sym.0 spec.rules c.loop-number.number-index _ rule r c.loop-number.invariant (subst (λ f. DoesNotApply spec rule (application f c.args.args.now)) r.function tried)
+    let none = subst (λ o. IsMatch rule.left (call_of rule.left args) o) c.in-None.is c.in_ok-match_left.ensures in
+    rules_more (λ (x : Rule). IsMatch x.left (application c.args.sym.0 args) None) c.args.sym.0 spec.rules c.loop-number.number-index _ rule r c.loop-number.invariant (subst (λ f. IsMatch rule.left (application f args) None) r.function none)
+
+pub call-use_group-requires : goal.call-use_group-requires
+call-use_group-requires t c =
+    let spec = c.args.self.now in
+    let rule = c.index-rules-number.result in
+    let args = c.args.args.now in
+    let r = rule_at c.args.sym.0 spec.rules c.rules-rules.result.now c.rules_of-number-items.result.now c.loop-number.number-index c.rules-rules.ensures c.rules_of-number-items.ensures c.loop-number-test.true rule c.index-rules-number.is in
+    let m = match_some rule.left (call_of rule.left args) c.in_ok-match_left.field-0 c.in-Some.env c.in-Some.is c.in_ok-match_left.ensures in
+    let matched : IsMatched spec rule c.in-Some.env = record {
+      number = _;
+      function = c.args.sym.0;
+      values = trees_of args;
+      sort = c.requires.sorted.0;
+      listed = r.there;
+      numbered = m.0;
+      is = m.1 ∙ ap (λ f. application f args) r.function;
+      built = c.requires.built;
+      sorted = c.requires.sorted.1;
+    } in
+    (omega arith, (c.requires.fine, (matched, omega arith)))
+
+pub call-returns-in-Some : goal.call-returns-in-Some
+call-returns-in-Some t c =
+    let spec = c.args.self.now in
+    let rule = c.index-rules-number.result in
+    let args = c.args.args.now in
+    let r = rule_at c.args.sym.0 spec.rules c.rules-rules.result.now c.rules_of-number-items.result.now c.loop-number.number-index c.rules-rules.ensures c.rules_of-number-items.ensures c.loop-number-test.true rule c.index-rules-number.is in
+    let m = match_some rule.left (call_of rule.left args) c.in_ok-match_left.field-0 c.in-Some.env c.in-Some.is c.in_ok-match_left.ensures in
+    subst (λ x. IfOk c.use_group.result (IsEval spec x c.args.budget)) (m.1 ∙ ap (λ f. application f args) r.function) c.use_group.ensures
 
 pub call-returns : goal.call-returns
 call-returns t c =
     let n : length c.rules_of-number-items.result.now ≡ length (numbers_of c.args.sym.0 0 c.args.self.now.rules) = ap (λ xs. length xs) c.rules_of-number-items.ensures in
-    none_applies c.args.self.now c.requires.fine c.args.sym.0 (trees_of c.args.args.now) c.args.budget c.requires.function c.requires.built (λ j k rule a b.
+    none_matches c.args.self.now c.requires.fine c.args.sym.0 (trees_of c.args.args.now) c.args.budget c.requires.function c.requires.built (λ j k rule a b.
     let w : j < length (numbers_of c.args.sym.0 0 c.args.self.now.rules) = slice_get_within (numbers_of c.args.sym.0 0 c.args.self.now.rules) j k a in
     c.loop-number.invariant j k rule (omega arith) a b)
 
-pub check_guards-returns-in-None : goal.check_guards-returns-in-None
-check_guards-returns-in-None t c = guards_none c.args.self.now c.args.env.now c.args.guards.now c.args.budget c.in-None.ensures
+pub use_group-choose-requires : goal.use_group-choose-requires
+use_group-choose-requires t c =
+    let r = room c.args.self.now.rules in
+    let f = use_falls c.args.budget r (room_from 0 c.args.self.now.rules) c.requires.some (omega arith) in
+    (omega arith, (c.requires.fine, (c.requires.matched, ((0, no_guards, refl), omega arith))))
 
-pub check_guards-returns-then-not-is_boolean : goal.check_guards-returns-then-not-is_boolean
-check_guards-returns-then-not-is_boolean t c =
-    guards_fail c.args.self.now c.args.env.now c.args.guards.now c.in-Some.rest.now c.in-Some.guard.now c.in-Some.ensures c.requires.fine c.in-Value.value c.in-Value.steps c.args.budget c.requires.sorted (eval_same c.args.self.now _ _ c.args.budget _ (Value c.in-Value.value c.in-Value.steps) refl c.in-Value.is c.in_ok-eval_in-in-Some.ensures) (not_is c.is_boolean.result _ c.if-not-is_boolean.true c.is_boolean.ensures)
+pub use_group-eval_in-requires : goal.use_group-eval_in-requires
+use_group-eval_in-requires t c =
+    let spec = c.args.self.now in
+    let first = c.args.first.now in
+    let env = c.args.env.now in
+    let rule = c.in-Some.rule.now in
+    let a : Applies spec first.left env c.args.budget rule c.in-Some.spent = subst (λ o. IsChoice spec first.left env c.args.budget o) c.in-Some.is c.in_ok-choose.ensures in
+    let m = matched_too spec c.requires.fine first env c.requires.matched rule a.number a.listed a.left_is in
+    let w = right_below_room spec.rules a.number rule a.listed in
+    let f = right_falls c.args.budget c.in-Some.spent (room spec.rules) (2 * weight rule.right + 1) (omega (arith, a.cost)) a.within w in
+    (omega arith, (c.requires.fine, (matched_built spec c.requires.fine rule env m, right_has_sort spec c.requires.fine rule env m)))
 
-pub check_guards-returns-in-Fails : goal.check_guards-returns-in-Fails
-check_guards-returns-in-Fails t c =
-    guards_fail_later c.args.self.now c.args.env.now c.args.guards.now c.in-Some.rest.now c.in-Some.guard.now c.in-Some.ensures (c.args.budget - c.in-Value.steps) (guards_same_answer c.args.self.now c.args.env.now _ _ (c.args.budget - c.in-Value.steps) _ Fails refl c.in-Fails.is c.in_ok-check_guards-in-Value.ensures) c.args.budget
+pub use_group-returns-in-Spent : goal.use_group-returns-in-Spent
+use_group-returns-in-Spent t c =
+    let spec = c.args.self.now in
+    let first = c.args.first.now in
+    let env = c.args.env.now in
+    let rule = c.in-Some.rule.now in
+    let a : Applies spec first.left env c.args.budget rule c.in-Some.spent = subst (λ o. IsChoice spec first.left env c.args.budget o) c.in-Some.is c.in_ok-choose.ensures in
+    let one = eval_same spec _ _ (c.args.budget - c.in-Some.spent) _ Spent refl c.in-Spent.is c.in_ok-eval_in-in-Some.ensures in
+    group_spent spec c.requires.fine first env c.requires.matched rule c.args.budget c.in-Some.spent a one
 
-pub check_guards-returns : goal.check_guards-returns
-check_guards-returns t c =
-    guards_more c.args.self.now c.args.env.now c.args.guards.now c.in-Some.rest.now c.in-Some.guard.now c.in-Some.ensures c.in-Value.value c.in-Value.steps c.in-Holds.more c.args.budget (eval_same c.args.self.now _ _ c.args.budget _ (Value c.in-Value.value c.in-Value.steps) refl c.in-Value.is c.in_ok-eval_in-in-Some.ensures) (yes_is c.is_boolean.result _ c.if-not-is_boolean.false c.is_boolean.ensures) (guards_same_answer c.args.self.now c.args.env.now _ _ (c.args.budget - c.in-Value.steps) _ (Holds c.in-Holds.more) refl c.in-Holds.is c.in_ok-check_guards-in-Value.ensures)
+pub use_group-returns-in-Value : goal.use_group-returns-in-Value
+use_group-returns-in-Value t c =
+    let spec = c.args.self.now in
+    let first = c.args.first.now in
+    let env = c.args.env.now in
+    let rule = c.in-Some.rule.now in
+    let a : Applies spec first.left env c.args.budget rule c.in-Some.spent = subst (λ o. IsChoice spec first.left env c.args.budget o) c.in-Some.is c.in_ok-choose.ensures in
+    let one = eval_same spec _ _ (c.args.budget - c.in-Some.spent) _ (Value c.in-Value.value c.in-Value.steps) refl c.in-Value.is c.in_ok-eval_in-in-Some.ensures in
+    group_value spec c.requires.fine first env c.requires.matched rule c.args.budget c.in-Some.spent a c.in-Value.steps c.in-Value.value one
 
-pub try_rule-match_left-requires-clause-numbered : goal.try_rule-match_left-requires-clause-numbered
-try_rule-match_left-requires-clause-numbered t c = (_, (c.requires.fine.rules c.requires.listed.0 c.args.rule.now c.requires.listed.1).numbered)
-
-pub try_rule-match_left-requires-clause-called : goal.try_rule-match_left-requires-clause-called
-try_rule-match_left-requires-clause-called t c = left_is_application c.args.self.now.sig c.args.rule.now.left (c.requires.fine.rules c.requires.listed.0 c.args.rule.now c.requires.listed.1).left
-
-pub try_rule-returns-then-budget-eq0 : goal.try_rule-returns-then-budget-eq0
-try_rule-returns-then-budget-eq0 t c = try_nothing c.args.self.now c.requires.fine (head_of c.args.rule.now.left) (trees_of c.args.args.now) c.args.budget (rule_function c.args.self.now c.requires.fine c.requires.listed.0 c.args.rule.now c.requires.listed.1) c.if-budget-eq0.true
-
-pub try_rule-check_guards-requires : goal.try_rule-check_guards-requires
-try_rule-check_guards-requires t c =
+pub choose-eval_in-requires : goal.choose-eval_in-requires
+choose-eval_in-requires t c =
     let spec = c.args.self.now in
     let rule = c.args.rule.now in
-    let f = head_of rule.left in
-    let vs = trees_of c.args.args.now in
-    let k = c.requires.listed.0 in
-    let at = c.requires.listed.1 in
-    let s = c.requires.sorted.0 in
-    let m = match_some rule.left (app f vs) c.in_ok-found.found c.in-Some.env c.in-Some.is c.in_ok-found.ensures in
-    let r = right_ready spec c.requires.fine f vs s c.requires.built c.requires.sorted.1 k rule at c.in-Some.env m.1 m.0 in
-    let g = guards_ready spec c.requires.fine f vs s c.requires.built c.requires.sorted.1 k rule at c.in-Some.env m.1 in
-    let w : guards_weight c.as_slice.result.now ≡ guards_weight rule.guards = ap (λ x. guards_weight x) c.as_slice.ensures in
-    let below = rule_below_room spec.rules k rule at in
-    let falls = use_falls c.args.budget (room spec.rules) (2 * guards_weight rule.guards) (omega arith) (omega arith) in
-    (omega arith, (c.requires.fine, (r.0, subst (λ gs. AllByRecursion (λ (x : Guard). Sorted spec.sig [] (instance c.in-Some.env x.test) bool_sort) gs) (sym c.as_slice.ensures) g)))
+    let env = c.args.env.now in
+    let m = c.requires.matched in
+    let at : slice_get rule.guards c.args.asked ≡ Some c.in-Some.guard.now = item_at c.as_slice.result.now rule.guards c.args.asked c.in-Some.guard.now c.as_slice.ensures c.in-Some.ensures.lookup.3.0 c.in-Some.ensures.lookup.1 in
+    let f = test_falls spec.rules m.number rule m.listed c.args.asked c.in-Some.guard.now at ((c.args.budget - c.args.spent) * room spec.rules) in
+    (omega arith, (c.requires.fine, (matched_built spec c.requires.fine rule env m, (bool_sort, test_sorted spec c.requires.fine rule env m c.args.asked c.in-Some.guard.now at))))
 
-pub try_rule-returns-in-Fails : goal.try_rule-returns-in-Fails
-try_rule-returns-in-Fails t c =
+pub choose-returns-in-None : goal.choose-returns-in-None
+choose-returns-in-None t c =
+    let rule = c.args.rule.now in
+    let past : length rule.guards ≤ c.args.asked = subst (λ gs. length gs ≤ c.args.asked) c.as_slice.ensures c.in-None.ensures.lookup.3 in
+    applies c.args.self.now c.requires.fine rule c.args.env.now c.requires.matched c.args.asked c.args.spent c.args.budget past c.requires.held c.requires.within
+
+pub choose-returns-in-Spent : goal.choose-returns-in-Spent
+choose-returns-in-Spent t c =
     let spec = c.args.self.now in
     let rule = c.args.rule.now in
-    let f = head_of rule.left in
-    let vs = trees_of c.args.args.now in
-    let m = match_some rule.left (app f vs) c.in_ok-found.found c.in-Some.env c.in-Some.is c.in_ok-found.ensures in
-    try_fails spec c.requires.fine f vs c.requires.sorted.0 c.requires.built c.requires.sorted.1 c.requires.listed.0 rule c.requires.listed.1 c.in-Some.env m.1 (c.args.budget - 1) (guards_same_answer spec c.in-Some.env _ rule.guards (c.args.budget - 1) _ Fails c.as_slice.ensures c.in-Fails.is c.in_ok-check_guards-in-Some.ensures)
+    let env = c.args.env.now in
+    let at : slice_get rule.guards c.args.asked ≡ Some c.in-Some.guard.now = item_at c.as_slice.result.now rule.guards c.args.asked c.in-Some.guard.now c.as_slice.ensures c.in-Some.ensures.lookup.3.0 c.in-Some.ensures.lookup.1 in
+    test_spent spec c.requires.fine rule env c.requires.matched c.args.asked c.in-Some.guard.now at c.args.spent c.requires.held c.args.budget (eval_same spec _ _ (c.args.budget - c.args.spent) _ Spent refl c.in-Spent.is c.in_ok-eval_in-in-Some.ensures)
 
-pub try_rule-returns-in-Spent : goal.try_rule-returns-in-Spent
-try_rule-returns-in-Spent t c =
+pub choose-returns-in-None-follow : goal.choose-returns-in-None-follow
+choose-returns-in-None-follow t c =
     let spec = c.args.self.now in
     let rule = c.args.rule.now in
-    let f = head_of rule.left in
-    let vs = trees_of c.args.args.now in
-    let m = match_some rule.left (app f vs) c.in_ok-found.found c.in-Some.env c.in-Some.is c.in_ok-found.ensures in
-    let other = rule_function spec c.requires.fine c.requires.listed.0 rule c.requires.listed.1 in
-    try_stuck spec c.requires.fine f vs c.requires.sorted.0 c.requires.built c.requires.sorted.1 c.requires.listed.0 rule c.requires.listed.1 c.in-Some.env m.1 c.args.budget other (guards_same_answer spec c.in-Some.env _ rule.guards (c.args.budget - 1) _ GuardSpent c.as_slice.ensures c.in-Spent.is c.in_ok-check_guards-in-Some.ensures)
+    let env = c.args.env.now in
+    let at : slice_get rule.guards c.args.asked ≡ Some c.in-Some.guard.now = item_at c.as_slice.result.now rule.guards c.args.asked c.in-Some.guard.now c.as_slice.ensures c.in-Some.ensures.lookup.3.0 c.in-Some.ensures.lookup.1 in
+    let one = eval_same spec _ _ (c.args.budget - c.args.spent) _ (Value c.in-Value.value c.in-Value.steps) refl c.in-Value.is c.in_ok-eval_in-in-Some.ensures in
+    none_follows spec c.requires.fine rule env c.requires.matched c.args.asked c.in-Some.guard.now at c.args.spent c.requires.held c.args.budget c.in-Value.value c.in-Value.steps _ one c.in-None-follow.ensures
 
-pub try_rule-eval_in-requires : goal.try_rule-eval_in-requires
-try_rule-eval_in-requires t c =
+pub choose-choose-requires : goal.choose-choose-requires
+choose-choose-requires t c =
     let spec = c.args.self.now in
     let rule = c.args.rule.now in
-    let f = head_of rule.left in
-    let vs = trees_of c.args.args.now in
-    let k = c.requires.listed.0 in
-    let at = c.requires.listed.1 in
-    let s = c.requires.sorted.0 in
-    let m = match_some rule.left (app f vs) c.in_ok-found.found c.in-Some.env c.in-Some.is c.in_ok-found.ensures in
-    let r = right_ready spec c.requires.fine f vs s c.requires.built c.requires.sorted.1 k rule at c.in-Some.env m.1 m.0 in
-    let below = rule_below_room spec.rules k rule at in
-    let falls = right_falls c.args.budget c.in-Holds.steps (room spec.rules) (2 * weight rule.right + 1) (omega arith) (omega arith) in
-    (omega arith, (c.requires.fine, (r.0, (s, r.1))))
-
-pub try_rule-returns-in-Spent-2 : goal.try_rule-returns-in-Spent-2
-try_rule-returns-in-Spent-2 t c =
-    let spec = c.args.self.now in
-    let rule = c.args.rule.now in
-    let f = head_of rule.left in
-    let vs = trees_of c.args.args.now in
-    let m = match_some rule.left (app f vs) c.in_ok-found.found c.in-Some.env c.in-Some.is c.in_ok-found.ensures in
-    let other = rule_function spec c.requires.fine c.requires.listed.0 rule c.requires.listed.1 in
-    try_spent spec c.requires.fine f vs c.requires.sorted.0 c.requires.built c.requires.sorted.1 c.requires.listed.0 rule c.requires.listed.1 c.in-Some.env m.1 c.args.budget c.in-Holds.steps other (guards_same_answer spec c.in-Some.env _ rule.guards (c.args.budget - 1) _ (Holds c.in-Holds.steps) c.as_slice.ensures c.in-Holds.is c.in_ok-check_guards-in-Some.ensures) (eval_same spec _ _ (c.args.budget - 1 - c.in-Holds.steps) _ Spent refl c.in-Spent-2.is c.in_ok-eval_in-in-Holds.ensures)
-
-pub try_rule-returns : goal.try_rule-returns
-try_rule-returns t c =
-    let spec = c.args.self.now in
-    let rule = c.args.rule.now in
-    let f = head_of rule.left in
-    let vs = trees_of c.args.args.now in
-    let m = match_some rule.left (app f vs) c.in_ok-found.found c.in-Some.env c.in-Some.is c.in_ok-found.ensures in
-    try_value spec c.requires.fine f vs c.requires.sorted.0 c.requires.built c.requires.sorted.1 c.requires.listed.0 rule c.requires.listed.1 c.in-Some.env m.1 m.0 c.args.budget c.in-Holds.steps c.in-Value.more c.in-Value.value (omega arith) (guards_same_answer spec c.in-Some.env _ rule.guards (c.args.budget - 1) _ (Holds c.in-Holds.steps) c.as_slice.ensures c.in-Holds.is c.in_ok-check_guards-in-Some.ensures) (eval_same spec _ _ (c.args.budget - 1 - c.in-Holds.steps) _ (Value c.in-Value.value c.in-Value.more) refl c.in-Value.is c.in_ok-eval_in-in-Holds.ensures)
+    let env = c.args.env.now in
+    let m = c.requires.matched in
+    let guard = c.in-Some.guard.now in
+    let next = c.in-Some-follow.next.now in
+    let r = room spec.rules in
+    let at : slice_get rule.guards c.args.asked ≡ Some c.in-Some.guard.now = item_at c.as_slice.result.now rule.guards c.args.asked c.in-Some.guard.now c.as_slice.ensures c.in-Some.ensures.lookup.3.0 c.in-Some.ensures.lookup.1 in
+    let one = eval_same spec _ _ (c.args.budget - c.args.spent) _ (Value c.in-Value.value c.in-Value.steps) refl c.in-Value.is c.in_ok-eval_in-in-Some.ensures in
+    let follows : Follows spec rule c.args.asked c.in-Value.value next = c.in-Some-follow.ensures in
+    let held = next_held spec c.requires.fine rule env m c.args.asked guard at c.args.spent c.requires.held c.args.budget c.in-Value.value c.in-Value.steps _ one next follows in
+    let less : (c.args.budget - (c.args.spent + c.in-Value.steps)) * r ≤ (c.args.budget - c.args.spent) * r = mul-le-mul_right r (omega arith) in
+    let f = step_falls spec.rules m.number rule m.listed c.args.asked guard at ((c.args.budget - c.args.spent) * r) ((c.args.budget - (c.args.spent + c.in-Value.steps)) * r) less in
+    (omega arith, (c.requires.fine, (matched_too spec c.requires.fine rule env m next follows.number follows.listed follows.left, (held, omega (arith, one.1, c.requires.within)))))

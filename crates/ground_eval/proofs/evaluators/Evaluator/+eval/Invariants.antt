@@ -1,11 +1,11 @@
-use Rattle.std.proofs.Common.{◌≡◌, ℕ, ◌+◌, ◌*◌, ◌<◌, Some}
+use Rattle.std.proofs.Common.{◌≡◌, ℕ, ◌+◌, ◌*◌, ◌-◌, ◌<◌, Some, None}
 use Rattle.std.specs.Prelude.{slice_get}
 use Rattle.term_core.specs.Measure.{weight, list_weight}
 use Rattle.spec_core.specs.declared.records.Rule.{Rule}
 use Rattle.ground_eval.specs.Applications.{application}
 use Rattle.ground_eval.specs.Index.{numbers_of}
-use Rattle.ground_eval.specs.Room.{room, guards_weight}
-use Rattle.ground_eval.specs.Tries.{DoesNotApply}
+use Rattle.ground_eval.specs.Room.{room, room_from}
+use Rattle.ground_eval.specs.Matches.{IsMatch}
 use Rattle.ground_eval.proofs.evaluators.Evaluator.+eval.Given as goal
 
 abbrev pub decreases-eval_in : goal.decreases-eval_in
@@ -26,12 +26,12 @@ decreases-eval_applications l = l.budget * room l.self.now.rules + 2 * list_weig
 abbrev pub decreases-call : goal.decreases-call
 decreases-call l = l.budget * room l.self.now.rules + 1
 
-abbrev pub decreases-try_rule : goal.decreases-try_rule
-decreases-try_rule l = l.budget * room l.self.now.rules
+abbrev pub decreases-use_group : goal.decreases-use_group
+decreases-use_group l = l.budget * room l.self.now.rules
 
-abbrev pub decreases-check_guards : goal.decreases-check_guards
-decreases-check_guards l = l.budget * room l.self.now.rules + 2 * guards_weight l.guards.now
+abbrev pub decreases-choose : goal.decreases-choose
+decreases-choose l = (l.budget - l.spent) * room l.self.now.rules + room_from l.asked l.self.now.rules
 
 abbrev pub invariant-call-loop-number : goal.invariant-call-loop-number
 invariant-call-loop-number l =
-    (j k : ℕ) (rule : Rule) → j < l.number-index → slice_get (numbers_of l.fn.sym.0 0 l.self.rules) j ≡ Some k → slice_get l.self.rules k ≡ Some rule → DoesNotApply l.self rule (application l.fn.sym.0 l.args)
+    (j k : ℕ) (rule : Rule) → j < l.number-index → slice_get (numbers_of l.fn.sym.0 0 l.self.rules) j ≡ Some k → slice_get l.self.rules k ≡ Some rule → IsMatch rule.left (application l.fn.sym.0 l.args) None

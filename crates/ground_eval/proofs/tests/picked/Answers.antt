@@ -1,9 +1,0 @@
-use Rattle.std.proofs.Common.{[], sym, subst}
-use Rattle.spec_core.specs.Sorts.{Sorted}
-use Rattle.ground_eval.specs.Samples.{nat, sample_sig}
-use Rattle.ground_eval.proofs.Same.{if_ok_map}
-use Rattle.ground_eval.proofs.Samples.{picked_sorted}
-use Rattle.ground_eval.proofs.tests.picked.Goals as goal
-
-pub returns : goal.returns
-returns c = if_ok_map c.one.result _ _ (λ t e. subst (λ u. Sorted sample_sig [] u nat) (sym e) (picked_sorted c.in_ok-value.value c.in_ok-value.ensures)) c.one.ensures

@@ -1,0 +1,67 @@
+ghost use Rattle.sort_check.specs.declared.faults.SortFault.TheVariants.{Sort, OutOfMemory as out_of_memory};
+ghost use Rattle.std.specs.Prelude.{◌≡◌};
+
+use term_core::OutOfMemory;
+
+/// The kinds of sort fault.
+#[derive(Clone, Copy, Debug, PartialEq, Eq)]
+pub enum SortKind {
+    /// No sort, symbol or variable has this name.
+    UnknownName,
+    RepeatedName,
+    WrongNumberOfArguments,
+    WrongSort,
+    /// A variable of a goal to which nothing gives a sort.
+    SortNotInferred,
+    /// A variable of a right side or guard that isn't on the left side.
+    NotOnTheLeft,
+    /// A function inside a left side.
+    DefinedInPattern,
+    /// The root of a left side is a variable or a constructor.
+    NoFunction,
+    GuardNotBool,
+    /// A sort without a value of at most 255 symbols.
+    NoSmallValue,
+    /// The 17th variable of a rule or goal.
+    TooManyVariables,
+    /// A left side of more than 200 symbols and variables.
+    LeftTooLarge,
+    /// The 65th rule of a function.
+    TooManyRules,
+}
+
+/// Why a raw specification stands for none. `at` is the place of the word that is at fault, in
+/// bytes of the text from 0.
+#[derive(Clone, Copy, Debug, PartialEq, Eq)]
+pub enum SortFault {
+    Sort { at: usize, kind: SortKind },
+    OutOfMemory,
+}
+
+impl From<OutOfMemory> for SortFault {
+    ghost from_gives = { λ _ e. e ≡ out_of_memory };
+
+    fn from(_error: OutOfMemory) -> SortFault {
+        SortFault::OutOfMemory
+    }
+}
+
+/// The place of a term, which decides what its words may be.
+#[derive(Clone, Copy, Debug, PartialEq, Eq)]
+pub(crate) enum Part {
+    /// Inside a left side: constructors, and variables that may be new.
+    Left,
+    /// A right side or a guard: symbols, and the variables of the left side.
+    Right,
+    /// A side of a goal: symbols, and variables that may be new.
+    Goal,
+    /// A term without variables.
+    Ground,
+}
+
+/// The fault of this kind at this place.
+pub(crate) fn fault(at: usize, kind: SortKind) -> SortFault
+    ensures { result ≡ Sort at kind }
+{
+    SortFault::Sort { at, kind }
+}

@@ -1,0 +1,100 @@
+-- What a raw specification within the limits is.
+use Rattle.std.specs.Prelude.{ℕ, ◌+◌, ◌≤◌, max, length, sum_by}
+use Rattle.std.specs.List.{AllByRecursion}
+use Rattle.spec_grammar.specs.declared.raw.RawName.{RawName}
+use Rattle.spec_grammar.specs.declared.raw.RawNames.{RawNames}
+use Rattle.spec_grammar.specs.declared.raw.RawSort.{RawSort}
+use Rattle.spec_grammar.specs.declared.raw.RawFun.{RawFun}
+use Rattle.spec_grammar.specs.declared.raw.RawEq.{RawEq}
+use Rattle.spec_grammar.specs.declared.raw.RawGuard.{RawGuard}
+use Rattle.spec_grammar.specs.declared.raw.RawRule.{RawRule}
+use Rattle.spec_grammar.specs.declared.raw.RawBind.{RawBind}
+use Rattle.spec_grammar.specs.declared.raw.RawGoal.{RawGoal}
+use Rattle.spec_grammar.specs.declared.raw.RawSpec.{RawSpec}
+use Rattle.spec_grammar.specs.RawTree.{RawTree, RawTrees, word, none, some}
+
+-- the depth of a term, 1 for a word alone, and that of the deepest of several terms
+abbrev mutual
+  pub raw_depth : RawTree → ℕ
+  raw_depth (word name at ts) = 1 + raw_depths ts
+
+  pub raw_depths : RawTrees → ℕ
+  raw_depths none = 0
+  raw_depths (some t ts) = max (raw_depth t) (raw_depths ts)
+
+-- how many terms these are
+abbrev pub raw_count : RawTrees → ℕ
+raw_count none = 0
+raw_count (some t ts) = 1 + raw_count ts
+
+-- each word of a term has a name of at most 64 bytes and at most 8 arguments
+abbrev mutual
+  pub WordsKeepLimits : RawTree → Type 0
+  WordsKeepLimits (word name at ts) = (length name ≤ 64) × (raw_count ts ≤ 8) × AllWordsKeepLimits ts
+
+  pub AllWordsKeepLimits : RawTrees → Type 0
+  AllWordsKeepLimits none = Unit {0}
+  AllWordsKeepLimits (some t ts) = WordsKeepLimits t × AllWordsKeepLimits ts
+
+-- a term of a depth of at most 64 whose words keep the limits
+pub record TermKeepsLimits (t : RawTree) : Type 0 where
+  pub depth : raw_depth t ≤ 64
+  pub words : WordsKeepLimits t
+
+-- a name of at most 64 bytes
+abbrev pub NameKeepsLimits : RawName → Type 0
+NameKeepsLimits n = length n.name ≤ 64
+
+-- a name with at most 8 argument sorts
+pub record NamesKeepLimits (c : RawNames) : Type 0 where
+  pub name : length c.name ≤ 64
+  pub few_arguments : length c.args ≤ 8
+  pub arguments : AllByRecursion NameKeepsLimits c.args
+
+-- a sort of at most 64 constructors
+pub record SortKeepsLimits (s : RawSort) : Type 0 where
+  pub name : NameKeepsLimits s.head
+  pub few_constructors : length s.constructors ≤ 64
+  pub constructors : AllByRecursion NamesKeepLimits s.constructors
+
+-- a function, whose head has at most 8 argument sorts
+pub record FunctionKeepsLimits (f : RawFun) : Type 0 where
+  pub head : NamesKeepLimits f.head
+  pub result : NameKeepsLimits f.result
+
+-- a rule of at most 8 guards
+pub record RuleKeepsLimits (r : RawRule) : Type 0 where
+  pub left : TermKeepsLimits r.left
+  pub right : TermKeepsLimits r.right
+  pub few_guards : length r.guards ≤ 8
+  pub guards : AllByRecursion (λ (g : RawGuard). TermKeepsLimits g.test) r.guards
+
+-- an equation whose sides both keep the limits
+abbrev pub EquationKeepsLimits : RawEq → Type 0
+EquationKeepsLimits e = TermKeepsLimits e.left × TermKeepsLimits e.right
+
+-- a variable's name and the name of its sort
+abbrev pub BindKeepsLimits : RawBind → Type 0
+BindKeepsLimits b = NameKeepsLimits b.name × NameKeepsLimits b.sort
+
+-- a goal of at most 16 bindings, 8 premises and 4 conclusions
+pub record GoalKeepsLimits (g : RawGoal) : Type 0 where
+  pub name : NameKeepsLimits g.head
+  pub few_binds : length g.binds ≤ 16
+  pub binds : AllByRecursion BindKeepsLimits g.binds
+  pub few_premises : length g.premises ≤ 8
+  pub premises : AllByRecursion EquationKeepsLimits g.premises
+  pub few_conclusions : length g.conclusions ≤ 4
+  pub conclusions : AllByRecursion EquationKeepsLimits g.conclusions
+
+-- at most 200 sorts with 500 constructors in all, 500 functions, 1000 rules and 200 goals, each of which keeps its limits
+pub record KeepsLimits (raw : RawSpec) : Type 0 where
+  pub few_sorts : length raw.sorts ≤ 200
+  pub few_constructors : sum_by (λ (s : RawSort). length s.constructors) raw.sorts ≤ 500
+  pub sorts : AllByRecursion SortKeepsLimits raw.sorts
+  pub few_functions : length raw.funs ≤ 500
+  pub functions : AllByRecursion FunctionKeepsLimits raw.funs
+  pub few_rules : length raw.rules ≤ 1000
+  pub rules : AllByRecursion RuleKeepsLimits raw.rules
+  pub few_goals : length raw.goals ≤ 200
+  pub goals : AllByRecursion GoalKeepsLimits raw.goals

@@ -1,0 +1,87 @@
+use Rattle.std.proofs.Common.{◌≡◌, ◌<◌, ◌+◌, ◌∙◌, ℕ, List, [], ◌∷◌, ◌++◌, Some, sym, ap, subst, refl, arith, length, get_or}
+use Rattle.std.specs.Prelude.{slice_get, codes}
+use Rattle.std.proofs.lemmas.List.{append-nil, take_all}
+use Rattle.std.proofs.lemmas.Option.{slice_get_read}
+use Rattle.std.proofs.Math.Seq.{take-length}
+use Rattle.io_core.specs.Piece.{Appended}
+use Rattle.spec_core.specs.declared.records.Goal.{Goal}
+use Rattle.spike_cli.specs.declared.claims.Claim.{Claim}
+use Rattle.spike_cli.specs.Claims.{IsClaimOn, AreClaims, AreFirstClaims, IsStatusOfClaims}
+use Rattle.spike_cli.specs.Texts.{claim_text, header_text, begun_text}
+use Rattle.spike_cli.specs.Reports.{BeginsReport, begun, whole}
+use Rattle.spike_cli.specs.Words.{refuting}
+use Rattle.spike_cli.specs.Stops.{Finishes, stop_of}
+use Rattle.spike_cli.proofs.ClaimLemmas.{claims_more, first_claims, status_more, status_of_goals}
+use Rattle.spike_cli.proofs.Pieces.{appended_more, begun_text-more, stopped_more, stopped_same, piece_stopped, at_error}
+use Rattle.spike_cli.proofs.refuting.refute.Goals as goal
+
+pub returns-in_err-write_header-clause-finishes : goal.returns-in_err-write_header-clause-finishes
+returns-in_err-write_header-clause-finishes g c =
+    let spec = c.args.spec.now in
+    let start : BeginsReport spec header_text = subst (λ t. BeginsReport spec t) (append-nil header_text) (begun [] tt) in
+    at_error (Finishes (g.S.Sink.written c.args.out.now) (g.S.Sink.written c.write_header.new.out) (g.S.Sink.faults c.args.out.now) (g.S.Sink.faults c.write_header.new.out) refuting spec) c.from_residual.result c.in_err-write_header.field-0.0 c.from_residual.ensures.1 (stopped_same (λ t. t ≡ header_text) (BeginsReport spec) _ _ _ _ c.in_err-write_header.field-0.0 (λ t e. subst (λ t. BeginsReport spec t) (sym e) start) c.in_err-write_header.ensures.header)
+
+pub loop-goal-init : goal.loop-goal-init
+loop-goal-init g c = (
+  [],
+  tt,
+  subst (λ t. Appended (g.S.Sink.written c.args.out.now) (g.S.Sink.written c.write_header.new.out) t) (sym (append-nil header_text)) c.in_ok-write_header.ensures.header,
+  refl,
+  c.in_ok-write_header.ensures.writes,
+)
+
+listed : (goals : List Goal) (i : ℕ) (one : Goal) → i < length goals → one ≡ get_or goals i one → slice_get goals i ≡ Some one
+listed goals i one h is = slice_get_read goals _ i one refl h is
+
+pub write_claim-requires-clause-listed : goal.write_claim-requires-clause-listed
+write_claim-requires-clause-listed g c =
+    (c.loop-goal.goal-index, subst (λ gs. slice_get gs c.loop-goal.goal-index ≡ Some c.goal-item.result) c.as_slice-goal-items.ensures (listed c.as_slice-goal-items.result.now c.loop-goal.goal-index c.goal-item.result c.loop-goal-test.true c.goal-item.is))
+
+pub returns-in_err-status-clause-finishes : goal.returns-in_err-status-clause-finishes
+returns-in_err-status-clause-finishes g c =
+    let spec = c.args.spec.now in
+    let goals = c.as_slice-goal-items.result.now in
+    let i = c.loop-goal.invariant in
+    let at = listed c.as_slice-goal-items.result.now c.loop-goal.goal-index c.goal-item.result c.loop-goal-test.true c.goal-item.is in
+    let same : goals ≡ spec.goals = c.as_slice-goal-items.ensures in
+    let IsText = λ (text : List ℕ). (claim : Claim) × IsClaimOn spec c.goal-item.result claim × (text ≡ claim_text spec.sig claim) in
+    let start : BeginsReport spec (begun_text spec.sig i.0) = begun i.0 (subst (λ gs. AreFirstClaims spec gs i.0) same (first_claims spec goals c.loop-goal.goal-index i.0 i.1)) in
+    at_error (Finishes (g.S.Sink.written c.args.out.now) (g.S.Sink.written c.write_claim.new.out) (g.S.Sink.faults c.args.out.now) (g.S.Sink.faults c.write_claim.new.out) refuting spec) c.from_residual-in_err-status.result c.in_err-status.field-0.0 c.from_residual-in_err-status.ensures.1 (stopped_more IsText (BeginsReport spec) _ _ _ (begun_text spec.sig i.0) _ _ _ c.in_err-status.field-0.0 i.4 i.2 start (λ t x. subst (λ u. BeginsReport spec u) (begun_text-more spec.sig i.0 x.0 ∙ ap (λ u. begun_text spec.sig i.0 ++ u) (sym x.2)) (begun (i.0 ++ x.0 ∷ []) (subst (λ gs. AreFirstClaims spec gs (i.0 ++ x.0 ∷ [])) same (first_claims spec goals (c.loop-goal.goal-index + 1) (i.0 ++ x.0 ∷ []) (claims_more spec goals c.loop-goal.goal-index c.goal-item.result i.0 x.0 at x.1 i.1))))) c.in_err-status.ensures.claim)
+
+pub loop-goal-preserved : goal.loop-goal-preserved
+loop-goal-preserved g c =
+    let spec = c.args.spec.now in
+    let i = c.loop-goal.invariant in
+    let e = c.in_ok-status.ensures.claim in
+    let at = listed c.as_slice-goal-items.result.now c.loop-goal.goal-index c.goal-item.result c.loop-goal-test.true c.goal-item.is in (
+      i.0 ++ e.0 ∷ [],
+      claims_more spec c.as_slice-goal-items.result.now c.loop-goal.goal-index c.goal-item.result i.0 e.0 at e.1 i.1,
+      subst (λ t. Appended (g.S.Sink.written c.args.out.now) (g.S.Sink.written c.write_claim.new.out) t) (sym (begun_text-more spec.sig i.0 e.0)) (appended_more _ _ _ (begun_text spec.sig i.0) (claim_text spec.sig e.0) i.2 e.2),
+      subst (λ s. IsStatusOfClaims (i.0 ++ e.0 ∷ []) s) (sym e.3) (status_more i.0 e.0 c.loop-goal.status i.3),
+      omega (arith, i.4, c.in_ok-status.ensures.writes),
+    )
+
+pub returns-in_err-write_all-clause-finishes : goal.returns-in_err-write_all-clause-finishes
+returns-in_err-write_all-clause-finishes g c =
+    let spec = c.args.spec.now in
+    let i = c.loop-goal.invariant in
+    let e = c.in_err-write_all.ensures in
+    let all : AreClaims spec spec.goals i.0 = subst (λ gs. AreClaims spec gs i.0) (take_all c.loop-goal.goal-index c.as_slice-goal-items.result.now c.loop-goal-test.false ∙ c.as_slice-goal-items.ensures) i.1 in
+    let start : BeginsReport spec (begun_text spec.sig i.0) = begun i.0 (first_claims spec spec.goals (length spec.goals) i.0 (subst (λ gs. AreClaims spec gs i.0) (sym (take-length spec.goals)) all)) in
+    at_error (Finishes (g.S.Sink.written c.args.out.now) (g.S.Sink.written c.write_all.new.out) (g.S.Sink.faults c.args.out.now) (g.S.Sink.faults c.write_all.new.out) refuting spec) c.from_residual-in_err-write_all.result (stop_of c.in_err-write_all.field-0.0) c.from_residual-in_err-write_all.ensures.1 (stopped_more (λ t. t ≡ codes "done\n") (BeginsReport spec) _ _ _ (begun_text spec.sig i.0) _ _ _ (stop_of c.in_err-write_all.field-0.0) i.4 i.2 start (λ t x. subst (λ u. BeginsReport spec (begun_text spec.sig i.0 ++ u)) (sym x) (whole i.0 all)) (piece_stopped (λ t. t ≡ codes "done\n") _ _ _ _ (codes "done\n") c.in_err-write_all.field-0.0 refl e.prefix e.failed))
+
+pub returns-clause-finishes : goal.returns-clause-finishes
+returns-clause-finishes g c =
+    let spec = c.args.spec.now in
+    let i = c.loop-goal.invariant in
+    let all : AreClaims spec spec.goals i.0 = subst (λ gs. AreClaims spec gs i.0) (take_all c.loop-goal.goal-index c.as_slice-goal-items.result.now c.loop-goal-test.false ∙ c.as_slice-goal-items.ensures) i.1 in (
+      begun_text spec.sig i.0 ++ codes "done\n",
+      record {
+        claims = i.0;
+        are_claims = all;
+        is_text = refl;
+        answers = i.3;
+        exact = λ apart whole. status_of_goals spec apart whole spec.goals i.0 c.loop-goal.status all i.3;
+      },
+      appended_more _ _ _ (begun_text spec.sig i.0) (codes "done\n") i.2 c.in_ok-write_all.ensures.appended,
+    )

@@ -1,0 +1,18 @@
+-- The command that words ask for.
+use Rattle.std.specs.Prelude.{ℕ, List, Option, Some, None}
+use Rattle.spike_cli.specs.declared.words.Command.{Command}
+use Rattle.spike_cli.specs.declared.words.Command.TheVariants.{Refute, Eval}
+use Rattle.spike_cli.specs.Words.{Task, refuting, evaluating, Asks, AskNothing}
+
+abbrev pub file_of : Command → List ℕ
+file_of (Refute file) = file.now
+file_of (Eval file term steps) = file.now
+
+abbrev pub task_of : Command → Task
+task_of (Refute file) = refuting
+task_of (Eval file term steps) = evaluating term.now steps
+
+-- the words ask for this command, or for none
+abbrev pub IsAsked : List (List ℕ) → Option Command → Type 0
+IsAsked words (Some command) = Asks words (file_of command) (task_of command)
+IsAsked words None = AskNothing words

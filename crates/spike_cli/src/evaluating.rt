@@ -1,0 +1,129 @@
+ghost use Rattle.std.specs.Prelude.{◌≡◌, ◌≤◌, ◌++◌, IfOk, OnOk};
+ghost use Rattle.spec_core.specs.TermText.{SymbolsAreInRange};
+ghost use Rattle.spec_core.specs.WellSorted.{IsWellSorted};
+ghost use Rattle.spike_cli.specs.Evaluations.{IsEvaluation, value_text, value_lines as lines_of_value, spent_line as line_of_spent};
+ghost use Rattle.spike_cli.specs.Stops.{Finishes};
+ghost use Rattle.spike_cli.specs.Tellings.{IsLineOf};
+ghost use Rattle.spike_cli.specs.Words.{evaluating};
+
+use crate::refusals::Refusal;
+use crate::statuses::Status;
+use crate::stops::Stop;
+use crate::texts::ground_term;
+use ground_eval::{Eval, Evaluator};
+use io_core::{Sink, write_all};
+use spec_core::{Signature, Spec};
+use std::alloc::Global;
+use term_core::{OutOfMemory, Term};
+
+/// The most symbols of a value that is written.
+const MOST_SYMBOLS: u32 = 10_000;
+
+/// What is written for a term, and the status with it.
+#[derive(Drop)]
+pub struct Evaluation {
+    pub text: Vec<u8>,
+    pub status: Status,
+}
+
+/// Writes what the evaluation of a term within so many rule uses gives.
+pub fn evaluate<S: Sink>(
+    alloc: Global,
+    spec: &Spec,
+    term: &[u8],
+    steps: u32,
+    out: &mut S,
+) -> Result<Status, Stop>
+    requires { IsWellSorted spec.now }
+    ensures finishes { Finishes (S.written out.old) (S.written out.new) (S.faults out.old) (S.faults out.new) (evaluating term.now steps) spec.now result }
+    ensures writes { S.faults out.old ≤ S.faults out.new }
+{
+    let evaluation = evaluation_of(alloc, spec, term, steps)?;
+    write_all(out, alloc, &evaluation.text)?;
+    Ok(evaluation.status)
+}
+
+/// Evaluates the term that these bytes stand for.
+fn evaluation_of(
+    alloc: Global,
+    spec: &Spec,
+    bytes: &[u8],
+    steps: u32,
+) -> Result<Evaluation, OutOfMemory>
+    requires { IsWellSorted spec.now }
+    ensures { IfOk result (λ e. IsEvaluation spec.now bytes.now steps e.text.items e.status) }
+{
+    let term = match ground_term(alloc, &spec.sig, bytes) {
+        Ok(term) => term,
+        Err(refusal) => return refused(refusal),
+    };
+    match Evaluator::new(alloc, spec)?.eval(alloc, &term, steps)? {
+        Eval::Value { value, steps: cost } => Ok(Evaluation {
+            text: value_lines(alloc, &spec.sig, &value, cost)?,
+            status: Status::Done,
+        }),
+        Eval::Spent => Ok(Evaluation {
+            text: spent_line(alloc, steps)?,
+            status: Status::Open,
+        }),
+    }
+}
+
+/// What is written where the bytes stand for no term.
+fn refused(refusal: Refusal) -> Result<Evaluation, OutOfMemory>
+    ensures { IfOk result (λ e. IsLineOf refusal e.text.items × (e.status ≡ Status.Refused)) }
+{
+    match refusal {
+        Refusal::Line(text) => Ok(Evaluation {
+            text,
+            status: Status::Refused,
+        }),
+        Refusal::OutOfMemory => Err(OutOfMemory),
+    }
+}
+
+/// The lines of a value and its cost.
+fn value_lines(
+    alloc: Global,
+    sig: &Signature,
+    value: &Term,
+    cost: u32,
+) -> Result<Vec<u8>, OutOfMemory>
+    requires { SymbolsAreInRange sig.now value.now }
+    ensures { IfOk result (λ text. text.items ≡ lines_of_value sig.now value.now cost) }
+{
+    let mut text = Vec::from_slice(alloc, b"value ")?;
+    append_value(alloc, sig, value, &mut text)?;
+    text.extend_from_slice(b"\nsteps ")?;
+    text.extend_from_slice(cost.to_string(alloc)?.as_bytes())?;
+    text.push(b'\n')?;
+    Ok(text)
+}
+
+/// Appends the value, where it isn't too large.
+fn append_value(
+    alloc: Global,
+    sig: &Signature,
+    value: &Term,
+    text: &mut Vec<u8>,
+) -> Result<(), OutOfMemory>
+    requires { SymbolsAreInRange sig.now value.now }
+    ensures { OnOk result (text.new.items ≡ text.old.items ++ value_text sig.now value.now) }
+{
+    if value.size(MOST_SYMBOLS + 1) <= MOST_SYMBOLS {
+        sig.print(alloc, &[], value, text)?;
+    } else {
+        text.extend_from_slice(b"large")?;
+    }
+    Ok(())
+}
+
+/// The line of an evaluation that found no value within the steps.
+fn spent_line(alloc: Global, steps: u32) -> Result<Vec<u8>, OutOfMemory>
+    ensures { IfOk result (λ text. text.items ≡ line_of_spent steps) }
+{
+    let mut text = Vec::from_slice(alloc, b"spent ")?;
+    text.extend_from_slice(steps.to_string(alloc)?.as_bytes())?;
+    text.push(b'\n')?;
+    Ok(text)
+}
