@@ -1,32 +1,12 @@
 -- How matches of terms make matches of lists.
-use Rattle.std.proofs.Common.{◌≡◌, ℕ, ◌<◌, ◌≤◌, List, ◌∷◌, Bool, true, false, length, inl, inr, sym, ◌∙◌, subst, arith}
+use Rattle.std.proofs.Common.{◌≡◌, ℕ, List, ◌∷◌, Bool, true, false, length, inl, inr, sym, ◌∙◌, subst, arith}
 use Rattle.std.specs.Prelude.{Result, Ok, Err, IfOk}
 use Rattle.term_core.specs.declared.memory.OutOfMemory.{OutOfMemory}
 use Rattle.term_core.specs.Tree.{Tree, Trees, var, app, none, some, instance, instances, trees_of}
-use Rattle.spec_core.specs.WellSorted.{Numbered, NumberedAll, Occurs, OccursAny}
+use Rattle.spec_core.specs.WellSorted.{Numbered, NumberedAll}
 use Rattle.spec_core.proofs.Instances.{same_instance}
+use Rattle.spec_core.proofs.Numbered.{numbered_below}
 use Rattle.ground_eval.specs.Matches.{Binds, BindsAll}
-
-mutual
-  numbered_more : (k m : ℕ) (t : Tree) → Numbered k t m → k ≤ m
-  numbered_more k m (var n) (inl h) = omega arith
-  numbered_more k m (var n) (inr h) = omega arith
-  numbered_more k m (app f ts) h = numbered_all_more k m ts h
-
-  numbered_all_more : (k m : ℕ) (ts : Trees) → NumberedAll k ts m → k ≤ m
-  numbered_all_more k m none h = omega arith
-  numbered_all_more k m (some t ts) h = omega (arith, numbered_more k h.0 t h.1, numbered_all_more h.0 m ts h.2)
-
-mutual
-  pub numbered_below : (k m : ℕ) (t : Tree) → Numbered k t m → (n : ℕ) → Occurs n t → n < m
-  numbered_below k m (var j) (inl h) n o = omega (arith, o)
-  numbered_below k m (var j) (inr h) n o = omega (arith, o)
-  numbered_below k m (app f ts) h n o = numbered_all_below k m ts h n o
-
-  pub numbered_all_below : (k m : ℕ) (ts : Trees) → NumberedAll k ts m → (n : ℕ) → OccursAny n ts → n < m
-  numbered_all_below k m none h n o = absurd o
-  numbered_all_below k m (some t ts) h n (inl o) = omega (arith, numbered_below k h.0 t h.1 n o, numbered_all_more h.0 m ts h.2)
-  numbered_all_below k m (some t ts) h n (inr o) = numbered_all_below h.0 m ts h.2 n o
 
 -- a first pattern that matches, and then the rest
 module _ (old mid new : List Tree) (p v : Tree) (ps vs : List Tree) where

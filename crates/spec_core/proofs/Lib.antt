@@ -1,4 +1,5 @@
 pub mod Instances
+pub mod Numbered
 pub mod Keeps
 pub mod Groups
 pub mod Determined
@@ -15,4 +16,5 @@ pub mod SmallValues
 pub mod Ranges
 pub mod SortedNaturals
 pub mod SmallShapes
+mod Covered
 pub mod Findings

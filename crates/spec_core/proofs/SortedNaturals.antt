@@ -47,7 +47,7 @@ result_is i j s at r =
     let e : j ≡ i = cc in
     ap (λ (x : SymInfo). x.result.0) e ∙ ap (λ (t : SortId). t.0) r
 
-bool_is_not_nat : (i : SymInfo) → Some bool_symbol ≡ Some i → i.result ≡ nat → ⊥
+pub bool_is_not_nat : (i : SymInfo) → Some bool_symbol ≡ Some i → i.result ≡ nat → ⊥
 bool_is_not_nat i at r = let k : ◌≡◌ {A = ℕ} 0 1 = result_is i bool_symbol nat at r in omega arith
 
 succ_args : (i : SymInfo) (ts : Trees) → Some (declares (nat ∷ [])) ≡ Some i → SortedAll endless_sig [] ts i.args → SortedAll endless_sig [] ts (nat ∷ [])

@@ -8,12 +8,14 @@ use Rattle.spec_core.specs.Declarations.{IsDeclared, bool_sort}
 use Rattle.spec_core.specs.WellSorted.{Numbered, RuleIsSorted, GoalIsSorted, IsWellSorted}
 use Rattle.spec_core.specs.Gives.{Gives}
 use Rattle.spec_core.specs.Truth.{GoalFails, GoalHolds}
+use Rattle.spec_core.specs.Linear.{IsLinear, LeftSidesAreLinear}
 use Rattle.spec_core.specs.Overlap.{NoOverlap}
 use Rattle.spec_core.specs.Groups.{Whole}
+use Rattle.spec_core.specs.Covering.{IsCovering}
 use Rattle.spec_core.specs.Verdict.{IsVerdict}
 use Rattle.spec_core.specs.Order.{is_small, values, substitutions}
 use Rattle.spec_core.specs.TermText.{term_text}
-use Rattle.spec_core.specs.Naturals.{nat, naturals_sig, repeated_sig, endless_sig, naturals, twice, overlapping, plus_zero_rule, plus_succ_rule, loose_rule, same_goal, mixed_goal, number, zero_term, succ_term, plus_term}
+use Rattle.spec_core.specs.Naturals.{nat, naturals_sig, repeated_sig, endless_sig, naturals, twice, overlapping, uncovered, plus_zero_rule, plus_succ_rule, loose_rule, same_goal, mixed_goal, number, zero_term, succ_term, plus_term}
 use Rattle.spec_core.specs.Shapes.{shape, tree_sig, color_sig, wide_sig}
 
 pub record WorkedExamples : Type 0 where
@@ -64,6 +66,12 @@ pub record WorkedExamples : Type 0 where
   -- plus(zero, y) and plus(succ(x), y) don't overlap, and plus(zero, y) and plus(x, y) do
   pub apart : NoOverlap naturals
   pub not_apart : NoOverlap overlapping → ⊥
+  -- plus(zero, y) and plus(succ(x), y) are linear, and plus(x, x) isn't
+  pub linear : LeftSidesAreLinear naturals
+  pub not_linear : IsLinear (plus_term (var 0) (var 0)) → ⊥
+  -- they match all values together, and plus(zero, y) alone doesn't
+  pub covering : IsCovering naturals
+  pub not_covering : IsCovering uncovered → ⊥
   -- the values of Nat of depth at most 3, and the substitutions of two variables at depth 2
   pub three_values : values naturals_sig 3 nat ≡ zero_term ∷ succ_term zero_term ∷ succ_term (succ_term zero_term) ∷ []
   pub no_values : values naturals_sig 0 nat ≡ []

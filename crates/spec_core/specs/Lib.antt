@@ -6,8 +6,10 @@ pub mod Declarations
 pub mod WellSorted
 pub mod Gives
 pub mod Truth
+pub mod Linear
 pub mod Overlap
 pub mod Groups
+pub mod Covering
 pub mod Verdict
 pub mod Order
 pub mod TermText

@@ -96,3 +96,7 @@ plus_any_rule = record { vars = variable (codes "x") ∷ variable (codes "y") �
 
 abbrev pub overlapping : Spec
 overlapping = record { sig = naturals_sig; rules = plus_zero_rule ∷ plus_any_rule ∷ []; goals = [] }
+
+-- plus with no rule for a successor
+abbrev pub uncovered : Spec
+uncovered = record { sig = naturals_sig; rules = plus_zero_rule ∷ []; goals = [] }

@@ -1,6 +1,6 @@
-use Rattle.std.proofs.Common.{◌≡◌, zero, suc, ◌≤◌, ◌<◌, ◌++◌, max, ◌-◌, ◌+◌, ℕ, List, [], ◌∷◌, IsTrue, Bool, ◌↔◌, refl, ap, sym, ◌∙◌, length, get_or, take, drop, arith}
+use Rattle.std.proofs.Common.{◌≡◌, zero, suc, ◌≤◌, ◌<◌, ◌++◌, max, ◌-◌, ◌+◌, ℕ, List, [], ◌∷◌, IsTrue, Bool, ◌↔◌, refl, ap, sym, ◌∙◌, length, get_or, slice_set, take, drop, arith}
 use Rattle.std.proofs.Math.Seq.{take-length}
-use Rattle.std.proofs.lemmas.List.{take_more}
+use Rattle.std.proofs.lemmas.List.{take_more, take_all, length-take, length-drop}
 use Rattle.term_core.specs.Measure.{weight, list_weight}
 use Rattle.term_core.specs.Tree.{Tree, Trees, app, none, some, trees_of, list_of, tree_size, sizes, tree_depth, depths}
 
@@ -50,3 +50,20 @@ pub weight-member : (xs : List Tree) (i : ℕ) (x : Tree) → i < length xs → 
 weight-member [] i x h e = absurd (omega arith)
 weight-member (y ∷ ys) zero x h e = let w : weight x ≡ weight y = ap (λ t. weight t) e in omega arith
 weight-member (y ∷ ys) (suc i) x h e = omega (arith, weight-member ys i x (omega arith) e)
+
+-- a list with one member exchanged, in parts
+pub set_parts : (xs : List Tree) (i : ℕ) (x : Tree) → i < length xs → slice_set xs i x ≡ take i xs ++ x ∷ drop (i + 1) xs
+set_parts [] i x h = absurd (omega arith)
+set_parts (y ∷ ys) zero x h = refl
+set_parts (y ∷ ys) (suc i) x h =
+    let k : suc i + 1 ≡ suc (i + 1) = omega arith in
+    ap (λ us. y ∷ us) (set_parts ys i x (omega arith)) ∙ ap (λ j. y ∷ take i ys ++ x ∷ drop j (y ∷ ys)) (sym k)
+
+-- all that stands behind an index, as a loop over a part of a slice goes along it
+pub whole_rest : (xs ys : List Tree) (i j : ℕ) → ys ≡ xs → length (take (length ys - (i + 1)) (drop (i + 1) ys)) ≤ j → take j (drop (i + 1) xs) ≡ drop (i + 1) xs
+whole_rest xs ys i j e h =
+    let same : length ys ≡ length xs = ap (λ us. length us) e in
+    let taken = length-take (length ys - (i + 1)) (drop (i + 1) ys) in
+    let left = length-drop (i + 1) ys in
+    let rest = length-drop (i + 1) xs in
+    take_all j (drop (i + 1) xs) (omega arith)

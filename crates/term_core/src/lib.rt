@@ -7,15 +7,20 @@
 #![tactic(auto)]
 
 mod ids;
+mod laws;
 mod lists;
 mod memory;
 mod names;
+mod places;
 #[cfg(test)]
 mod tests;
 mod tree;
+mod variables;
 
 pub use ids::{SortId, SymId, VarId};
+pub use laws::{one_place, replaced_is_there, worked_examples};
 pub use lists::{Seq, front};
 pub use memory::OutOfMemory;
 pub use names::Name;
+pub use places::ReplaceError;
 pub use tree::{Node, Term, Terms, copy_all};

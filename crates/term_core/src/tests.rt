@@ -54,3 +54,65 @@ fn pushes_in_order(rt: HostRuntime) -> Result<(), Fail> {
     assert_eq!(rt; numbers.as_slice(), [7, 9].as_slice());
     Ok(())
 }
+
+/// `f(x, g(y, x))`, with the numbers above.
+fn with_two_places(alloc: Global) -> Result<Term, OutOfMemory> {
+    let mut inner = Terms::new(alloc);
+    inner.push(Term::var(VarId(1)))?;
+    inner.push(Term::var(VarId(0)))?;
+    let mut args = Terms::new(alloc);
+    args.push(Term::var(VarId(0)))?;
+    args.push(Term::app(SymId(6), inner))?;
+    Ok(Term::app(SymId(5), args))
+}
+
+/// Each path of the term above with the number of symbols and variables that stand there, and with
+/// the size of the term once `f(x, g(y))` has taken the place; None where it has no such place.
+#[test]
+fn finds_and_exchanges_subterms(rt: HostRuntime) -> Result<(), Fail> {
+    let alloc = rt.alloc();
+    let term = with_two_places(alloc)?;
+    let new = nested(alloc)?;
+    let rows = [
+        ([].as_slice(), Some(5), 4),
+        ([1].as_slice(), Some(1), 8),
+        ([2].as_slice(), Some(3), 6),
+        ([2, 1].as_slice(), Some(1), 8),
+        ([2, 2].as_slice(), Some(1), 8),
+        ([0].as_slice(), None, 0),
+        ([3].as_slice(), None, 0),
+        ([1, 1].as_slice(), None, 0),
+        ([2, 3].as_slice(), None, 0),
+        ([2, 1, 1].as_slice(), None, 0),
+    ];
+    for (path, size, size_after) in rows {
+        assert_eq!(rt; term.at(path).map(|found| found.size(9)), size);
+        match term.replace(alloc, path, &new) {
+            Ok(made) => {
+                assert_eq!(rt; made.size(99), size_after);
+                assert!(rt; made.at(path).is_some_and(|found| found.same(&new)));
+            }
+            Err(error) => assert!(rt; error == ReplaceError::NoSuchPlace && size.is_none()),
+        }
+    }
+    Ok(())
+}
+
+#[test]
+fn lists_variables_by_first_occurrence(rt: HostRuntime) -> Result<(), Fail> {
+    let alloc = rt.alloc();
+    let mut args = Terms::new(alloc);
+    args.push(Term::var(VarId(1)))?;
+    args.push(with_two_places(alloc)?)?;
+    let term = Term::app(SymId(5), args);
+    assert_eq!(rt;
+        term.vars(alloc)?.as_slice(),
+        [VarId(1), VarId(0)].as_slice()
+    );
+    let term = with_two_places(alloc)?;
+    assert_eq!(rt;
+        term.vars(alloc)?.as_slice(),
+        [VarId(0), VarId(1)].as_slice()
+    );
+    Ok(())
+}

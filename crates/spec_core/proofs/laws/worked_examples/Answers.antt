@@ -13,6 +13,7 @@ use Rattle.spec_core.specs.Gives.{Gives, built, called, no_terms, more_terms, no
 use Rattle.spec_core.specs.Groups.{alone, split}
 use Rattle.spec_core.specs.Naturals.{nat, naturals_sig, naturals, overlapping, plus_zero_rule, plus_succ_rule, plus_any_rule, zero_term, succ_term, plus_term}
 use Rattle.spec_core.proofs.SortedNaturals.{declared, not_declared, nat_has_a_small_value, no_small_value, zero_rule_is_sorted, succ_rule_is_sorted, loose_rule_is_not, same_goal_is_sorted, mixed_goal_is_not, well_sorted, not_well_sorted}
+use Rattle.spec_core.proofs.Covered.{linear, not_linear, covering, not_covering}
 use Rattle.spec_core.proofs.SmallShapes.{no_small_wide_value, small_nat, small_tree, small_color}
 use Rattle.spec_core.proofs.laws.worked_examples.Goals as goal
 
@@ -114,6 +115,10 @@ returns c = record {
   guarded = λ test. split test (refl, (refl, tt)) alone alone;
   apart = apart;
   not_apart = not_apart;
+  linear = linear;
+  not_linear = not_linear;
+  covering = covering;
+  not_covering = not_covering;
   three_values = refl;
   no_values = refl;
   four_substitutions = refl;
