@@ -1,0 +1,4 @@
+pub mod Instances
+pub mod Entries
+pub mod SortedEntries
+pub mod Compositions
