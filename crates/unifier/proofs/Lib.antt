@@ -1,0 +1,16 @@
+pub mod Bindings
+pub mod Shifts
+pub mod Apart
+mod Cases
+mod Closing
+mod Filling
+mod Graphs
+mod Growing
+mod Joining
+mod Lists
+mod Markings
+mod Pairs
+mod Readiness
+mod Relabelling
+mod Resolutions
+mod Solving

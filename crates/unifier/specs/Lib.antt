@@ -1,0 +1,22 @@
+-- What matching, renaming apart and unification are.
+pub mod Matching
+pub mod Shifting
+pub mod Unification
+-- What only this crate's own contracts speak of: matching with the entries so far,
+pub mod Extending
+pub mod ErrorText
+-- the graph of two terms,
+pub mod Graph
+pub mod Parts
+pub mod Adding
+-- the classes of its nodes,
+pub mod Roots
+pub mod Markings
+pub mod Classes
+pub mod Work
+pub mod Closure
+-- the occurs test,
+pub mod Cycles
+pub mod Readiness
+-- and the unifier of an acyclic graph.
+pub mod Answer
