@@ -1,0 +1,14 @@
+mod Counting
+mod Instances
+mod Constructors
+mod SmallEntries
+mod Variables
+mod Unified
+mod TwoRules
+mod SameOrNot
+mod Pairs
+mod OneNaming
+mod OneAnswer
+mod LinearSums
+mod OverlappingSums
+mod SampleRules
