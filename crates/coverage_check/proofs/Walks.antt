@@ -1,0 +1,28 @@
+-- A walk over a list: what is made so far, before what is to come.
+use Rattle.std.proofs.Common.{◌≡◌, ◌↔◌, ℕ, suc, ◌+◌, Bool, true, false, IsTrue, arith, ◌<◌, ◌≤◌, List, [], ◌∷◌, ◌++◌, map, length, get_or, drop, refl, ap, sym, ◌∙◌}
+use Rattle.std.specs.Prelude.{◌==◌}
+use Rattle.std.proofs.lemmas.Bool.Decides.{nat_tests}
+use Rattle.std.proofs.lemmas.List.{at_drop_more, at_drop_all}
+
+-- the item of this turn stands before those to come
+pub at_item : {X : Type 0} (xs : List X) (i : ℕ) (x : X) → i < length xs → x ≡ get_or xs i x → drop i xs ≡ x ∷ drop (i + 1) xs
+at_item xs i x h is = at_drop_more (λ ys. ys) xs i x h ∙ ap (λ y. y ∷ drop (i + 1) xs) (sym is)
+
+-- after the last turn there are none to come
+pub at_end : {X : Type 0} (xs : List X) (i : ℕ) → length xs ≤ i → drop i xs ≡ []
+at_end xs i h = at_drop_all (λ ys. ys) xs i h
+
+pub push_before : {X : Type 0} (xs : List X) (y : X) (zs : List X) → (xs ++ y ∷ []) ++ zs ≡ xs ++ y ∷ zs
+push_before [] y zs = refl
+push_before (x ∷ xs) y zs = ap (λ ys. x ∷ ys) (push_before xs y zs)
+
+pub map_push_before : {X Y : Type 0} (f : X → Y) (xs : List X) (y : X) (zs : List Y) → map f (xs ++ y ∷ []) ++ zs ≡ map f xs ++ f y ∷ zs
+map_push_before f [] y zs = refl
+map_push_before f (x ∷ xs) y zs = ap (λ ys. f x ∷ ys) (map_push_before f xs y zs)
+
+-- the test whether a list is empty
+pub empty_test : {X : Type 0} (xs : List X) (b : Bool) → b ≡ (length xs == 0) → IsTrue b ↔ (xs ≡ [])
+empty_test [] b e = (λ h. refl, λ h. e)
+empty_test (x ∷ xs) b e =
+    let k : (suc (length xs) == 0) ≡ false = grind (arith, nat_tests) in
+    (λ h. absurd (let q : b ≡ true = h in let r : b ≡ false = e ∙ k in cc), λ h. absurd (cc))

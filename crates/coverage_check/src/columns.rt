@@ -1,0 +1,111 @@
+ghost use Rattle.std.specs.Prelude.{◌≡◌, ◌↔◌, ◌<◌, ◌++◌, List, IfOk, IsTrue, MatchOption, length, map};
+ghost use Rattle.std.specs.List.{AllByRecursion};
+ghost use Rattle.term_core.specs.Tree.{Tree};
+ghost use Rattle.coverage_check.specs.Opened.{BeginsWithVariable, rests};
+ghost use Rattle.coverage_check.specs.Columns.{IsVariable, SomeIs, IsBusiest, HasNoSymbols, symbols_at, fronted};
+ghost use Rattle.coverage_check.specs.Decisions.{BeginsOtherwise};
+
+use crate::rows::Row;
+use std::alloc::Global;
+use term_core::{OutOfMemory, SortId, SymId};
+
+/// The first of the columns at which most rows have a symbol, where some row has one.
+pub(crate) fn busiest(rows: &[Row], columns: usize) -> Option<usize>
+    ensures { MatchOption result (HasNoSymbols rows.now columns) (IsBusiest rows.now columns) }
+{
+    let mut found = None;
+    let mut most = 0;
+    for column in 0..columns {
+        let count = symbols_at(rows, column);
+        if count > most {
+            most = count;
+            found = Some(column);
+        }
+    }
+    found
+}
+
+fn symbols_at(rows: &[Row], column: usize) -> usize
+    ensures { result ≡ symbols_at column rows.now }
+{
+    rows.iter().filter(|row| row.has_symbol_at(column)).count()
+}
+
+/// Whether some row has no symbol.
+pub(crate) fn some_is_variables(rows: &[Row]) -> bool
+    ensures { IsTrue result ↔ SomeIs (AllByRecursion IsVariable) rows.now }
+{
+    for row in rows {
+        if row.is_variables() {
+            return true;
+        }
+    }
+    false
+}
+
+/// Whether the first pattern of each row is a variable.
+pub(crate) fn begin_with_variables(rows: &[Row]) -> bool
+    ensures { IsTrue result ↔ AllByRecursion BeginsWithVariable rows.now }
+{
+    for row in rows {
+        if !row.begins_with_variable() {
+            return false;
+        }
+    }
+    true
+}
+
+/// Whether no row begins with the symbol.
+pub(crate) fn begin_otherwise(rows: &[Row], sym: SymId) -> bool
+    ensures { IsTrue result ↔ AllByRecursion (BeginsOtherwise sym.0) rows.now }
+{
+    for row in rows {
+        if !row.begins_otherwise(sym) {
+            return false;
+        }
+    }
+    true
+}
+
+/// The rows with the pattern at the column before the others.
+pub(crate) fn fronted_rows<'a>(
+    alloc: Global,
+    rows: &[Row<'a>],
+    column: usize,
+) -> Result<Vec<Row<'a>>, OutOfMemory>
+    requires { AllByRecursion (λ (row : List Tree). column < length row) rows.now }
+    ensures { IfOk result (λ made. made.items ≡ map (fronted column) rows.now) }
+{
+    let mut made = Vec::with_capacity(alloc, rows.len())?;
+    for row in rows {
+        made.push(row.fronted(alloc, column)?)?;
+    }
+    Ok(made)
+}
+
+/// The sorts with the one at the column before the others.
+pub(crate) fn fronted_sorts(
+    alloc: Global,
+    sorts: &[SortId],
+    column: usize,
+) -> Result<Vec<SortId>, OutOfMemory>
+    requires { column < length sorts.now }
+    ensures { IfOk result (λ made. made.items ≡ fronted column sorts.now) }
+{
+    let mut made = Vec::with_capacity(alloc, sorts.len())?;
+    made.push(sorts[column])?;
+    made.extend_from_slice(&sorts[..column])?;
+    made.extend_from_slice(&sorts[column + 1..])?;
+    Ok(made)
+}
+
+/// The rows without their first patterns.
+pub(crate) fn rests<'a>(alloc: Global, rows: &[Row<'a>]) -> Result<Vec<Row<'a>>, OutOfMemory>
+    ensures { IfOk result (λ made. made.items ≡ rests rows.now) }
+{
+    let mut made = Vec::with_capacity(alloc, rows.len())?;
+    for row in rows {
+        made.push(row.rest(alloc)?)?;
+    }
+    Ok(made)
+}

@@ -1,0 +1,49 @@
+ghost use Rattle.std.specs.Prelude.{◌≡◌, ◌++◌, ◌↔◌, List, IfOk, OnOk, Some};
+ghost use Rattle.std.specs.List.{AllByRecursion};
+ghost use Rattle.term_core.specs.Tree.{Tree, trees_of};
+ghost use Rattle.spec_core.specs.declared.records.SymInfo.{SymInfo};
+ghost use Rattle.spec_core.specs.Sig.{info_of};
+ghost use Rattle.spec_core.specs.WellSorted.{IsWellSorted};
+ghost use Rattle.spec_core.specs.Linear.{LeftSidesAreLinear};
+ghost use Rattle.spec_core.specs.Covering.{IsMatched};
+ghost use Rattle.coverage_check.specs.LeftSides.{row_of, rows_of as rows_of_function};
+ghost use Rattle.coverage_check.specs.Rows.{IsRow};
+ghost use Rattle.coverage_check.specs.Values.{MatchesSome};
+
+use spec_core::Spec;
+use std::alloc::Global;
+use term_core::{Node, OutOfMemory, SymId, Term, Terms};
+
+/// The argument patterns of the left sides of a function, in the order of its rules: what
+/// [`covers`](crate::covers) takes with the function's argument sorts.
+pub fn rows_of(alloc: Global, spec: &Spec, function: SymId) -> Result<Vec<Terms>, OutOfMemory>
+    requires fine { IsWellSorted spec.now }
+    requires linear { LeftSidesAreLinear spec.now }
+    ensures are { IfOk result (λ rows. rows.items ≡ rows_of_function function.0 spec.now.rules) }
+    ensures rows { IfOk result (λ rows. (i : SymInfo) → info_of spec.now.sig function.0 ≡ Some i → AllByRecursion (IsRow spec.now.sig i.args) rows.items) }
+    ensures matched { IfOk result (λ rows. (vs : List Tree) → MatchesSome rows.items vs ↔ IsMatched spec.now function.0 (trees_of vs)) }
+{
+    let mut rows = Vec::new(alloc);
+    for rule in spec.rules.as_slice() {
+        add_row(alloc, &rule.left, function, &mut rows)?;
+    }
+    Ok(rows)
+}
+
+/// Adds the arguments of a call of the function.
+fn add_row(
+    alloc: Global,
+    left: &Term,
+    function: SymId,
+    rows: &mut Vec<Terms>,
+) -> Result<(), OutOfMemory>
+    ensures { OnOk result (rows.new.items ≡ rows.old.items ++ row_of function.0 left.now) }
+{
+    match &left.node {
+        Node::App(sym, args) if *sym == function => {
+            rows.push(args.copy(alloc)?)?;
+            Ok(())
+        }
+        _ => Ok(()),
+    }
+}
