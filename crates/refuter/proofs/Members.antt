@@ -14,15 +14,15 @@ use Rattle.spec_core.specs.WellSorted.{sorts_of}
 use Rattle.spec_core.specs.Truth.{AreValuesOf}
 use Rattle.spec_core.specs.Order.{product, constructors_from, constructors_of, is_small, values, substitutions}
 
-all_append : {A : Type 0} (P : A → Type 0) (xs ys : List A) → AllByRecursion P xs → AllByRecursion P ys → AllByRecursion P (xs ++ ys)
+pub all_append : {A : Type 0} (P : A → Type 0) (xs ys : List A) → AllByRecursion P xs → AllByRecursion P ys → AllByRecursion P (xs ++ ys)
 all_append P [] ys a b = b
 all_append P (x ∷ xs) ys a b = (a.0, all_append P xs ys a.1 b)
 
-all_flat_map : {X A : Type 0} (Q : X → Type 0) (P : A → Type 0) (f : X → List A) (xs : List X) → AllByRecursion Q xs → ((x : X) → Q x → AllByRecursion P (f x)) → AllByRecursion P (flat_map f xs)
+pub all_flat_map : {X A : Type 0} (Q : X → Type 0) (P : A → Type 0) (f : X → List A) (xs : List X) → AllByRecursion Q xs → ((x : X) → Q x → AllByRecursion P (f x)) → AllByRecursion P (flat_map f xs)
 all_flat_map Q P f [] a h = tt
 all_flat_map Q P f (x ∷ xs) a h = all_append P (f x) (flat_map f xs) (h x a.0) (all_flat_map Q P f xs a.1 h)
 
-all_map : {X A : Type 0} (Q : X → Type 0) (P : A → Type 0) (f : X → A) (xs : List X) → AllByRecursion Q xs → ((x : X) → Q x → P (f x)) → AllByRecursion P (map f xs)
+pub all_map : {X A : Type 0} (Q : X → Type 0) (P : A → Type 0) (f : X → A) (xs : List X) → AllByRecursion Q xs → ((x : X) → Q x → P (f x)) → AllByRecursion P (map f xs)
 all_map Q P f [] a h = tt
 all_map Q P f (x ∷ xs) a h = (h x a.0, all_map Q P f xs a.1 h)
 
@@ -34,7 +34,8 @@ all_filter : {A : Type 0} (P : A → Type 0) (t : A → Bool) (xs : List A) → 
 all_filter P t [] a = tt
 all_filter P t (x ∷ xs) a = all_cond P (t x) x (filter t xs) a.0 (all_filter P t xs a.1)
 
-Makes : Sig → SortId → ℕ × List SortId → Type 0
+-- the constructor is declared with these arguments and this result
+unfoldable pub Makes : Sig → SortId → ℕ × List SortId → Type 0
 Makes sig s c = (i : SymInfo) × (info_of sig c.0 ≡ Some i) × (i.result ≡ s) × (i.args ≡ c.1) × IsConstructor sig c.0
 
 bool_all : {A : Type 0} (P : A → Type 0) (b : Bool) (x : A) (xs : List A) → (b ≡ true → P x) → AllByRecursion P xs → AllByRecursion P (cond b (x ∷ xs) xs)
@@ -47,7 +48,7 @@ same_sort a b e =
     λ i. record { 0 = p i }
 
 module _ (sig : Sig) (s : SortId) where
-  constructors_make : (es : List (List ℕ × SymInfo)) (f left : ℕ) → ((k : ℕ) (e : List ℕ × SymInfo) → slice_get es k ≡ Some e → slice_get sig.table (f + k) ≡ Some e) → f + left ≤ sig.constructors → AllByRecursion (Makes sig s) (constructors_from f left s es)
+  pub constructors_make : (es : List (List ℕ × SymInfo)) (f left : ℕ) → ((k : ℕ) (e : List ℕ × SymInfo) → slice_get es k ≡ Some e → slice_get sig.table (f + k) ≡ Some e) → f + left ≤ sig.constructors → AllByRecursion (Makes sig s) (constructors_from f left s es)
   unfolding Makes
   constructors_make es f zero at h = tt
   constructors_make [] f (suc left) at h = tt

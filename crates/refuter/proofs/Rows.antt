@@ -1,21 +1,15 @@
--- Steps of the lists that a search makes and walks.
-use Rattle.std.proofs.Common.{◌≡◌, ◌≢◌, ℕ, zero, suc, ◌+◌, ◌-◌, ◌<◌, ◌≤◌, min, List, [], ◌∷◌, ◌++◌, Bool, true, false, cond, eqb, Some, None, ◌⊎◌, inl, inr, refl, ap, sym, ◌∙◌, subst, arith, length, take, drop, add-one, append_assoc}
-use Rattle.std.specs.Prelude.{slice_get, filter, option_map, nat_lt}
+-- Places in lists, and the constructors of a sort from a number on.
+use Rattle.std.proofs.Common.{◌≡◌, ◌≢◌, ℕ, zero, suc, ◌+◌, ◌-◌, ◌<◌, ◌≤◌, List, [], ◌∷◌, ◌++◌, Bool, true, false, cond, eqb, Some, None, ◌⊎◌, inl, inr, refl, ap, sym, ◌∙◌, subst, arith, length, drop, add-one, append_assoc}
+use Rattle.std.specs.Prelude.{slice_get, filter, option_map}
 use Rattle.std.specs.List.{flat_map, AllByRecursion}
 use Rattle.std.proofs.lemmas.Bool.Decides.{nat_tests}
 use Rattle.std.proofs.lemmas.List.Elements.{filter-append}
-use Rattle.term_core.specs.Tree.{Tree}
 use Rattle.term_core.specs.declared.ids.SortId.{SortId}
 use Rattle.spec_core.specs.declared.records.SymInfo.{SymInfo}
-use Rattle.spec_core.specs.declared.records.Spec.{Spec}
-use Rattle.spec_core.specs.declared.records.Goal.{Goal}
-use Rattle.spec_core.specs.declared.records.Verdict.TheVariants.{Spent}
 use Rattle.spec_core.specs.Sig.{Sig, info_of}
-use Rattle.spec_core.specs.Verdict.{IsVerdict}
 use Rattle.spec_core.specs.Order.{constructors_from}
-use Rattle.refuter.specs.Finds.{SpentRows}
 
-drop_here : {X : Type 0} (es : List X) (i : ℕ) (e : X) → slice_get es i ≡ Some e → drop i es ≡ e ∷ drop (i + 1) es
+pub drop_here : {X : Type 0} (es : List X) (i : ℕ) (e : X) → slice_get es i ≡ Some e → drop i es ≡ e ∷ drop (i + 1) es
 drop_here [] i e h = absurd (let q : None ≡ Some e = h in cc)
 drop_here (x ∷ es) zero e h =
     let q : Some x ≡ Some e = h in
@@ -36,25 +30,13 @@ below_more P xs i x at before now k o h e = elim (split_at k i h) [
       subst P r now
 ]
 
-pub taken_at : {X : Type 0} (n : ℕ) (xs : List X) (i : ℕ) (x : X) → slice_get (take n xs) i ≡ Some x → slice_get xs i ≡ Some x
-taken_at zero xs i x h = absurd (let q : None ≡ Some x = h in cc)
-taken_at (suc n) [] i x h = absurd (let q : None ≡ Some x = h in cc)
-taken_at (suc n) (y ∷ xs) zero x h = h
-taken_at (suc n) (y ∷ xs) (suc i) x h = taken_at n xs i x h
-
-pub taken_whole : {X : Type 0} (n : ℕ) (xs : List X) (i : ℕ) (x : X) → i < n → slice_get xs i ≡ Some x → slice_get (take n xs) i ≡ Some x
-taken_whole zero xs i x l h = absurd (omega arith)
-taken_whole (suc n) [] i x l h = h
-taken_whole (suc n) (y ∷ xs) zero x l h = h
-taken_whole (suc n) (y ∷ xs) (suc i) x l h = taken_whole n xs i x (omega arith) h
-
 pub drop_past : {X : Type 0} (xs : List X) (n : ℕ) → length xs ≤ n → drop n xs ≡ []
 drop_past [] zero h = refl
 drop_past [] (suc n) h = refl
 drop_past (x ∷ xs) zero h = absurd (omega arith)
 drop_past (x ∷ xs) (suc n) h = drop_past xs n (omega arith)
 
-info_parts : (es : List (List ℕ × SymInfo)) (f : ℕ) (i : SymInfo) → option_map (λ (e : List ℕ × SymInfo). e.1) (slice_get es f) ≡ Some i → (e : List ℕ × SymInfo) × (slice_get es f ≡ Some e) × (e.1 ≡ i)
+pub info_parts : (es : List (List ℕ × SymInfo)) (f : ℕ) (i : SymInfo) → option_map (λ (e : List ℕ × SymInfo). e.1) (slice_get es f) ≡ Some i → (e : List ℕ × SymInfo) × (slice_get es f ≡ Some e) × (e.1 ≡ i)
 info_parts [] f i h = absurd (let q : None ≡ Some i = h in cc)
 info_parts (x ∷ es) zero i h =
     let q : Some (x.1) ≡ Some i = h in
@@ -85,32 +67,6 @@ constructor_other sig f n s i at h q =
 pub made_more : {C X : Type 0} (p : X → Bool) (F : C → List X) (old new all : List X) (c : C) (cs ds : List C) → old ++ filter p (flat_map F cs) ≡ all → cs ≡ c ∷ ds → new ≡ old ++ filter p (F c) → new ++ filter p (flat_map F ds) ≡ all
 made_more p F old new all c cs ds h e n =
     ap (λ x. x ++ filter p (flat_map F ds)) n ∙ append_assoc old (filter p (F c)) (filter p (flat_map F ds)) ∙ ap (λ x. old ++ x) (sym (filter-append p (F c) (flat_map F ds)) ∙ ap (λ x. filter p (flat_map F x)) (sym e)) ∙ h
-
-module _ (spec : Spec) (goal : Goal) (budget : ℕ) where
-  pub spent_more : (rows : List (List Tree)) (i k : ℕ) (row : List Tree) → slice_get rows i ≡ Some row → IsVerdict spec row budget goal Spent → ((n : ℕ) → SpentRows spec goal budget (drop i rows) n → SpentRows spec goal budget rows (k + n)) → (n : ℕ) → SpentRows spec goal budget (drop (i + 1) rows) n → SpentRows spec goal budget rows (k + 1 + n)
-  spent_more rows i k row at v before n h =
-      let d = drop_here rows i row at in
-      let a : SpentRows spec goal budget (row ∷ drop (i + 1) rows) (n + 1) = inl (v, (n, refl, h)) in
-      let b : SpentRows spec goal budget (drop i rows) (n + 1) = rw d a in
-      let e : k + (n + 1) ≡ k + 1 + n = omega arith in
-      subst (λ m. SpentRows spec goal budget rows m) e (before (n + 1) b)
-
-  pub spent_same : (rows : List (List Tree)) (i k : ℕ) (row : List Tree) → slice_get rows i ≡ Some row → (IsVerdict spec row budget goal Spent → ⊥) → ((n : ℕ) → SpentRows spec goal budget (drop i rows) n → SpentRows spec goal budget rows (k + n)) → (n : ℕ) → SpentRows spec goal budget (drop (i + 1) rows) n → SpentRows spec goal budget rows (k + n)
-  spent_same rows i k row at v before n h =
-      let d = drop_here rows i row at in
-      let a : SpentRows spec goal budget (row ∷ drop (i + 1) rows) n = inr (v, h) in
-      let b : SpentRows spec goal budget (drop i rows) n = rw d a in
-      before n b
-
-  pub spent_end : (rows : List (List Tree)) (i k : ℕ) → length rows ≤ i → ((n : ℕ) → SpentRows spec goal budget (drop i rows) n → SpentRows spec goal budget rows (k + n)) → SpentRows spec goal budget rows k
-  spent_end rows i k h before =
-      let d = drop_past rows i h in
-      let a : SpentRows spec goal budget (drop i rows) 0 = rw d refl in
-      let e : k + 0 ≡ k = omega arith in
-      subst (λ m. SpentRows spec goal budget rows m) e (before 0 a)
-
-pub cut_is : (tried tries n : ℕ) → tried ≡ min tries n → nat_lt tried n ≡ nat_lt tries n
-cut_is tried tries n e = grind (arith, nat_tests)
 
 pub all_at : {X : Type 0} (P : X → Type 0) (xs : List X) (i : ℕ) (x : X) → AllByRecursion P xs → slice_get xs i ≡ Some x → P x
 all_at P [] i x h e = absurd (let q : None ≡ Some x = e in cc)

@@ -1,13 +1,20 @@
 //! The search for a counterexample of a goal.
 //!
-//! It stands on ground_eval. It builds the list of a goal's substitutions whole, in the order of
-//! spec_core's definitions, and evaluates the goal under one after the other. The layer above uses
-//! the contract of [`search`]: the first member among the first `tries` whose verdict is Fails, or
-//! that there is none, with the numbers of what was looked at.
+//! It stands on ground_eval. A goal's substitutions are walked by an odometer, in the order of
+//! spec_core's definitions: the values of one substitution become those of the next, and neither
+//! the values of a sort nor the substitutions are ever listed. A value is begun only where the
+//! fewest symbols of what is missing fit into the limit. The layer above uses the contract of
+//! [`search`]: the first member among the first `tries` whose verdict is Fails, or that there is
+//! none, with the numbers of what was looked at.
 #![tactic(auto)]
 
 mod answers;
+#[cfg(test)]
+mod comparing;
+mod fewest;
+#[cfg(test)]
 mod lists;
+mod odometer;
 mod searching;
 #[cfg(test)]
 mod tests;

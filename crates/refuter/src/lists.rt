@@ -1,15 +1,15 @@
+//! The list of a goal's substitutions, built whole: what the tests compare the odometer with. The
+//! module is there for tests only, and proved with them.
 ghost use Rattle.std.specs.Prelude.{◌≡◌, ◌≤◌, ◌++◌, ◌∷◌, IfOk, OnOk, filter, map, length};
 ghost use Rattle.std.specs.List.{flat_map};
 ghost use Rattle.term_core.specs.Tree.{trees_of, app as application};
 ghost use Rattle.spec_core.specs.Order.{product, values, substitutions, is_small};
-ghost use Rattle.spec_core.specs.WellSorted.{sorts_of};
 
-use spec_core::{Goal, Signature, Spec, VarInfo};
+use crate::fewest::MOST_SYMBOLS;
+use crate::searching::sorts_of_vars;
+use spec_core::{Goal, Signature, Spec};
 use std::alloc::Global;
 use term_core::{OutOfMemory, Seq, SortId, SymId, Term, Terms, front};
-
-/// The symbols of the largest value that is tried.
-const MOST_SYMBOLS: u32 = 255;
 
 /// The substitutions that a search tries, in their order.
 pub fn all_substitutions(
@@ -25,20 +25,9 @@ pub fn all_substitutions(
     product_of(alloc, lists.as_slice())
 }
 
-/// The sorts of the variables.
-fn sorts_of_vars(alloc: Global, vars: &[VarInfo]) -> Result<Seq<SortId>, OutOfMemory>
-    ensures { IfOk result (λ r. r ≡ sorts_of vars.now) }
-{
-    let mut sorts = Seq::new(alloc);
-    for var in vars {
-        sorts.push(var.sort)?;
-    }
-    Ok(sorts)
-}
-
 /// The values of each of the sorts.
 #[cycle(values)]
-fn lists_of(
+pub(crate) fn lists_of(
     alloc: Global,
     sig: &Signature,
     depth: u32,
@@ -93,7 +82,7 @@ fn add_small(
 }
 
 /// One member of each list, the first list slowest.
-fn product_of(alloc: Global, lists: &[Terms]) -> Result<Seq<Terms>, OutOfMemory>
+pub(crate) fn product_of(alloc: Global, lists: &[Terms]) -> Result<Seq<Terms>, OutOfMemory>
     ensures { IfOk result (λ r. r ≡ product lists.now) }
 {
     let mut rows = Seq::new(alloc);

@@ -1,0 +1,16 @@
+use Rattle.std.proofs.Common.{◌≡◌, ◌+◌, ◌*◌, length}
+use Rattle.refuter.specs.Lists.{first_of}
+use Rattle.refuter.specs.After.{made_from}
+use Rattle.refuter.proofs.odometer.Odometer.+first.Given as goal
+
+abbrev pub decreases-push_first : goal.decreases-push_first
+decreases-push_first l = 10 * l.depth + length l.sorts.now + 1
+
+abbrev pub decreases-first_value : goal.decreases-first_value
+decreases-first_value l = 10 * l.depth + 1
+
+abbrev pub decreases-first_made : goal.decreases-first_made
+decreases-first_made l = 10 * l.depth + 10
+
+abbrev pub invariant-first_made-loop-number : goal.invariant-first_made-loop-number
+invariant-first_made-loop-number l = first_of (made_from l.self l.depth l.sort l.bound l.number) ≡ first_of (made_from l.self l.depth l.sort l.bound l.from)
