@@ -1,17 +1,21 @@
-//! Sorts a file's specification, searches for counterexamples of its goals or evaluates a term over
-//! it, for the figures of `bench/run`.
+//! Sorts a file's specification, searches for counterexamples of its goals, evaluates a term over
+//! it, compares its left sides or asks whether they match all values, for the figures of
+//! `bench/run`.
 //!
-//! It stands on spec_syntax, sort_check, ground_eval and refuter, and promises nothing beyond being
-//! safe. The words are `search FILE DEPTH TRIES`, `sort FILE TIMES` or
-//! `eval FILE TERM BUDGET TIMES`.
+//! It stands on spec_syntax, sort_check, ground_eval, refuter, overlap_check and coverage_check, and
+//! promises nothing beyond being safe. The words are `search FILE DEPTH TRIES`, `sort FILE TIMES`,
+//! `eval FILE TERM BUDGET TIMES`, `overlap FILE TIMES` or `cover FILE TIMES`.
 #![tactic(auto)]
 
 ghost use Rattle.std.specs.Prelude.{ℕ, IfOk, List};
+ghost use Rattle.spec_core.specs.Linear.{LeftSidesAreLinear};
 ghost use Rattle.spec_core.specs.WellSorted.{IsWellSorted};
 ghost use Rattle.sort_check.specs.Counted.{HasFewDeclarations};
 
 use anyhow::{Context, Result, bail};
+use coverage_check::{Coverage, covers, rows_of};
 use ground_eval::{Eval, Evaluator};
+use overlap_check::{Linear, Overlap, linear, overlap};
 use refuter::{Search, search};
 use sort_check::{elaborate, elaborate_term};
 use spec_core::Spec;
@@ -19,6 +23,7 @@ use spec_grammar::RawSpec;
 use spec_syntax::{read, read_term};
 use std::alloc::Global;
 use std::{env, fs};
+use term_core::SymId;
 
 /// How many rule uses the evaluation of one side may cost in a search.
 const STEPS: u32 = 1_000;
@@ -36,9 +41,9 @@ fn main(rt: HostRuntime) -> Result<()> {
                 number(tries)?,
             )?
         }
-        [_, mode, file, times] if mode.as_str() == "sort" => {
+        [_, mode, file, times] => {
             let bytes = fs::read(&rt, file.as_str())?;
-            sorted(alloc, &bytes, number(times)?)?
+            repeated(alloc, mode.as_str(), &bytes, number(times)?)?
         }
         [_, mode, file, term, budget, times] if mode.as_str() == "eval" => {
             let bytes = fs::read(&rt, file.as_str())?;
@@ -55,6 +60,21 @@ fn main(rt: HostRuntime) -> Result<()> {
     };
     println!(rt; "done {done}")?;
     Ok(())
+}
+
+/// What is done with a text so many times.
+fn repeated(alloc: Global, mode: &str, bytes: &[u8], times: u32) -> Result<u64> {
+    if mode == "sort" {
+        return sorted(alloc, bytes, times);
+    }
+    let spec = specification(alloc, bytes)?;
+    if mode == "overlap" {
+        return compared(alloc, &spec, times);
+    }
+    if mode == "cover" {
+        return covered(alloc, &spec, times);
+    }
+    bail!("the words are no mode of this program")
 }
 
 fn number(word: &String) -> Result<u32> {
@@ -134,4 +154,52 @@ fn evaluated(alloc: Global, spec: &Spec, text: &[u8], budget: u32, times: u32) -
         }
     }
     Ok(cost)
+}
+
+/// How many rules a specification has, whose left sides are compared so many times.
+fn compared(alloc: Global, spec: &Spec, times: u32) -> Result<u64>
+    requires { IsWellSorted spec.now }
+{
+    for _time in 0..times {
+        match overlap(alloc, spec) {
+            Ok(Overlap::Fine) => {}
+            Ok(Overlap::Both { .. }) => bail!("two left sides overlap"),
+            Err(_) => bail!("out of memory"),
+        }
+    }
+    Ok(spec.rules.len() as u64)
+}
+
+/// How many symbols have left sides that match all values, which is asked so many times.
+fn covered(alloc: Global, spec: &Spec, times: u32) -> Result<u64>
+    requires { IsWellSorted spec.now }
+{
+    let Ok(Linear::Fine) = linear(alloc, spec) else {
+        bail!("some left side isn't linear");
+    };
+    let mut count = 0;
+    for _time in 0..times {
+        count = covered_functions(alloc, spec)?;
+    }
+    Ok(count)
+}
+
+/// How many symbols have left sides that match all values.
+fn covered_functions(alloc: Global, spec: &Spec) -> Result<u64>
+    requires fine { IsWellSorted spec.now }
+    requires linear { LeftSidesAreLinear spec.now }
+{
+    let mut count: u64 = 0;
+    for number in 0..spec.sig.symbols() {
+        let sorts = spec.sig.info(SymId(number)).args.as_slice();
+        let Ok(rows) = rows_of(alloc, spec, SymId(number)) else {
+            bail!("out of memory");
+        };
+        match covers(alloc, &spec.sig, &rows, sorts) {
+            Ok(Coverage::Covered) => count = count.saturating_add(1),
+            Ok(Coverage::Missing(_)) => continue,
+            Err(_) => bail!("out of memory"),
+        }
+    }
+    Ok(count)
 }

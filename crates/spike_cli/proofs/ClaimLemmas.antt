@@ -24,29 +24,30 @@ use Rattle.spike_cli.specs.declared.claims.Outcome.{Outcome}
 use Rattle.spike_cli.specs.declared.claims.Outcome.TheVariants.{Refuted, Open}
 use Rattle.spike_cli.specs.declared.statuses.Status.{Status}
 use Rattle.spike_cli.specs.declared.statuses.Status.TheVariants as status
-use Rattle.spike_cli.specs.Numbers.{depth, tries, steps, named}
+use Rattle.spike_cli.specs.declared.bounds.SearchBounds.{SearchBounds}
+use Rattle.spike_cli.specs.Numbers.{named}
 use Rattle.spike_cli.specs.Claims.{outcome_of, IsClaimOn, AreFirstClaims, AreClaims, IsRefutable, SomeIsRefutable, IsStatusOfGoals, IsRefuted, SomeIsRefuted, IsStatusOfClaims}
 use Rattle.spike_cli.specs.Ranges.{ArePrintable, IsPrintable}
 use Rattle.spike_cli.specs.Stops.{joined}
 
-module _ (spec : Spec) where
+module _ (bounds : SearchBounds) (spec : Spec) where
   -- a claim more on the next goal
-  pub claims_more : (goals : List Goal) (i : ℕ) (goal : Goal) (claims : List Claim) (claim : Claim) → slice_get goals i ≡ Some goal → IsClaimOn spec goal claim → AreClaims spec (take i goals) claims → AreClaims spec (take (i + 1) goals) (claims ++ claim ∷ [])
+  pub claims_more : (goals : List Goal) (i : ℕ) (goal : Goal) (claims : List Claim) (claim : Claim) → slice_get goals i ≡ Some goal → IsClaimOn bounds spec goal claim → AreClaims bounds spec (take i goals) claims → AreClaims bounds spec (take (i + 1) goals) (claims ++ claim ∷ [])
   claims_more goals i goal claims claim at c all = rw add-one (by goals i claims at all)
     where
-      by : (goals : List Goal) (i : ℕ) (claims : List Claim) → slice_get goals i ≡ Some goal → AreClaims spec (take i goals) claims → AreClaims spec (take (suc i) goals) (claims ++ claim ∷ [])
+      by : (goals : List Goal) (i : ℕ) (claims : List Claim) → slice_get goals i ≡ Some goal → AreClaims bounds spec (take i goals) claims → AreClaims bounds spec (take (suc i) goals) (claims ++ claim ∷ [])
       by [] i claims at all = absurd (let q : None ≡ Some goal = at in cc)
-      by (g ∷ gs) zero [] at all = let q : Some g ≡ Some goal = at in let k : g ≡ goal = cc in (subst (λ x. IsClaimOn spec x claim) (sym k) c, tt)
+      by (g ∷ gs) zero [] at all = let q : Some g ≡ Some goal = at in let k : g ≡ goal = cc in (subst (λ x. IsClaimOn bounds spec x claim) (sym k) c, tt)
       by (g ∷ gs) zero (d ∷ ds) at all = absurd all
       by (g ∷ gs) (suc i) [] at all = absurd all
       by (g ∷ gs) (suc i) (d ∷ ds) at all = (all.0, by gs i ds at all.1)
 
-  no_goals : (i : ℕ) (d : Claim) (ds : List Claim) → AreClaims spec (take i []) (d ∷ ds) → ⊥
+  no_goals : (i : ℕ) (d : Claim) (ds : List Claim) → AreClaims bounds spec (take i []) (d ∷ ds) → ⊥
   no_goals zero d ds all = all
   no_goals (suc i) d ds all = all
 
   -- claims on the goals before a place are claims on the first goals
-  pub first_claims : (goals : List Goal) (i : ℕ) (claims : List Claim) → AreClaims spec (take i goals) claims → AreFirstClaims spec goals claims
+  pub first_claims : (goals : List Goal) (i : ℕ) (claims : List Claim) → AreClaims bounds spec (take i goals) claims → AreFirstClaims bounds spec goals claims
   first_claims goals i [] all = tt
   first_claims [] i (d ∷ ds) all = absurd (no_goals i d ds all)
   first_claims (g ∷ gs) zero (d ∷ ds) all = absurd all
@@ -113,56 +114,56 @@ named_printable spec [] values h = tt
 named_printable spec (v ∷ vars) [] h = absurd h
 named_printable spec (v ∷ vars) (t ∷ values) h = (sorted_in_range spec.sig [] t v.sort h.0.0, named_printable spec vars values h.1)
 
-pub claim_printable : (spec : Spec) (goal : Goal) (claim : Claim) → IsClaimOn spec goal claim → IsPrintable spec.sig claim.outcome
-claim_printable spec goal claim c = subst (λ o. IsPrintable spec.sig o) (sym c.outcome) (by c.search c.false)
+pub claim_printable : (bounds : SearchBounds) (spec : Spec) (goal : Goal) (claim : Claim) → IsClaimOn bounds spec goal claim → IsPrintable spec.sig claim.outcome
+claim_printable bounds spec goal claim c = subst (λ o. IsPrintable spec.sig o) (sym c.outcome) (by c.search c.false)
   where
-    by : (search : Search) → IsFalse spec goal tries (substitutions spec goal depth) search → IsPrintable spec.sig (outcome_of goal search)
+    by : (search : Search) → IsFalse spec goal bounds.tries (substitutions spec goal bounds.depth) search → IsPrintable spec.sig (outcome_of bounds goal search)
     by (Found index values) f = named_printable spec goal.vars values f.2
     by (NotFound tried skipped cut) f = tt
 
-module _ (spec : Spec) (apart : NoOverlap spec) (whole : GroupsAreWhole spec) where
+module _ (bounds : SearchBounds) (spec : Spec) (apart : NoOverlap spec) (whole : GroupsAreWhole spec) where
   -- a claim is refuted exactly where its goal is refutable
-  refuted_refutable : (goal : Goal) (claim : Claim) → IsClaimOn spec goal claim → IsRefuted claim.outcome → IsRefutable spec goal
+  refuted_refutable : (goal : Goal) (claim : Claim) → IsClaimOn bounds spec goal claim → IsRefuted claim.outcome → IsRefutable bounds spec goal
   refuted_refutable goal claim c r = by c.search (c.exact apart whole) (subst (λ o. IsRefuted o) c.outcome r)
     where
-      by : (search : Search) → Finds spec goal steps tries (substitutions spec goal depth) search → IsRefuted (outcome_of goal search) → IsRefutable spec goal
+      by : (search : Search) → Finds spec goal bounds.steps bounds.tries (substitutions spec goal bounds.depth) search → IsRefuted (outcome_of bounds goal search) → IsRefutable bounds spec goal
       by (Found index values) f r = (index, values, f.0, f.1, f.2)
       by (NotFound tried skipped cut) f r = absurd r
 
-  refutable_refuted : (goal : Goal) (claim : Claim) → IsClaimOn spec goal claim → IsRefutable spec goal → IsRefuted claim.outcome
+  refutable_refuted : (goal : Goal) (claim : Claim) → IsClaimOn bounds spec goal claim → IsRefutable bounds spec goal → IsRefuted claim.outcome
   refutable_refuted goal claim c r = subst (λ o. IsRefuted o) (sym c.outcome) (by c.search (c.exact apart whole))
     where
-      by : (search : Search) → Finds spec goal steps tries (substitutions spec goal depth) search → IsRefuted (outcome_of goal search)
+      by : (search : Search) → Finds spec goal bounds.steps bounds.tries (substitutions spec goal bounds.depth) search → IsRefuted (outcome_of bounds goal search)
       by (Found index values) f = tt
       by (NotFound tried skipped cut) f =
-          let within = slice_get_within (substitutions spec goal depth) r.0 r.1 r.3 in
+          let within = slice_get_within (substitutions spec goal bounds.depth) r.0 r.1 r.3 in
           absurd (f.2 r.0 r.1 (omega (arith, f.0, r.2, within)) r.3 r.4)
 
-  some_refutable : (goals : List Goal) (claims : List Claim) → AreClaims spec goals claims → SomeIsRefuted claims → SomeIsRefutable spec goals
+  some_refutable : (goals : List Goal) (claims : List Claim) → AreClaims bounds spec goals claims → SomeIsRefuted claims → SomeIsRefutable bounds spec goals
   some_refutable [] [] a h = absurd h
   some_refutable [] (c ∷ claims) a h = absurd a
   some_refutable (g ∷ goals) [] a h = absurd a
   some_refutable (g ∷ goals) (c ∷ claims) a (inl h) = inl (refuted_refutable g c a.0 h)
   some_refutable (g ∷ goals) (c ∷ claims) a (inr h) = inr (some_refutable goals claims a.1 h)
 
-  some_refuted : (goals : List Goal) (claims : List Claim) → AreClaims spec goals claims → SomeIsRefutable spec goals → SomeIsRefuted claims
+  some_refuted : (goals : List Goal) (claims : List Claim) → AreClaims bounds spec goals claims → SomeIsRefutable bounds spec goals → SomeIsRefuted claims
   some_refuted [] claims a h = absurd h
   some_refuted (g ∷ goals) [] a h = absurd a
   some_refuted (g ∷ goals) (c ∷ claims) a (inl h) = inl (refutable_refuted g c a.0 h)
   some_refuted (g ∷ goals) (c ∷ claims) a (inr h) = inr (some_refuted goals claims a.1 h)
 
-  no_goal : (goals : List Goal) (claims : List Claim) → AreClaims spec goals claims → goals ≡ [] → claims ≡ []
+  no_goal : (goals : List Goal) (claims : List Claim) → AreClaims bounds spec goals claims → goals ≡ [] → claims ≡ []
   no_goal [] [] a e = refl
   no_goal [] (c ∷ claims) a e = absurd a
   no_goal (g ∷ goals) claims a e = cc
 
-  no_claim : (goals : List Goal) (claims : List Claim) → AreClaims spec goals claims → claims ≡ [] → goals ≡ []
+  no_claim : (goals : List Goal) (claims : List Claim) → AreClaims bounds spec goals claims → claims ≡ [] → goals ≡ []
   no_claim [] claims a e = refl
   no_claim (g ∷ goals) [] a e = absurd a
   no_claim (g ∷ goals) (c ∷ claims) a e = cc
 
   -- the status of the claims is that of the goals
-  pub status_of_goals : (goals : List Goal) (claims : List Claim) (s : Status) → AreClaims spec goals claims → IsStatusOfClaims claims s → IsStatusOfGoals spec goals s
+  pub status_of_goals : (goals : List Goal) (claims : List Claim) (s : Status) → AreClaims bounds spec goals claims → IsStatusOfClaims claims s → IsStatusOfGoals bounds spec goals s
   status_of_goals goals claims status.Refuted a h = some_refutable goals claims a h
   status_of_goals goals claims status.Open a h = (λ e. h.0 (no_goal goals claims a e), λ r. h.1 (some_refuted goals claims a r))
   status_of_goals goals claims status.Done a h = no_claim goals claims a h

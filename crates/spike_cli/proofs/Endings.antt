@@ -73,7 +73,7 @@ no_claims claims status.Open n h = n
 no_claims claims status.Refused n h = n
 
 no_end : (task : Task) (spec : Spec) (text : List ℕ) (s : Status) → IsNoEnd s → IsEnd task spec text s → ⊥
-no_end refuting spec text s n is = no_claims is.claims s n is.answers
+no_end (refuting bounds) spec text s n is = no_claims is.claims s n is.answers
 no_end (evaluating term steps) spec text s n is = no_evaluation spec term steps text s n is
 
 module _ (task : Task) (bytes : List ℕ) (old new : Option (List ℕ)) (writes writes' : ℕ) where

@@ -1,7 +1,8 @@
 pub mod Walks
+pub mod OptionLemmas
+pub mod WordLemmas
 pub mod Pieces
 pub mod ClaimLemmas
-pub mod WordLemmas
 pub mod Told
 pub mod Endings
 pub mod EvaluationLemmas

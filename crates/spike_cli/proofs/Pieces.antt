@@ -45,9 +45,9 @@ pub stopped_more : (P Q : List ℕ → Type 0) (old middle new : Option (List �
 stopped_more P Q old middle new a i j k WriteFault h p q both s = (rose_more i j k h s.0, part_more P Q old middle new a p q both s.1)
 stopped_more P Q old middle new a i j k OutOfMemory h p q both s = part_more P Q old middle new a p q both s
 
-pub begun_text-more : (sig : Sig) (claims : List Claim) (claim : Claim) → begun_text sig (claims ++ claim ∷ []) ≡ begun_text sig claims ++ claim_text sig claim
-begun_text-more sig claims claim =
-    ap (λ x. header_text ++ x) (flat_map-append (claim_text sig) claims (claim ∷ []) ∙ ap (λ x. flat_map (claim_text sig) claims ++ x) (append-nil (claim_text sig claim))) ∙ sym (append_assoc header_text (flat_map (claim_text sig) claims) (claim_text sig claim))
+pub begun_text-more : (steps : ℕ) (sig : Sig) (claims : List Claim) (claim : Claim) → begun_text steps sig (claims ++ claim ∷ []) ≡ begun_text steps sig claims ++ claim_text sig claim
+begun_text-more steps sig claims claim =
+    ap (λ x. header_text steps ++ x) (flat_map-append (claim_text sig) claims (claim ∷ []) ∙ ap (λ x. flat_map (claim_text sig) claims ++ x) (append-nil (claim_text sig claim))) ∙ sym (append_assoc (header_text steps) (flat_map (claim_text sig) claims) (claim_text sig claim))
 
 -- what the refusal of a piece leaves
 pub piece_stopped : (IsText : List ℕ → Type 0) (old new : Option (List ℕ)) (writes writes' : ℕ) (piece : List ℕ) (error : WriteError) → IsText piece → AppendedPrefix old new piece → (◌≡◌ {A = Result Unit WriteError} (Err error) (Err write.Failed) → Rose writes writes') → Stopped old new writes writes' IsText (stop_of error)

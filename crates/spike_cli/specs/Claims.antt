@@ -16,22 +16,23 @@ use Rattle.spike_cli.specs.declared.claims.Outcome.{Outcome}
 use Rattle.spike_cli.specs.declared.claims.Outcome.TheVariants.{Refuted, Open}
 use Rattle.spike_cli.specs.declared.statuses.Status.{Status}
 use Rattle.spike_cli.specs.declared.statuses.Status.TheVariants as status
-use Rattle.spike_cli.specs.Numbers.{depth, tries, steps, named}
+use Rattle.spike_cli.specs.declared.bounds.SearchBounds.{SearchBounds}
+use Rattle.spike_cli.specs.Numbers.{named}
 
 -- the outcome that the answer of a search means
-abbrev pub outcome_of : Goal → Search → Outcome
-outcome_of goal (Found index values) = Refuted index (named goal.vars values)
-outcome_of goal (NotFound tried skipped cut) = Open (record { depth = depth; tried = tried; skipped = skipped; cut = cut; plain = 0; nodes = 0 })
+abbrev pub outcome_of : SearchBounds → Goal → Search → Outcome
+outcome_of bounds goal (Found index values) = Refuted index (named goal.vars values)
+outcome_of bounds goal (NotFound tried skipped cut) = Open (record { depth = bounds.depth; tried = tried; skipped = skipped; cut = cut; plain = 0; nodes = 0 })
 
-module _ (spec : Spec) where
+module _ (bounds : SearchBounds) (spec : Spec) where
   -- the claim is on this goal and says what a search among its substitutions answers; a counterexample makes the goal
   -- false in any case, and the rest is exact where left sides don't overlap and groups are whole
   pub record IsClaimOn (goal : Goal) (claim : Claim) : Type 0 where
     pub search : Search
     pub name : claim.goal ≡ goal.name
-    pub outcome : claim.outcome ≡ outcome_of goal search
-    pub false : IsFalse spec goal tries (substitutions spec goal depth) search
-    pub exact : NoOverlap spec → GroupsAreWhole spec → Finds spec goal steps tries (substitutions spec goal depth) search
+    pub outcome : claim.outcome ≡ outcome_of bounds goal search
+    pub false : IsFalse spec goal bounds.tries (substitutions spec goal bounds.depth) search
+    pub exact : NoOverlap spec → GroupsAreWhole spec → Finds spec goal bounds.steps bounds.tries (substitutions spec goal bounds.depth) search
 
   -- there are claims on the first goals, one for each and in their order
   abbrev pub AreFirstClaims : List Goal → List Claim → Type 0
@@ -48,7 +49,7 @@ module _ (spec : Spec) where
 
   -- the goal's verdict is Fails under one of the first substitutions
   abbrev pub IsRefutable : Goal → Type 0
-  IsRefutable goal = (k : ℕ) × (values : List Tree) × (k < tries) × (slice_get (substitutions spec goal depth) k ≡ Some values) × IsVerdict spec values steps goal Fails
+  IsRefutable goal = (k : ℕ) × (values : List Tree) × (k < bounds.tries) × (slice_get (substitutions spec goal bounds.depth) k ≡ Some values) × IsVerdict spec values bounds.steps goal Fails
 
   abbrev pub SomeIsRefutable : List Goal → Type 0
   SomeIsRefutable [] = ⊥

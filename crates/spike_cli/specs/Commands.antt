@@ -5,11 +5,11 @@ use Rattle.spike_cli.specs.declared.words.Command.TheVariants.{Refute, Eval}
 use Rattle.spike_cli.specs.Words.{Task, refuting, evaluating, Asks, AskNothing}
 
 abbrev pub file_of : Command → List ℕ
-file_of (Refute file) = file.now
+file_of (Refute file bounds) = file.now
 file_of (Eval file term steps) = file.now
 
 abbrev pub task_of : Command → Task
-task_of (Refute file) = refuting
+task_of (Refute file bounds) = refuting bounds
 task_of (Eval file term steps) = evaluating term.now steps
 
 -- the words ask for this command, or for none

@@ -1,5 +1,6 @@
 -- What the program promises, in the order in which to read it.
 pub mod Numbers
+pub mod Options
 pub mod Words
 pub mod Claims
 pub mod Texts

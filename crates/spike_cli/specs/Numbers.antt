@@ -1,23 +1,33 @@
--- The numbers with which goals are tried and terms are evaluated, and the values of a counterexample with their names.
-use Rattle.std.specs.Prelude.{ℕ, List}
+-- The options of a command and their numbers, and the values of a counterexample with their names.
+use Rattle.std.specs.Prelude.{ℕ, List, codes}
 use Rattle.std.specs.List.{zip}
 use Rattle.term_core.specs.Tree.{Tree}
 use Rattle.spec_core.specs.declared.records.VarInfo.{VarInfo}
 use Rattle.spec_core.specs.TermText.{variable_names}
+use Rattle.spike_cli.specs.declared.options.NumberOption.{NumberOption}
+use Rattle.spike_cli.specs.declared.options.NumberOption.TheVariants.{Depth, Tries, Steps}
 
--- the depth of the values, the number of substitutions, and the rule uses of one side
-abbrev pub depth : ℕ
-depth = 3
+-- the word that stands before the number
+abbrev pub name_of : NumberOption → List ℕ
+name_of Depth = codes "--depth"
+name_of Tries = codes "--tries"
+name_of Steps = codes "--steps"
 
-abbrev pub tries : ℕ
-tries = 10000
+-- the least and the greatest number, and the one where no word gives it
+abbrev pub least_of : NumberOption → ℕ
+least_of Depth = 0
+least_of Tries = 1
+least_of Steps = 1
 
-abbrev pub steps : ℕ
-steps = 1000
+abbrev pub most_of : NumberOption → ℕ
+most_of Depth = 8
+most_of Tries = 1000000
+most_of Steps = 2000
 
--- the most rule uses that a command may ask for
-abbrev pub most_steps : ℕ
-most_steps = 2000
+abbrev pub usual_of : NumberOption → ℕ
+usual_of Depth = 3
+usual_of Tries = 10000
+usual_of Steps = 1000
 
 -- the most symbols of a value that is written
 abbrev pub most_symbols : ℕ

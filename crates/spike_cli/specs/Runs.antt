@@ -21,12 +21,12 @@ usage_line = codes "usage: spike check|eval|prove|refute|replay|load\n"
 
 -- the whole text of a task on a specification, and its status
 abbrev pub IsEnd : Task → Spec → List ℕ → Status → Type 0
-IsEnd refuting spec text status = IsReport spec text status
+IsEnd (refuting bounds) spec text status = IsReport bounds spec text status
 IsEnd (evaluating term steps) spec text status = IsEvaluation spec term steps text status
 
 -- a text that a task may write on a specification: what a report begins with, or the whole text of an evaluation
 abbrev pub MayWriteOn : Task → Spec → List ℕ → Type 0
-MayWriteOn refuting spec text = BeginsReport spec text
+MayWriteOn (refuting bounds) spec text = BeginsReport bounds spec text
 MayWriteOn (evaluating term steps) spec text = (status : Status) × IsEvaluation spec term steps text status
 
 module _ (task : Task) (bytes : List ℕ) where

@@ -12,6 +12,7 @@ use Rattle.spike_cli.specs.declared.stops.Stop.TheVariants.{WriteFault, OutOfMem
 use Rattle.spike_cli.specs.declared.claims.Outcome.{Outcome}
 use Rattle.spike_cli.specs.declared.claims.Outcome.TheVariants.{Refuted, Open}
 use Rattle.spec_core.specs.declared.records.Goal.{Goal}
+use Rattle.spike_cli.specs.declared.bounds.SearchBounds.{SearchBounds}
 use Rattle.spike_cli.specs.declared.claims.Claim.{Claim}
 use Rattle.spike_cli.specs.Claims.{IsClaimOn}
 use Rattle.spike_cli.specs.Texts.{claim_text, header_text}
@@ -39,14 +40,14 @@ module _ (old new : Option (List ℕ)) (writes writes' : ℕ) where
   Stopped IsText WriteFault = Rose writes writes' × AppendsPartOf IsText old new
   Stopped IsText OutOfMemory = AppendsPartOf IsText old new
 
-  abbrev pub WritesHeader : Result Unit Stop → Type 0
-  WritesHeader (Ok u) = Appended old new header_text
-  WritesHeader (Err stop) = Stopped (λ text. text ≡ header_text) stop
+  abbrev pub WritesHeader : ℕ → Result Unit Stop → Type 0
+  WritesHeader steps (Ok u) = Appended old new (header_text steps)
+  WritesHeader steps (Err stop) = Stopped (λ text. text ≡ header_text steps) stop
 
   -- the claim on the goal was appended, and this is the status with it
-  abbrev pub WritesClaim : Spec → Goal → Status → Result Status Stop → Type 0
-  WritesClaim spec goal before (Ok after) = (claim : Claim) × IsClaimOn spec goal claim × Appended old new (claim_text spec.sig claim) × (after ≡ joined before claim.outcome)
-  WritesClaim spec goal before (Err stop) = Stopped (λ text. (claim : Claim) × IsClaimOn spec goal claim × (text ≡ claim_text spec.sig claim)) stop
+  abbrev pub WritesClaim : SearchBounds → Spec → Goal → Status → Result Status Stop → Type 0
+  WritesClaim bounds spec goal before (Ok after) = (claim : Claim) × IsClaimOn bounds spec goal claim × Appended old new (claim_text spec.sig claim) × (after ≡ joined before claim.outcome)
+  WritesClaim bounds spec goal before (Err stop) = Stopped (λ text. (claim : Claim) × IsClaimOn bounds spec goal claim × (text ≡ claim_text spec.sig claim)) stop
 
   -- a task's whole text was appended, with its status
   abbrev pub Finishes : Task → Spec → Result Status Stop → Type 0

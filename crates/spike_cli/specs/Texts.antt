@@ -9,7 +9,6 @@ use Rattle.spike_cli.specs.declared.claims.Claim.{Claim}
 use Rattle.spike_cli.specs.declared.claims.Outcome.{Outcome}
 use Rattle.spike_cli.specs.declared.claims.Outcome.TheVariants.{Refuted, Open}
 use Rattle.spike_cli.specs.declared.claims.Budget.{Budget}
-use Rattle.spike_cli.specs.Numbers.{steps}
 
 abbrev yes_or_no : Bool → List ℕ
 yes_or_no true = codes "yes"
@@ -32,13 +31,13 @@ outcome_text sig goal (Open budget) = codes "open " ++ goal ++ codes " " ++ budg
 abbrev pub claim_text : Sig → Claim → List ℕ
 claim_text sig claim = outcome_text sig claim.goal claim.outcome
 
--- the first two lines
-abbrev pub header_text : List ℕ
-header_text = codes "spike-report 1\nsteps " ++ decimal steps ++ codes "\n"
+-- the first two lines, with the rule uses that the evaluation of one side may cost
+abbrev pub header_text : ℕ → List ℕ
+header_text steps = codes "spike-report 1\nsteps " ++ decimal steps ++ codes "\n"
 
 -- a report up to these claims, and a whole report
-abbrev pub begun_text : Sig → List Claim → List ℕ
-begun_text sig claims = header_text ++ flat_map (claim_text sig) claims
+abbrev pub begun_text : ℕ → Sig → List Claim → List ℕ
+begun_text steps sig claims = header_text steps ++ flat_map (claim_text sig) claims
 
-abbrev pub report_text : Sig → List Claim → List ℕ
-report_text sig claims = begun_text sig claims ++ codes "done\n"
+abbrev pub report_text : ℕ → Sig → List Claim → List ℕ
+report_text steps sig claims = begun_text steps sig claims ++ codes "done\n"

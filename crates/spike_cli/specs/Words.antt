@@ -1,41 +1,48 @@
 -- The words of a command.
-use Rattle.std.specs.Prelude.{◌≡◌, ℕ, ◌≤◌, List, [], ◌∷◌, codes, length}
-use Rattle.std.specs.Str.Parse.{IsNumeral, digits_value}
-use Rattle.spike_cli.specs.Numbers.{steps as usual_steps, most_steps}
+use Rattle.std.specs.Prelude.{◌≡◌, ℕ, List, [], ◌∷◌, codes}
+use Rattle.spike_cli.specs.declared.options.NumberOption.TheVariants.{Depth, Tries, Steps}
+use Rattle.spike_cli.specs.declared.bounds.SearchBounds.{SearchBounds}
+use Rattle.spike_cli.specs.Options.{option_words, HasNumber, AreKnown}
 
 -- the word begins with a dash, so that it's no positional word
 abbrev pub BeginsWithDash : List ℕ → Type 0
 BeginsWithDash [] = ⊥
 BeginsWithDash (c ∷ cs) = c ≡ 45
 
--- the words are `refute` and the name of a file
-abbrev pub AsksToRefute : List (List ℕ) → List ℕ → Type 0
-AsksToRefute words file = (words ≡ codes "refute" ∷ file ∷ []) × (BeginsWithDash file → ⊥)
+-- the words are options of `refute`, which say how far the search goes
+pub record AreBounds (words : List (List ℕ)) (bounds : SearchBounds) : Type 0 where
+  pub options : List (List ℕ × List ℕ)
+  pub are : words ≡ option_words options
+  pub known : AreKnown (Depth ∷ Tries ∷ Steps ∷ []) options
+  pub depth : HasNumber Depth options bounds.depth
+  pub tries : HasNumber Tries options bounds.tries
+  pub steps : HasNumber Steps options bounds.steps
 
--- the word is one to seven decimal digits, which write this number of steps
-abbrev pub IsSteps : List ℕ → ℕ → Type 0
-IsSteps word steps = IsNumeral 10 word × (length word ≤ 7) × (digits_value 10 word ≡ steps) × (1 ≤ steps) × (steps ≤ most_steps)
+-- the words are options of `eval`, which say how many steps the evaluation may take
+pub record AreSteps (words : List (List ℕ)) (steps : ℕ) : Type 0 where
+  pub options : List (List ℕ × List ℕ)
+  pub are : words ≡ option_words options
+  pub known : AreKnown (Steps ∷ []) options
+  pub number : HasNumber Steps options steps
 
--- the words behind a term: none, or `--steps` and the number
-abbrev pub AreOptions : List (List ℕ) → ℕ → Type 0
-AreOptions [] steps = steps ≡ usual_steps
-AreOptions (name ∷ []) steps = ⊥
-AreOptions (name ∷ number ∷ []) steps = (name ≡ codes "--steps") × IsSteps number steps
-AreOptions (name ∷ number ∷ word ∷ words) steps = ⊥
+-- the words are `refute`, the name of a file and its options
+abbrev pub AsksToRefute : List (List ℕ) → List ℕ → SearchBounds → Type 0
+AsksToRefute words file bounds =
+    (options : List (List ℕ)) × (words ≡ codes "refute" ∷ file ∷ options) × (BeginsWithDash file → ⊥) × AreBounds options bounds
 
 -- the words are `eval`, the name of a file, a term and its options
 abbrev pub AsksToEval : List (List ℕ) → List ℕ → List ℕ → ℕ → Type 0
 AsksToEval words file term steps =
-    (options : List (List ℕ)) × (words ≡ codes "eval" ∷ file ∷ term ∷ options) × (BeginsWithDash file → ⊥) × (BeginsWithDash term → ⊥) × AreOptions options steps
+    (options : List (List ℕ)) × (words ≡ codes "eval" ∷ file ∷ term ∷ options) × (BeginsWithDash file → ⊥) × (BeginsWithDash term → ⊥) × AreSteps options steps
 
 -- what is done with the specification of a file
 pub data Task : Type 0 where
-  refuting : Task
+  refuting : (bounds : SearchBounds) → Task
   evaluating : (term : List ℕ) (steps : ℕ) → Task
 
 -- the words ask for this task on this file
 abbrev pub Asks : List (List ℕ) → List ℕ → Task → Type 0
-Asks words file refuting = AsksToRefute words file
+Asks words file (refuting bounds) = AsksToRefute words file bounds
 Asks words file (evaluating term steps) = AsksToEval words file term steps
 
 -- the words are no command

@@ -3,19 +3,11 @@ ghost use Rattle.spec_core.specs.WellSorted.{IsWellSorted};
 ghost use Rattle.spike_cli.specs.Claims.{IsClaimOn};
 ghost use Rattle.spike_cli.specs.Numbers.{named};
 
+use crate::bounds::SearchBounds;
 use refuter::{Search, search};
 use spec_core::{Goal, Spec, VarInfo};
 use std::alloc::Global;
 use term_core::{Name, OutOfMemory, Seq, Term};
-
-/// The depth of the values that are tried.
-pub const DEPTH: u32 = 3;
-
-/// How many substitutions of a goal are tried.
-pub const TRIES: u32 = 10_000;
-
-/// How many rule uses the evaluation of one side may cost.
-pub const STEPS: u32 = 1_000;
 
 /// What a report says of a goal.
 #[derive(Drop)]
@@ -53,12 +45,17 @@ pub struct Budget {
 }
 
 /// The claim on a goal of the specification that a search gives.
-pub fn claim_on(alloc: Global, spec: &Spec, goal: &Goal) -> Result<Claim, OutOfMemory>
+pub fn claim_on(
+    alloc: Global,
+    spec: &Spec,
+    goal: &Goal,
+    bounds: SearchBounds,
+) -> Result<Claim, OutOfMemory>
     requires fine { IsWellSorted spec.now }
     requires listed { (k : ℕ) × (slice_get spec.now.goals k ≡ Some goal.now) }
-    ensures { IfOk result (IsClaimOn spec.now goal.now) }
+    ensures { IfOk result (IsClaimOn bounds spec.now goal.now) }
 {
-    let outcome = match search(alloc, spec, goal, DEPTH, TRIES, STEPS)? {
+    let outcome = match search(alloc, spec, goal, bounds.depth, bounds.tries, bounds.steps)? {
         Search::Found { index, values } => Outcome::Refuted {
             index,
             values: named_values(alloc, goal.vars.as_slice(), values.as_slice())?,
@@ -68,7 +65,7 @@ pub fn claim_on(alloc: Global, spec: &Spec, goal: &Goal) -> Result<Claim, OutOfM
             skipped,
             cut,
         } => Outcome::Open(Budget {
-            depth: DEPTH,
+            depth: bounds.depth,
             tried,
             skipped,
             cut,

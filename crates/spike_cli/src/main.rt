@@ -1,8 +1,8 @@
 //! The program `spike`: it reads a file of sorts, functions, rules and goals, and writes a report on
 //! the goals or the value of a term.
 //!
-//! `refute FILE` looks for counterexamples of the goals, and `eval FILE TERM [--steps NUMBER]`
-//! evaluates a term without variables. A file or a term that isn't one gets a line of refusal, which
+//! `refute FILE` looks for counterexamples of the goals, as far as `--depth`, `--tries` and `--steps`
+//! say, and `eval FILE TERM` evaluates a term without variables within `--steps` rule uses. A file or a term that isn't one gets a line of refusal, which
 //! says what its first fault is.
 //!
 //! It stands on all the other crates. [`run`] is the whole program over a store of files and a
@@ -10,9 +10,13 @@
 //! program's name, the system's files and standard output, and ends with the code of its status.
 #![tactic(auto)]
 
+mod bounds;
 mod claims;
 mod evaluating;
 mod laws;
+#[cfg(test)]
+mod left_side_tests;
+mod options;
 mod refusals;
 mod refuting;
 mod reports;
@@ -26,6 +30,7 @@ mod tests;
 mod texts;
 mod words;
 
+pub use bounds::SearchBounds;
 pub use claims::{Budget, Claim, Outcome};
 use io_core::{StdFiles, StdSink};
 pub use laws::one_ending;

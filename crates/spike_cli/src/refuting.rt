@@ -3,6 +3,7 @@ ghost use Rattle.spec_core.specs.WellSorted.{IsWellSorted};
 ghost use Rattle.spike_cli.specs.Stops.{Finishes, WritesHeader, WritesClaim, joined};
 ghost use Rattle.spike_cli.specs.Words.{refuting};
 
+use crate::bounds::SearchBounds;
 use crate::claims::{Outcome, claim_on};
 use crate::reports::{claim_text, header};
 use crate::statuses::Status;
@@ -12,26 +13,31 @@ use spec_core::{Goal, Spec};
 use std::alloc::Global;
 
 /// Writes the report of the goals, each claim as soon as it is there.
-pub fn refute<S: Sink>(alloc: Global, spec: &Spec, out: &mut S) -> Result<Status, Stop>
+pub fn refute<S: Sink>(
+    alloc: Global,
+    spec: &Spec,
+    bounds: SearchBounds,
+    out: &mut S,
+) -> Result<Status, Stop>
     requires { IsWellSorted spec.now }
-    ensures finishes { Finishes (S.written out.old) (S.written out.new) (S.faults out.old) (S.faults out.new) refuting spec.now result }
+    ensures finishes { Finishes (S.written out.old) (S.written out.new) (S.faults out.old) (S.faults out.new) (refuting bounds) spec.now result }
     ensures writes { S.faults out.old ≤ S.faults out.new }
 {
-    write_header(alloc, out)?;
+    write_header(alloc, bounds.steps, out)?;
     let mut status = Status::Done;
     for goal in spec.goals.as_slice() {
-        status = write_claim(alloc, spec, goal, status, out)?;
+        status = write_claim(alloc, spec, goal, bounds, status, out)?;
     }
     write_all(out, alloc, b"done\n")?;
     Ok(status)
 }
 
 /// Writes the first two lines of a report.
-fn write_header<S: Sink>(alloc: Global, out: &mut S) -> Result<(), Stop>
-    ensures header { WritesHeader (S.written out.old) (S.written out.new) (S.faults out.old) (S.faults out.new) result }
+fn write_header<S: Sink>(alloc: Global, steps: u32, out: &mut S) -> Result<(), Stop>
+    ensures header { WritesHeader (S.written out.old) (S.written out.new) (S.faults out.old) (S.faults out.new) steps result }
     ensures writes { S.faults out.old ≤ S.faults out.new }
 {
-    let text = header(alloc)?;
+    let text = header(alloc, steps)?;
     write_all(out, alloc, &text)?;
     Ok(())
 }
@@ -41,15 +47,16 @@ fn write_claim<S: Sink>(
     alloc: Global,
     spec: &Spec,
     goal: &Goal,
+    bounds: SearchBounds,
     status: Status,
     out: &mut S,
 ) -> Result<Status, Stop>
     requires fine { IsWellSorted spec.now }
     requires listed { (k : ℕ) × (slice_get spec.now.goals k ≡ Some goal.now) }
-    ensures claim { WritesClaim (S.written out.old) (S.written out.new) (S.faults out.old) (S.faults out.new) spec.now goal.now status result }
+    ensures claim { WritesClaim (S.written out.old) (S.written out.new) (S.faults out.old) (S.faults out.new) bounds spec.now goal.now status result }
     ensures writes { S.faults out.old ≤ S.faults out.new }
 {
-    let claim = claim_on(alloc, spec, goal)?;
+    let claim = claim_on(alloc, spec, goal, bounds)?;
     let text = claim_text(alloc, &spec.sig, &claim)?;
     write_all(out, alloc, &text)?;
     Ok(with_claim(status, &claim.outcome))

@@ -4,17 +4,17 @@ ghost use Rattle.std.specs.List.{flat_map};
 ghost use Rattle.spike_cli.specs.Texts.{claim_text as text_of_claim, outcome_text, budget_text, value_line, header_text};
 ghost use Rattle.spike_cli.specs.Ranges.{IsPrintable, ArePrintable};
 
-use crate::claims::{Budget, Claim, Outcome, STEPS};
+use crate::claims::{Budget, Claim, Outcome};
 use spec_core::Signature;
 use std::alloc::Global;
 use term_core::{Name, OutOfMemory, Term};
 
 /// The first two lines of a report.
-pub fn header(alloc: Global) -> Result<Vec<u8>, OutOfMemory>
-    ensures { IfOk result (λ r. r.items ≡ header_text) }
+pub fn header(alloc: Global, steps: u32) -> Result<Vec<u8>, OutOfMemory>
+    ensures { IfOk result (λ r. r.items ≡ header_text steps) }
 {
     let mut text = Vec::from_slice(alloc, b"spike-report 1\nsteps ")?;
-    append_number(alloc, STEPS, &mut text)?;
+    append_number(alloc, steps, &mut text)?;
     text.push(b'\n')?;
     Ok(text)
 }

@@ -73,7 +73,7 @@ fn finish<S: Sink>(
     ensures writes { S.faults out.old ≤ S.faults out.new }
 {
     match command {
-        Command::Refute { .. } => refute(alloc, spec, out),
+        Command::Refute { bounds, .. } => refute(alloc, spec, *bounds, out),
         Command::Eval { term, steps, .. } => evaluate(alloc, spec, term.as_bytes(), *steps, out),
     }
 }

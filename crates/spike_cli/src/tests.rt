@@ -223,6 +223,138 @@ done
     expect(&rt, alloc, &["refute", "a"], text, Status::Open, want)
 }
 
+/// The words behind `refute` and the file, goals over naturals, the status, the steps and the claims.
+/// By hand: the values of depth 3 are the first three naturals, and the one side that isn't a value
+/// costs 2 where `succ(zero)` is added.
+const BOUNDED: [(&[&str], &str, Status, &str, &str); 7] = [
+    (
+        &["--tries", "2"],
+        "goal plus_zero : plus(x, zero) = x\n",
+        Status::Open,
+        "1000",
+        "open plus_zero depth 3 tried 2 skipped 0 cut yes plain 0 nodes 0\n",
+    ),
+    (
+        &["--tries", "3"],
+        "goal plus_zero : plus(x, zero) = x\n",
+        Status::Open,
+        "1000",
+        "open plus_zero depth 3 tried 3 skipped 0 cut no plain 0 nodes 0\n",
+    ),
+    (
+        &["--depth", "0"],
+        "goal plus_zero : plus(x, zero) = x\n",
+        Status::Open,
+        "1000",
+        "open plus_zero depth 0 tried 0 skipped 0 cut no plain 0 nodes 0\n",
+    ),
+    (
+        &["--steps", "1"],
+        "goal g : plus(succ(zero), zero) = zero\n",
+        Status::Open,
+        "1",
+        "open g depth 3 tried 1 skipped 1 cut no plain 0 nodes 0\n",
+    ),
+    (
+        &["--steps", "2"],
+        "goal g : plus(succ(zero), zero) = zero\n",
+        Status::Refuted,
+        "2",
+        "refuted g index 0 with 0\n",
+    ),
+    (
+        &[
+            "--steps", "2000", "--tries", "1000000", "--depth", "0000008",
+        ],
+        "goal g : x = succ(succ(succ(succ(y))))\ngoal h : true = true\n",
+        Status::Refuted,
+        "2000",
+        "refuted g index 0 with 2\nx = zero\ny = zero\n\
+         open h depth 8 tried 1 skipped 0 cut no plain 0 nodes 0\n",
+    ),
+    (
+        &["--tries", "4", "--depth", "2"],
+        "goal bad : plus(x, y) = plus(y, x)\n",
+        Status::Open,
+        "1000",
+        "open bad depth 2 tried 4 skipped 0 cut no plain 0 nodes 0\n",
+    ),
+];
+
+#[test]
+fn options_bound_the_search(rt: HostRuntime) -> Result<(), Fail> {
+    let alloc = rt.alloc();
+    for (options, goals, status, steps, claims) in BOUNDED {
+        let mut words = Vec::from_slice(alloc, &["refute", "a"])?;
+        words.extend_from_slice(options)?;
+        let text = format!(in alloc; "{NATURALS}{goals}")?;
+        let want = format!(in alloc; "spike-report 1\nsteps {steps}\n{claims}done\n")?;
+        expect(&rt, alloc, &words, &text, status, &want)?;
+    }
+    Ok(())
+}
+
+/// By hand: the first tree of depth 8 is the full one, of 127 nodes and 128 leaves, which has the
+/// most symbols of a value, 255.
+#[test]
+fn the_first_tree_is_full(rt: HostRuntime) -> Result<(), Fail> {
+    let alloc = rt.alloc();
+    let mut tree = String::from_str(alloc, "leaf")?;
+    for _ in 0..7 {
+        tree = format!(in alloc; "node({tree}, {tree})")?;
+    }
+    assert_eq!(rt; tree.len(), 1528);
+    let text = "spike 1\nsort T = node(T, T) | leaf\ngoal g(t : T) : t = leaf\n";
+    let want = format!(in alloc;
+        "spike-report 1
+steps 1000
+refuted g index 0 with 1
+t = {tree}
+done
+"
+    )?;
+    expect(
+        &rt,
+        alloc,
+        &["refute", "a", "--depth", "8"],
+        text,
+        Status::Refuted,
+        &want,
+    )
+}
+
+/// By hand: the 25 pairs of naturals below 5 are tried. The calls of `ack` at (3, 3), (3, 4) and at
+/// (4, 1) to (4, 4) cost more than 1,000 rule uses, so that these six pairs are skipped.
+#[test]
+fn costly_substitutions_are_skipped(rt: HostRuntime) -> Result<(), Fail> {
+    let alloc = rt.alloc();
+    let text = "spike 1
+sort Nat = zero | succ(Nat)
+fun le(Nat, Nat) : Bool
+fun ack(Nat, Nat) : Nat
+rule le(zero, y) = true
+rule le(succ(x), zero) = false
+rule le(succ(x), succ(y)) = le(x, y)
+rule ack(zero, y) = succ(y)
+rule ack(succ(x), zero) = ack(x, succ(zero))
+rule ack(succ(x), succ(y)) = ack(x, ack(succ(x), y))
+goal grows : le(y, ack(x, y)) = true
+";
+    let want = "spike-report 1
+steps 1000
+open grows depth 5 tried 25 skipped 6 cut no plain 0 nodes 0
+done
+";
+    expect(
+        &rt,
+        alloc,
+        &["refute", "a", "--depth", "5"],
+        text,
+        Status::Open,
+        want,
+    )
+}
+
 /// Faults of the store and the sink, and words that are no command.
 #[test]
 fn calls_end_with_the_status_of_their_cause(rt: HostRuntime) -> Result<(), Fail> {
@@ -392,12 +524,29 @@ fn terms_are_refused(rt: HostRuntime) -> Result<(), Fail> {
     Ok(())
 }
 
-/// Words that ask for no evaluation: a step too few or too many, eight digits, no digits, and
-/// words that are missing or too many.
+/// Words that are no command: a number too small or too large, eight digits, no digits, an option
+/// that is given twice or isn't known, and words that are missing or too many.
 #[test]
-fn words_of_eval_are_checked(rt: HostRuntime) -> Result<(), Fail> {
+fn words_are_checked(rt: HostRuntime) -> Result<(), Fail> {
     let alloc = rt.alloc();
-    let rows: [&[&str]; 14] = [
+    let rows: [&[&str]; 29] = [
+        &["refute", "a", "--depth", "9"],
+        &["refute", "a", "--depth"],
+        &["refute", "a", "--depth", "x"],
+        &["refute", "a", "--depth", "-1"],
+        &["refute", "a", "--depth=1"],
+        &["refute", "a", "--tries", "0"],
+        &["refute", "a", "--tries", "1000001"],
+        &["refute", "a", "--steps", "0"],
+        &["refute", "a", "--steps", "2001"],
+        &["refute", "a", "--depth", "1", "--depth", "1"],
+        &[
+            "refute", "a", "--depth", "1", "--steps", "1", "--depth", "2",
+        ],
+        &["refute", "a", "--plain", "1"],
+        &["refute", "--depth", "1", "a"],
+        &["refute", "a", "--depth", "1", "b"],
+        &["eval", "a", "b", "--depth", "1"],
         &["eval"],
         &["eval", "a"],
         &["eval", "a", "b", "--steps"],

@@ -1,12 +1,10 @@
-ghost use Rattle.std.specs.Prelude.{◌≡◌, ◌↔◌, ◌∷◌, ℕ, List, IsTrue, MatchOption, codes, get_or, map, string_bytes};
-ghost use Rattle.spike_cli.specs.Words.{BeginsWithDash, IsSteps, AreOptions};
+ghost use Rattle.std.specs.Prelude.{◌≡◌, ◌↔◌, ◌∷◌, ℕ, IsTrue, MatchOption, codes, map, string_bytes};
+ghost use Rattle.spike_cli.specs.Words.{BeginsWithDash, AreBounds, AreSteps};
 ghost use Rattle.spike_cli.specs.Commands.{IsAsked, file_of};
 
-use crate::claims::STEPS;
+use crate::bounds::SearchBounds;
+use crate::options::{NumberOption, are_options};
 use term_core::front;
-
-/// The most rule uses that a command may ask for.
-const MOST_STEPS: u32 = 2_000;
 
 /// What the words of a call ask for.
 #[derive(Drop)]
@@ -14,6 +12,7 @@ pub enum Command<'a> {
     /// Looks for counterexamples of a file's goals.
     Refute {
         file: &'a str,
+        bounds: SearchBounds,
     },
     /// Evaluates a term within so many rule uses.
     Eval {
@@ -29,7 +28,7 @@ impl<'a> Command<'a> {
         ensures { result.now ≡ file_of self.now }
     {
         match self {
-            Command::Refute { file } => file,
+            Command::Refute { file, .. } => file,
             Command::Eval { file, .. } => file,
         }
     }
@@ -55,15 +54,19 @@ pub fn command_of(words: &[String]) -> Option<Command<'_>>
 fn refute_command(rest: &[String]) -> Option<Command<'_>>
     ensures { IsAsked (codes "refute" ∷ map string_bytes rest.now) result }
 {
-    let Some((file, others)) = front(rest) else {
+    let Some((file, options)) = front(rest) else {
         return None;
     };
-    if !others.is_empty() || begins_with_dash(file.as_str().as_bytes()) {
+    if begins_with_dash(file.as_str().as_bytes()) {
         return None;
     }
-    Some(Command::Refute {
-        file: file.as_str(),
-    })
+    match bounds_of(options) {
+        Some(bounds) => Some(Command::Refute {
+            file: file.as_str(),
+            bounds,
+        }),
+        None => None,
+    }
 }
 
 /// The command of the words behind `eval`.
@@ -89,34 +92,33 @@ fn eval_command(rest: &[String]) -> Option<Command<'_>>
     }
 }
 
-/// The steps that the words behind a term allow.
-fn steps_of(options: &[String]) -> Option<u32>
-    ensures { MatchOption result ((steps : ℕ) → AreOptions (map string_bytes options.now) steps → ⊥) (λ steps. AreOptions (map string_bytes options.now) steps) }
+/// How far the options of `refute` let the search go.
+fn bounds_of(options: &[String]) -> Option<SearchBounds>
+    ensures { MatchOption result ((bounds : SearchBounds) → AreBounds (map string_bytes options.now) bounds → ⊥) (AreBounds (map string_bytes options.now)) }
 {
-    let Some((name, others)) = front(options) else {
-        return Some(STEPS);
-    };
-    let Some((number, more)) = front(others) else {
-        return None;
-    };
-    if !more.is_empty() || name.as_str() != "--steps" {
+    let known = [
+        NumberOption::Depth,
+        NumberOption::Tries,
+        NumberOption::Steps,
+    ];
+    if !are_options(&known, options) {
         return None;
     }
-    number_of_steps(number.as_str())
+    Some(SearchBounds {
+        depth: NumberOption::Depth.among(options)?,
+        tries: NumberOption::Tries.among(options)?,
+        steps: NumberOption::Steps.among(options)?,
+    })
 }
 
-/// The number of steps that the word is.
-fn number_of_steps(word: &str) -> Option<u32>
-    ensures { MatchOption result ((steps : ℕ) → IsSteps word.now steps → ⊥) (λ steps. IsSteps word.now steps) }
+/// The steps that the options of `eval` allow.
+fn steps_of(options: &[String]) -> Option<u32>
+    ensures { MatchOption result ((steps : ℕ) → AreSteps (map string_bytes options.now) steps → ⊥) (AreSteps (map string_bytes options.now)) }
 {
-    if word.len() > 7 || begins_with_plus(word.as_bytes()) {
+    if !are_options(&[NumberOption::Steps], options) {
         return None;
     }
-    match word.parse::<u32>() {
-        Ok(steps) if 1 <= steps && steps <= MOST_STEPS => Some(steps),
-        Ok(_) => None,
-        Err(_) => None,
-    }
+    NumberOption::Steps.among(options)
 }
 
 /// Whether the word is an option or `-` alone.
@@ -125,16 +127,6 @@ fn begins_with_dash(word: &[u8]) -> bool
 {
     match word {
         [first, ..] => *first == b'-',
-        [] => false,
-    }
-}
-
-/// Whether a sign stands first, which is no digit.
-fn begins_with_plus(word: &[u8]) -> bool
-    ensures { IsTrue result ↔ (get_or word.now 0 0 ≡ 43) }
-{
-    match word {
-        [first, ..] => *first == b'+',
         [] => false,
     }
 }

@@ -1,4 +1,3 @@
-use Rattle.std.proofs.Common.{rules}
 use Rattle.spec_grammar.proofs.KeepsLimits.{keeps_limits}
 use Rattle.sort_check.proofs.FewDeclarations.{few_declarations}
 use Rattle.bench_spec.proofs.raw_specification.Goals as goal

@@ -18,14 +18,14 @@ use Rattle.spike_cli.proofs.refuting.refute.Goals as goal
 pub returns-in_err-write_header-clause-finishes : goal.returns-in_err-write_header-clause-finishes
 returns-in_err-write_header-clause-finishes g c =
     let spec = c.args.spec.now in
-    let start : BeginsReport spec header_text = subst (λ t. BeginsReport spec t) (append-nil header_text) (begun [] tt) in
-    at_error (Finishes (g.S.Sink.written c.args.out.now) (g.S.Sink.written c.write_header.new.out) (g.S.Sink.faults c.args.out.now) (g.S.Sink.faults c.write_header.new.out) refuting spec) c.from_residual.result c.in_err-write_header.field-0.0 c.from_residual.ensures.1 (stopped_same (λ t. t ≡ header_text) (BeginsReport spec) _ _ _ _ c.in_err-write_header.field-0.0 (λ t e. subst (λ t. BeginsReport spec t) (sym e) start) c.in_err-write_header.ensures.header)
+    let start : BeginsReport c.args.bounds spec (header_text c.args.bounds.steps) = subst (λ t. BeginsReport c.args.bounds spec t) (append-nil (header_text c.args.bounds.steps)) (begun [] tt) in
+    at_error (Finishes (g.S.Sink.written c.args.out.now) (g.S.Sink.written c.write_header.new.out) (g.S.Sink.faults c.args.out.now) (g.S.Sink.faults c.write_header.new.out) (refuting c.args.bounds) spec) c.from_residual.result c.in_err-write_header.field-0.0 c.from_residual.ensures.1 (stopped_same (λ t. t ≡ (header_text c.args.bounds.steps)) (BeginsReport c.args.bounds spec) _ _ _ _ c.in_err-write_header.field-0.0 (λ t e. subst (λ t. BeginsReport c.args.bounds spec t) (sym e) start) c.in_err-write_header.ensures.header)
 
 pub loop-goal-init : goal.loop-goal-init
 loop-goal-init g c = (
   [],
   tt,
-  subst (λ t. Appended (g.S.Sink.written c.args.out.now) (g.S.Sink.written c.write_header.new.out) t) (sym (append-nil header_text)) c.in_ok-write_header.ensures.header,
+  subst (λ t. Appended (g.S.Sink.written c.args.out.now) (g.S.Sink.written c.write_header.new.out) t) (sym (append-nil (header_text c.args.bounds.steps))) c.in_ok-write_header.ensures.header,
   refl,
   c.in_ok-write_header.ensures.writes,
 )
@@ -44,9 +44,9 @@ returns-in_err-status-clause-finishes g c =
     let i = c.loop-goal.invariant in
     let at = listed c.as_slice-goal-items.result.now c.loop-goal.goal-index c.goal-item.result c.loop-goal-test.true c.goal-item.is in
     let same : goals ≡ spec.goals = c.as_slice-goal-items.ensures in
-    let IsText = λ (text : List ℕ). (claim : Claim) × IsClaimOn spec c.goal-item.result claim × (text ≡ claim_text spec.sig claim) in
-    let start : BeginsReport spec (begun_text spec.sig i.0) = begun i.0 (subst (λ gs. AreFirstClaims spec gs i.0) same (first_claims spec goals c.loop-goal.goal-index i.0 i.1)) in
-    at_error (Finishes (g.S.Sink.written c.args.out.now) (g.S.Sink.written c.write_claim.new.out) (g.S.Sink.faults c.args.out.now) (g.S.Sink.faults c.write_claim.new.out) refuting spec) c.from_residual-in_err-status.result c.in_err-status.field-0.0 c.from_residual-in_err-status.ensures.1 (stopped_more IsText (BeginsReport spec) _ _ _ (begun_text spec.sig i.0) _ _ _ c.in_err-status.field-0.0 i.4 i.2 start (λ t x. subst (λ u. BeginsReport spec u) (begun_text-more spec.sig i.0 x.0 ∙ ap (λ u. begun_text spec.sig i.0 ++ u) (sym x.2)) (begun (i.0 ++ x.0 ∷ []) (subst (λ gs. AreFirstClaims spec gs (i.0 ++ x.0 ∷ [])) same (first_claims spec goals (c.loop-goal.goal-index + 1) (i.0 ++ x.0 ∷ []) (claims_more spec goals c.loop-goal.goal-index c.goal-item.result i.0 x.0 at x.1 i.1))))) c.in_err-status.ensures.claim)
+    let IsText = λ (text : List ℕ). (claim : Claim) × IsClaimOn c.args.bounds spec c.goal-item.result claim × (text ≡ claim_text spec.sig claim) in
+    let start : BeginsReport c.args.bounds spec (begun_text c.args.bounds.steps spec.sig i.0) = begun i.0 (subst (λ gs. AreFirstClaims c.args.bounds spec gs i.0) same (first_claims c.args.bounds spec goals c.loop-goal.goal-index i.0 i.1)) in
+    at_error (Finishes (g.S.Sink.written c.args.out.now) (g.S.Sink.written c.write_claim.new.out) (g.S.Sink.faults c.args.out.now) (g.S.Sink.faults c.write_claim.new.out) (refuting c.args.bounds) spec) c.from_residual-in_err-status.result c.in_err-status.field-0.0 c.from_residual-in_err-status.ensures.1 (stopped_more IsText (BeginsReport c.args.bounds spec) _ _ _ (begun_text c.args.bounds.steps spec.sig i.0) _ _ _ c.in_err-status.field-0.0 i.4 i.2 start (λ t x. subst (λ u. BeginsReport c.args.bounds spec u) (begun_text-more c.args.bounds.steps spec.sig i.0 x.0 ∙ ap (λ u. begun_text c.args.bounds.steps spec.sig i.0 ++ u) (sym x.2)) (begun (i.0 ++ x.0 ∷ []) (subst (λ gs. AreFirstClaims c.args.bounds spec gs (i.0 ++ x.0 ∷ [])) same (first_claims c.args.bounds spec goals (c.loop-goal.goal-index + 1) (i.0 ++ x.0 ∷ []) (claims_more c.args.bounds spec goals c.loop-goal.goal-index c.goal-item.result i.0 x.0 at x.1 i.1))))) c.in_err-status.ensures.claim)
 
 pub loop-goal-preserved : goal.loop-goal-preserved
 loop-goal-preserved g c =
@@ -55,8 +55,8 @@ loop-goal-preserved g c =
     let e = c.in_ok-status.ensures.claim in
     let at = listed c.as_slice-goal-items.result.now c.loop-goal.goal-index c.goal-item.result c.loop-goal-test.true c.goal-item.is in (
       i.0 ++ e.0 ∷ [],
-      claims_more spec c.as_slice-goal-items.result.now c.loop-goal.goal-index c.goal-item.result i.0 e.0 at e.1 i.1,
-      subst (λ t. Appended (g.S.Sink.written c.args.out.now) (g.S.Sink.written c.write_claim.new.out) t) (sym (begun_text-more spec.sig i.0 e.0)) (appended_more _ _ _ (begun_text spec.sig i.0) (claim_text spec.sig e.0) i.2 e.2),
+      claims_more c.args.bounds spec c.as_slice-goal-items.result.now c.loop-goal.goal-index c.goal-item.result i.0 e.0 at e.1 i.1,
+      subst (λ t. Appended (g.S.Sink.written c.args.out.now) (g.S.Sink.written c.write_claim.new.out) t) (sym (begun_text-more c.args.bounds.steps spec.sig i.0 e.0)) (appended_more _ _ _ (begun_text c.args.bounds.steps spec.sig i.0) (claim_text spec.sig e.0) i.2 e.2),
       subst (λ s. IsStatusOfClaims (i.0 ++ e.0 ∷ []) s) (sym e.3) (status_more i.0 e.0 c.loop-goal.status i.3),
       omega (arith, i.4, c.in_ok-status.ensures.writes),
     )
@@ -66,22 +66,22 @@ returns-in_err-write_all-clause-finishes g c =
     let spec = c.args.spec.now in
     let i = c.loop-goal.invariant in
     let e = c.in_err-write_all.ensures in
-    let all : AreClaims spec spec.goals i.0 = subst (λ gs. AreClaims spec gs i.0) (take_all c.loop-goal.goal-index c.as_slice-goal-items.result.now c.loop-goal-test.false ∙ c.as_slice-goal-items.ensures) i.1 in
-    let start : BeginsReport spec (begun_text spec.sig i.0) = begun i.0 (first_claims spec spec.goals (length spec.goals) i.0 (subst (λ gs. AreClaims spec gs i.0) (sym (take-length spec.goals)) all)) in
-    at_error (Finishes (g.S.Sink.written c.args.out.now) (g.S.Sink.written c.write_all.new.out) (g.S.Sink.faults c.args.out.now) (g.S.Sink.faults c.write_all.new.out) refuting spec) c.from_residual-in_err-write_all.result (stop_of c.in_err-write_all.field-0.0) c.from_residual-in_err-write_all.ensures.1 (stopped_more (λ t. t ≡ codes "done\n") (BeginsReport spec) _ _ _ (begun_text spec.sig i.0) _ _ _ (stop_of c.in_err-write_all.field-0.0) i.4 i.2 start (λ t x. subst (λ u. BeginsReport spec (begun_text spec.sig i.0 ++ u)) (sym x) (whole i.0 all)) (piece_stopped (λ t. t ≡ codes "done\n") _ _ _ _ (codes "done\n") c.in_err-write_all.field-0.0 refl e.prefix e.failed))
+    let all : AreClaims c.args.bounds spec spec.goals i.0 = subst (λ gs. AreClaims c.args.bounds spec gs i.0) (take_all c.loop-goal.goal-index c.as_slice-goal-items.result.now c.loop-goal-test.false ∙ c.as_slice-goal-items.ensures) i.1 in
+    let start : BeginsReport c.args.bounds spec (begun_text c.args.bounds.steps spec.sig i.0) = begun i.0 (first_claims c.args.bounds spec spec.goals (length spec.goals) i.0 (subst (λ gs. AreClaims c.args.bounds spec gs i.0) (sym (take-length spec.goals)) all)) in
+    at_error (Finishes (g.S.Sink.written c.args.out.now) (g.S.Sink.written c.write_all.new.out) (g.S.Sink.faults c.args.out.now) (g.S.Sink.faults c.write_all.new.out) (refuting c.args.bounds) spec) c.from_residual-in_err-write_all.result (stop_of c.in_err-write_all.field-0.0) c.from_residual-in_err-write_all.ensures.1 (stopped_more (λ t. t ≡ codes "done\n") (BeginsReport c.args.bounds spec) _ _ _ (begun_text c.args.bounds.steps spec.sig i.0) _ _ _ (stop_of c.in_err-write_all.field-0.0) i.4 i.2 start (λ t x. subst (λ u. BeginsReport c.args.bounds spec (begun_text c.args.bounds.steps spec.sig i.0 ++ u)) (sym x) (whole i.0 all)) (piece_stopped (λ t. t ≡ codes "done\n") _ _ _ _ (codes "done\n") c.in_err-write_all.field-0.0 refl e.prefix e.failed))
 
 pub returns-clause-finishes : goal.returns-clause-finishes
 returns-clause-finishes g c =
     let spec = c.args.spec.now in
     let i = c.loop-goal.invariant in
-    let all : AreClaims spec spec.goals i.0 = subst (λ gs. AreClaims spec gs i.0) (take_all c.loop-goal.goal-index c.as_slice-goal-items.result.now c.loop-goal-test.false ∙ c.as_slice-goal-items.ensures) i.1 in (
-      begun_text spec.sig i.0 ++ codes "done\n",
+    let all : AreClaims c.args.bounds spec spec.goals i.0 = subst (λ gs. AreClaims c.args.bounds spec gs i.0) (take_all c.loop-goal.goal-index c.as_slice-goal-items.result.now c.loop-goal-test.false ∙ c.as_slice-goal-items.ensures) i.1 in (
+      begun_text c.args.bounds.steps spec.sig i.0 ++ codes "done\n",
       record {
         claims = i.0;
         are_claims = all;
         is_text = refl;
         answers = i.3;
-        exact = λ apart whole. status_of_goals spec apart whole spec.goals i.0 c.loop-goal.status all i.3;
+        exact = λ apart whole. status_of_goals c.args.bounds spec apart whole spec.goals i.0 c.loop-goal.status all i.3;
       },
-      appended_more _ _ _ (begun_text spec.sig i.0) (codes "done\n") i.2 c.in_ok-write_all.ensures.appended,
+      appended_more _ _ _ (begun_text c.args.bounds.steps spec.sig i.0) (codes "done\n") i.2 c.in_ok-write_all.ensures.appended,
     )

@@ -8,4 +8,4 @@ use Rattle.spike_cli.proofs.refuting.refute.Given as goal
 -- the claims so far are on the goals so far, and their report was begun
 abbrev pub invariant-loop-goal : goal.invariant-loop-goal
 invariant-loop-goal g l =
-    (claims : List Claim) × AreClaims l.spec (take l.goal-index l.goal-items) claims × Appended (g.S.Sink.written l.fn.out) (g.S.Sink.written l.out) (begun_text l.spec.sig claims) × IsStatusOfClaims claims l.status × (g.S.Sink.faults l.fn.out ≤ g.S.Sink.faults l.out)
+    (claims : List Claim) × AreClaims l.fn.bounds l.spec (take l.goal-index l.goal-items) claims × Appended (g.S.Sink.written l.fn.out) (g.S.Sink.written l.out) (begun_text l.fn.bounds.steps l.spec.sig claims) × IsStatusOfClaims claims l.status × (g.S.Sink.faults l.fn.out ≤ g.S.Sink.faults l.out)
