@@ -26,11 +26,11 @@ pub fn covers(
     rows: &[Terms],
     sorts: &[SortId],
 ) -> Result<Coverage, OutOfMemory>
-    requires declared { IsDeclared sig.now }
     requires sorts { AllByRecursion (IsSort sig.now) sorts.now }
     requires rows { AllByRecursion (IsRow sig.now sorts.now) rows.now }
     ensures { IfOk result (IsCoverage sig.now rows.now sorts.now) }
 {
+    sig.declared();
     covers_by(alloc, sig, rows, sorts, &Term::var(VarId(0)))
 }
 

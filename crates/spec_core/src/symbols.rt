@@ -1,6 +1,7 @@
 ghost use Rattle.std.specs.Prelude.{◌≡◌, ◌≤◌, ◌<◌, ◌↔◌, Some, IsTrue, length, option_map, position, slice_get};
 ghost use Rattle.std.specs.Str.{bytes_eq};
 ghost use Rattle.spec_core.specs.Sig.{IsConstructor, info_of, names_of};
+ghost use Rattle.spec_core.specs.Declarations.{IsDeclared};
 
 use crate::records::SymInfo;
 use crate::tables::Tables;
@@ -34,6 +35,14 @@ fn place_of(names: &[Name], name: &[u8]) -> Option<usize>
 }
 
 impl Signature {
+    /// Each signature is declared, which the layers above can't see from its type. It does nothing.
+    pub fn declared(&self)
+        ensures { IsDeclared self.now }
+    {
+        // A proof knows the invariant of a value from where its fields are read.
+        let _tables = &self.tables;
+    }
+
     /// How many sorts there are, with `Bool`.
     pub fn sorts(&self) -> u32
         ensures { result ≡ length self.now.sorts }

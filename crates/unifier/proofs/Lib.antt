@@ -13,4 +13,5 @@ mod Pairs
 mod Readiness
 mod Relabelling
 mod Resolutions
+mod SampleUnifiers
 mod Solving

@@ -2,6 +2,8 @@
 pub mod Matching
 pub mod Shifting
 pub mod Unification
+pub mod Laws
+pub mod Examples
 -- What only this crate's own contracts speak of: matching with the entries so far,
 pub mod Extending
 pub mod ErrorText

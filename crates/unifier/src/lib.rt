@@ -8,12 +8,14 @@
 //! sorts, and that [`shift`] leaves two terms without a variable in common.
 #![tactic(auto)]
 
+mod laws;
 mod matching;
 mod shifting;
 #[cfg(test)]
 mod tests;
 mod unification;
 
+pub use laws::{shifted_are_apart, worked_examples};
 pub use matching::matches;
 pub use shifting::{ShiftError, shift};
 pub use unification::unify;
