@@ -1,12 +1,14 @@
 -- Laws of the definitions.
-use Rattle.std.specs.Prelude.{◌≡◌}
-use Rattle.term_core.specs.Tree.{Trees}
+use Rattle.std.specs.Prelude.{◌≡◌, ℕ, List}
+use Rattle.term_core.specs.Tree.{Tree, Trees}
 use Rattle.spec_core.specs.declared.records.Rule.{Rule}
 use Rattle.spec_core.specs.declared.records.Spec.{Spec}
 use Rattle.spec_core.specs.Sig.{Sig}
 use Rattle.spec_core.specs.WellSorted.{RuleIsSorted, IsWellSorted}
 use Rattle.overlap_check.specs.declared.answers.Linear.{Linear}
+use Rattle.spec_core.specs.Overlap.{NoOverlap}
 use Rattle.overlap_check.specs.declared.answers.Overlap.{Overlap}
+use Rattle.overlap_check.specs.declared.answers.Overlap.TheVariants.{Both}
 use Rattle.overlap_check.specs.Repetition.{IsLinearity}
 use Rattle.overlap_check.specs.NamedValues.{IsNamed}
 use Rattle.overlap_check.specs.Answers.{IsOverlap}
@@ -22,3 +24,7 @@ OneLinearity = (spec : Spec) (a b : Linear) → IsLinearity spec a → IsLineari
 -- and a well sorted one at most one about overlaps
 abbrev pub OneOverlap : Type 0
 OneOverlap = (spec : Spec) (a b : Overlap) → IsWellSorted spec → IsOverlap spec a → IsOverlap spec b → a ≡ b
+
+-- where two rules are named, some values match two different left sides
+abbrev pub BothOverlap : Type 0
+BothOverlap = (spec : Spec) (first second : ℕ) (values : List Tree) → IsOverlap spec (Both first second values) → NoOverlap spec → ⊥

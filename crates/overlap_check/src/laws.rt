@@ -1,5 +1,5 @@
 ghost use Rattle.overlap_check.specs.Examples.{WorkedExamples};
-ghost use Rattle.overlap_check.specs.Laws.{OneNaming, OneLinearity, OneOverlap};
+ghost use Rattle.overlap_check.specs.Laws.{BothOverlap, OneNaming, OneLinearity, OneOverlap};
 
 /// At most one list of values is named for two rules.
 pub fn one_naming()
@@ -10,6 +10,11 @@ pub fn one_naming()
 pub fn one_answer()
     ensures linear { OneLinearity }
     ensures overlap { OneOverlap }
+{}
+
+/// Where two rules are named, some left sides overlap.
+pub fn both_overlap()
+    ensures { BothOverlap }
 {}
 
 /// The definitions say of naturals with addition what one works out by hand.

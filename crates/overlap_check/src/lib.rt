@@ -15,6 +15,6 @@ mod overlaps;
 mod tests;
 
 pub use answers::{Linear, Overlap};
-pub use laws::{one_answer, one_naming, worked_examples};
+pub use laws::{both_overlap, one_answer, one_naming, worked_examples};
 pub use linearity::linear;
 pub use overlaps::overlap;
