@@ -1,7 +1,7 @@
 -- Whether values are missing, by the values that begin with each constructor.
 use Rattle.std.proofs.Common.{◌≡◌, ℕ, zero, suc, ◌+◌, ◌<◌, ◌≤◌, List, [], ◌∷◌, ◌++◌, Bool, true, false, cond, Some, Result, Ok, Err, inl, inr, map, length, refl, ap, sym, ◌∙◌, subst, arith}
 use Rattle.std.specs.Prelude.{◌==◌, IfOk}
-use Rattle.std.specs.List.{AllByRecursion}
+use Rattle.std.specs.List.{AllByRecursion, Any}
 use Rattle.std.proofs.lemmas.Bool.Decides.{nat_tests}
 use Rattle.term_core.specs.Tree.{Tree, Trees, var, app, none, some, trees_of, list_of}
 use Rattle.term_core.specs.declared.ids.SortId.{SortId}
@@ -16,7 +16,7 @@ use Rattle.coverage_check.specs.Values.{AreValues}
 use Rattle.coverage_check.specs.Rows.{IsRow}
 use Rattle.coverage_check.specs.Admits.{Admits, AdmitAll, SomeAdmits}
 use Rattle.coverage_check.specs.Opened.{opened}
-use Rattle.coverage_check.specs.Columns.{IsVariable, SomeIs, has_symbol_at, symbols_at, HasNoSymbols, fronted, behind_first}
+use Rattle.coverage_check.specs.Columns.{IsVariable, has_symbol_at, symbols_at, HasNoSymbols, fronted, behind_first}
 use Rattle.coverage_check.specs.Named.{IsSettled}
 use Rattle.coverage_check.specs.Decisions.{IsPatternOf, ArePatternsOf, HasSorts, SomeMissing, NoneMissing, IsDecision, IsDecisionUnder, BeginsOtherwise, IsOf}
 use Rattle.coverage_check.proofs.Joined.{values_join, values_parts, sorted_length}
@@ -130,10 +130,12 @@ module _ (sig : Sig) where
   variables_admit (var m ∷ ps) (v ∷ vs) h n = (tt, variables_admit ps vs h.1 (omega arith))
   variables_admit (app f ts ∷ ps) (v ∷ vs) h n = absurd h.0
 
-  pub variables_cover : (sorts : List SortId) (rows : List (List Tree)) → AllByRecursion (HasSorts sig sorts) rows → SomeIs (AllByRecursion IsVariable) rows → NoneMissing sig rows sorts
-  variables_cover sorts [] h a vs v = absurd a
-  variables_cover sorts (row ∷ rows) h (inl a) vs v = inl (variables_admit row vs a (row_length row sorts h.0 ∙ sym (values_length vs sorts v)))
-  variables_cover sorts (row ∷ rows) h (inr a) vs v = inr (variables_cover sorts rows h.1 a vs v)
+  pub variables_cover : (sorts : List SortId) (rows : List (List Tree)) → AllByRecursion (HasSorts sig sorts) rows → Any (AllByRecursion IsVariable) rows → NoneMissing sig rows sorts
+  variables_cover sorts [] h a vs v = absurd (let l : a.0 < 0 = a.2 in omega arith)
+  variables_cover sorts (row ∷ rows) h (zero, x, l, e, a) vs v =
+      let free : AllByRecursion IsVariable row = subst (λ r. AllByRecursion IsVariable r) (sym e) a in
+      inl (variables_admit row vs free (row_length row sorts h.0 ∙ sym (values_length vs sorts v)))
+  variables_cover sorts (row ∷ rows) h (suc k, x, l, e, a) vs v = inr (variables_cover sorts rows h.1 (k, x, omega arith, e, a) vs v)
 
   each_variable : (row : List Tree) → ((k : ℕ) → k < length row → has_symbol_at k row ≡ false) → AllByRecursion IsVariable row
   each_variable [] h = tt
@@ -153,7 +155,7 @@ module _ (sig : Sig) where
       let k : (suc (length rows) == 0) ≡ false = grind (arith, nat_tests) in
       let n = row_length row sorts h.0 in
       let free : AllByRecursion IsVariable row = each_variable row (λ j l. not_counted (has_symbol_at j row) (symbols_at j rows) (free_of j (omega arith))) in
-      subst (λ x. IsDecision sig (row ∷ rows) sorts x) (sym (e ∙ k)) (variables_cover sorts (row ∷ rows) h (inl free))
+      subst (λ x. IsDecision sig (row ∷ rows) sorts x) (sym (e ∙ k)) (variables_cover sorts (row ∷ rows) h (0, row, omega arith, refl, free))
 
   -- pairs of values and sorts, of patterns and sorts, and of patterns and terms
   pair_values : (vs : List Tree) (ss : List SortId) → AreValues sig ss vs → Paired (λ v s. IsValue sig s v) vs ss

@@ -1,5 +1,5 @@
 -- Columns of rows.
-use Rattle.std.specs.Prelude.{◌≡◌, ◌⊎◌, ℕ, zero, suc, ◌+◌, ◌<◌, ◌≤◌, List, [], ◌∷◌, Bool, true, false, cond, slice_index_or}
+use Rattle.std.specs.Prelude.{◌≡◌, ℕ, zero, suc, ◌+◌, ◌<◌, ◌≤◌, List, [], ◌∷◌, Bool, true, false, cond, slice_index_or}
 use Rattle.term_core.specs.Tree.{Tree, var, app}
 
 -- the pattern is a variable, or it isn't
@@ -41,8 +41,3 @@ abbrev pub fronted : {X : Type 0} → ℕ → List X → List X
 fronted zero xs = xs
 fronted (suc k) [] = []
 fronted (suc k) (x ∷ xs) = behind_first x (fronted k xs)
-
--- the statement holds of one of the items
-abbrev pub SomeIs : {X : Type 0} → (X → Type 0) → List X → Type 0
-SomeIs P [] = ⊥
-SomeIs P (x ∷ xs) = P x ⊎ SomeIs P xs

@@ -1,8 +1,8 @@
 ghost use Rattle.std.specs.Prelude.{◌≡◌, ◌↔◌, ◌<◌, ◌++◌, List, IfOk, IsTrue, MatchOption, length, map};
-ghost use Rattle.std.specs.List.{AllByRecursion};
+ghost use Rattle.std.specs.List.{AllByRecursion, Any};
 ghost use Rattle.term_core.specs.Tree.{Tree};
 ghost use Rattle.coverage_check.specs.Opened.{BeginsWithVariable, rests};
-ghost use Rattle.coverage_check.specs.Columns.{IsVariable, SomeIs, IsBusiest, HasNoSymbols, symbols_at, fronted};
+ghost use Rattle.coverage_check.specs.Columns.{IsVariable, IsBusiest, HasNoSymbols, symbols_at, fronted};
 ghost use Rattle.coverage_check.specs.Decisions.{BeginsOtherwise};
 
 use crate::rows::Row;
@@ -33,38 +33,23 @@ fn symbols_at(rows: &[Row], column: usize) -> usize
 
 /// Whether some row has no symbol.
 pub(crate) fn some_is_variables(rows: &[Row]) -> bool
-    ensures { IsTrue result ↔ SomeIs (AllByRecursion IsVariable) rows.now }
+    ensures { IsTrue result ↔ Any (AllByRecursion IsVariable) rows.now }
 {
-    for row in rows {
-        if row.is_variables() {
-            return true;
-        }
-    }
-    false
+    rows.iter().any(|row| row.is_variables())
 }
 
 /// Whether the first pattern of each row is a variable.
 pub(crate) fn begin_with_variables(rows: &[Row]) -> bool
     ensures { IsTrue result ↔ AllByRecursion BeginsWithVariable rows.now }
 {
-    for row in rows {
-        if !row.begins_with_variable() {
-            return false;
-        }
-    }
-    true
+    rows.iter().all(|row| row.begins_with_variable())
 }
 
 /// Whether no row begins with the symbol.
 pub(crate) fn begin_otherwise(rows: &[Row], sym: SymId) -> bool
     ensures { IsTrue result ↔ AllByRecursion (BeginsOtherwise sym.0) rows.now }
 {
-    for row in rows {
-        if !row.begins_otherwise(sym) {
-            return false;
-        }
-    }
-    true
+    rows.iter().all(|row| row.begins_otherwise(sym))
 }
 
 /// The rows with the pattern at the column before the others.

@@ -64,7 +64,7 @@ fn open_row<'a>(
 fn push_times<'a>(row: &mut Row<'a>, pattern: &'a Term, count: usize) -> Result<(), OutOfMemory>
     ensures { OnOk result (row.new ≡ row.old ++ replicate count pattern.now) }
 {
-    for done in 0..count {
+    for _ in 0..count {
         row.push(pattern)?;
     }
     Ok(())

@@ -1,17 +1,18 @@
 -- Entries for the variables of a graph, node by node.
-use Rattle.std.proofs.Common.{◌≡◌, ℕ, zero, suc, ◌+◌, ◌<◌, ◌≤◌, List, [], ◌∷◌, ◌++◌, Option, Some, None, inl, inr, refl, ap, sym, ◌∙◌, subst, arith, length, get_or, set, take}
+use Rattle.std.proofs.Common.{◌≡◌, ℕ, ◌+◌, ◌<◌, ◌≤◌, List, [], ◌∷◌, ◌++◌, Option, Some, None, inl, inr, refl, ap, sym, ◌∙◌, subst, arith, length, get_or, take}
 use Rattle.std.specs.Prelude.{slice_index, unwrap_or}
 use Rattle.std.proofs.lemmas.List.{get_or_read, take_more}
 use Rattle.term_core.specs.Tree.{Tree, var, app, trees_of}
 use Rattle.term_core.specs.declared.ids.SymId.{SymId}
 use Rattle.term_core.specs.declared.ids.VarId.{VarId}
 use Rattle.substitutions.specs.Substitution.{entry, image}
+use Rattle.substitutions.specs.Updates.{IsSetTo}
 use Rattle.unifier.specs.declared.unification.graph.Shape.{Shape}
 use Rattle.unifier.specs.declared.unification.graph.Shape.TheVariants.{Var, App}
 use Rattle.unifier.specs.Graph.{shape_at, trees_by, built, AllBelow, ArgsBelow, IsGraph, IsVariable, IsNodeOf, HasOneNodeEach}
 use Rattle.unifier.specs.Roots.{root}
 use Rattle.unifier.specs.Cycles.{IsAcyclic}
-use Rattle.unifier.specs.Answer.{resolved, resolved_all, AreEntries, IsPut}
+use Rattle.unifier.specs.Answer.{resolved, resolved_all, AreEntries}
 use Rattle.unifier.proofs.Cases.{lt_or_last, eq_or_not}
 use Rattle.unifier.proofs.Graphs.{below_most, trees_by-append}
 use Rattle.unifier.proofs.Resolutions.{unfolded_is}
@@ -20,31 +21,6 @@ use Rattle.unifier.proofs.Resolutions.{unfolded_is}
 pub record AreEntriesBelow (graph : List Shape) (roots : List ℕ) (count : ℕ) (entries : List (Option Tree)) : Type 0 where
   pub filled : (i n : ℕ) → i < count → IsNodeOf graph n i → image entries n ≡ resolved graph roots (root roots i)
   pub only : (n : ℕ) (t : Tree) → entry entries n ≡ Some t → (i : ℕ) × IsNodeOf graph n i × (t ≡ resolved graph roots (root roots i)) × (i < count)
-
--- one more place without an entry
-pub entry-append_none : (es : List (Option Tree)) (n : ℕ) → entry (es ++ None ∷ []) n ≡ entry es n
-entry-append_none [] zero = refl
-entry-append_none [] (suc n) = refl
-entry-append_none (e ∷ es) zero = refl
-entry-append_none (e ∷ es) (suc n) = entry-append_none es n
-
-entry-set_same : (es : List (Option Tree)) (i : ℕ) (e : Option Tree) → i < length es → entry (set es i e) i ≡ e
-entry-set_same [] i e h = absurd (omega arith)
-entry-set_same (d ∷ es) zero e h = refl
-entry-set_same (d ∷ es) (suc i) e h = entry-set_same es i e (omega arith)
-
-entry-set_other : (es : List (Option Tree)) (i n : ℕ) (e : Option Tree) → (n ≡ i → ⊥) → entry (set es i e) n ≡ entry es n
-entry-set_other [] i n e h = refl
-entry-set_other (d ∷ es) zero zero e h = absurd (h refl)
-entry-set_other (d ∷ es) zero (suc n) e h = refl
-entry-set_other (d ∷ es) (suc i) zero e h = refl
-entry-set_other (d ∷ es) (suc i) (suc n) e h = entry-set_other es i n e (λ q. h (ap suc q))
-
-pub put_by : (old now after : List (Option Tree)) (place : ℕ) (t : Tree) → ((n : ℕ) → entry now n ≡ entry old n) → place < length now → after ≡ set now place (Some t) → IsPut old place t after
-put_by old now after place t same h e = record {
-  here = ap (λ es. entry es place) e ∙ entry-set_same now place (Some t) h;
-  others = λ n q. ap (λ es. entry es n) e ∙ entry-set_other now place n (Some t) q ∙ same n;
-}
 
 module _ (graph : List Shape) (roots : List ℕ) where
   -- the tree of a node by those of its arguments
@@ -56,25 +32,25 @@ module _ (graph : List Shape) (roots : List ℕ) where
   resolved_variable node s v acyclic l read is = sym (resolved_is node s acyclic l read ∙ ap (λ x. built (λ c. resolved graph roots (root roots c)) x) is)
 
   -- one more node, of a variable
-  pub entries_more : (old after : List (Option Tree)) (node : ℕ) (s : Shape) (v : VarId) (t : Tree) → HasOneNodeEach graph → node < length graph → s ≡ get_or graph node s → s ≡ Var v → t ≡ resolved graph roots (root roots node) → AreEntriesBelow graph roots node old → IsPut old v.0 t after → AreEntriesBelow graph roots (node + 1) after
+  pub entries_more : (old after : List (Option Tree)) (node : ℕ) (s : Shape) (v : VarId) (t : Tree) → HasOneNodeEach graph → node < length graph → s ≡ get_or graph node s → s ≡ Var v → t ≡ resolved graph roots (root roots node) → AreEntriesBelow graph roots node old → IsSetTo old v.0 t after → AreEntriesBelow graph roots (node + 1) after
   entries_more old after node s v t one l read is e h put =
       let at : shape_at graph node ≡ Var v = sym (get_or_read graph node s l read (Var (record { 0 = 0 }))) ∙ is in
       let own : IsNodeOf graph v.0 node = (l, subst (λ x. IsVariable v.0 x) (sym at) refl) in
       record {
         filled = λ i n b at_i. elim (lt_or_last i node b) [
-          | inl c ↦ ap (λ o. unwrap_or o (var n)) (put.others n (λ q. absurd (omega (arith, one i node n at_i (subst (λ m. IsNodeOf graph m node) (sym q) own))))) ∙ h.filled i n c at_i
+          | inl c ↦ ap (λ o. unwrap_or o (var n)) (put.1 n (λ q. absurd (omega (arith, one i node n at_i (subst (λ m. IsNodeOf graph m node) (sym q) own))))) ∙ h.filled i n c at_i
           | inr c ↦
               let other : IsNodeOf graph n node = subst (λ k. IsNodeOf graph n k) c at_i in
               let q : v.0 ≡ n = subst (λ x. IsVariable n x) at other.1 in
-              ap (λ m. image after m) (sym q) ∙ ap (λ o. unwrap_or o (var v.0)) put.here ∙ e ∙ ap (λ k. resolved graph roots (root roots k)) (sym c)
+              ap (λ m. image after m) (sym q) ∙ ap (λ o. unwrap_or o (var v.0)) put.0 ∙ e ∙ ap (λ k. resolved graph roots (root roots k)) (sym c)
         ];
         only = λ n x a. elim (eq_or_not n v.0) [
           | inl q ↦
-              let d : Some t ≡ Some x = sym put.here ∙ ap (λ m. entry after m) (sym q) ∙ a in
+              let d : Some t ≡ Some x = sym put.0 ∙ ap (λ m. entry after m) (sym q) ∙ a in
               let k : x ≡ t = cc in
               (node, subst (λ m. IsNodeOf graph m node) (sym q) own, k ∙ e, omega arith)
           | inr q ↦
-              let r = h.only n x (sym (put.others n q) ∙ a) in
+              let r = h.only n x (sym (put.1 n q) ∙ a) in
               (r.0, r.1, r.2, omega (arith, r.3))
         ];
       }

@@ -105,15 +105,14 @@ module _ (graph : List Shape) (first second : ℕ) (a b : Tree) (of : IsGraphOf 
           let k = subst (λ d. MatchBool d (IsAcyclic h rs) (HasNoModel h rs)) e decided in
           cycle_has_no_unifier graph first second a b of roots.items (closure_at found roots is closed) (subst (λ x. HasNoModel x roots.items) h_is (subst (λ x. HasNoModel h x) rs_is k))
 
-      pub answer_at : done ≡ true → (k : List Shape) (ts : List ℕ) → k ≡ graph → ts ≡ roots.items → (entries s : List (Option Tree)) → AreEntries k ts entries → s ≡ entries → IsAnswer a b s
-      answer_at e k ts k_is ts_is entries s are s_is =
+      pub answer_at : done ≡ true → (k : List Shape) (ts : List ℕ) → k ≡ graph → ts ≡ roots.items → (entries : List (Option Tree)) → AreEntries k ts entries → IsAnswer a b entries
+      answer_at e k ts k_is ts_is entries are =
           let c = closure_at found roots is closed in
           let d = subst (λ d. MatchBool d (IsAcyclic h rs) (HasNoModel h rs)) e decided in
           let acyclic = subst (λ x. IsAcyclic x roots.items) h_is (subst (λ x. IsAcyclic h x) rs_is d) in
           let same = subst (λ x. AreEntries x roots.items entries) k_is (subst (λ x. AreEntries k x entries) ts_is are) in
-          let r : IsAnswer a b entries = record {
+          record {
             general = entries_general graph first second a b of roots.items c acyclic entries same;
             relevant = entries_relevant graph first second a b of roots.items c acyclic entries same;
             sorted = entries_sorted graph first second a b of roots.items c acyclic entries same;
-          } in
-          subst (λ es. IsAnswer a b es) (sym s_is) r
+          }

@@ -23,8 +23,3 @@ resolved_all graph roots cs = trees_by (λ c. resolved graph roots (root roots c
 pub record AreEntries (graph : List Shape) (roots : List ℕ) (entries : List (Option Tree)) : Type 0 where
   pub filled : (i n : ℕ) → IsNodeOf graph n i → image entries n ≡ resolved graph roots (root roots i)
   pub only : (n : ℕ) (t : Tree) → entry entries n ≡ Some t → (i : ℕ) × IsNodeOf graph n i × (t ≡ resolved graph roots (root roots i))
-
--- the term is the entry of the place, and the others stay
-pub record IsPut (old : List (Option Tree)) (place : ℕ) (t : Tree) (new : List (Option Tree)) : Type 0 where
-  pub here : entry new place ≡ Some t
-  pub others : (n : ℕ) → (n ≡ place → ⊥) → entry new n ≡ entry old n

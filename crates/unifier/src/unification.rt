@@ -15,7 +15,7 @@ use graph::add;
 use occurs::is_acyclic;
 use std::alloc::Global;
 use substitutions::Subst;
-use term_core::{OutOfMemory, Seq, Term};
+use term_core::{OutOfMemory, Term};
 
 /// A most general unifier (Robinson, 1965), with an entry for each variable that it changes.
 ///
@@ -43,6 +43,5 @@ pub fn unify(alloc: Global, a: &Term, b: &Term) -> Result<Option<Subst>, OutOfMe
     if !is_acyclic(alloc, &graph, &roots)? {
         return Ok(None);
     }
-    let terms = Seq::from_vec(entries(alloc, &graph, &roots)?);
-    Ok(Some(Subst { terms }))
+    Ok(Some(entries(alloc, &graph, &roots)?))
 }

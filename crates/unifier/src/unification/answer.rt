@@ -1,48 +1,34 @@
-ghost use Rattle.std.specs.Prelude.{◌≡◌, ◌<◌, IfOk, OnOk, length};
+ghost use Rattle.std.specs.Prelude.{◌≡◌, ◌<◌, IfOk, length};
 ghost use Rattle.term_core.specs.Tree.{trees_of};
 ghost use Rattle.unifier.specs.Graph.{IsGraph, HasOneNodeEach, AllBelow};
 ghost use Rattle.unifier.specs.Roots.{AreRoots};
 ghost use Rattle.unifier.specs.Cycles.{IsAcyclic};
-ghost use Rattle.unifier.specs.Answer.{AreEntries, IsPut, resolved, resolved_all};
+ghost use Rattle.unifier.specs.Answer.{AreEntries, resolved, resolved_all};
 
 use crate::unification::graph::Shape;
 use std::alloc::Global;
+use substitutions::Subst;
 use term_core::{OutOfMemory, Term, Terms};
 
-/// The terms of the variables, by number. A variable that is the root of its class stays as it is.
-pub(crate) fn entries(
-    alloc: Global,
-    graph: &[Shape],
-    roots: &[usize],
-) -> Result<Vec<Option<Term>>, OutOfMemory>
+/// Each variable becomes the term of its class's root, and stays as it is where it is the root.
+pub(crate) fn entries(alloc: Global, graph: &[Shape], roots: &[usize]) -> Result<Subst, OutOfMemory>
     requires graph { IsGraph graph.now }
     requires variables { HasOneNodeEach graph.now }
     requires roots { AreRoots graph.now roots.now }
     requires acyclic { IsAcyclic graph.now roots.now }
-    ensures { IfOk result (λ made. AreEntries graph.now roots.now made.items) }
+    ensures { IfOk result (λ made. AreEntries graph.now roots.now made.terms) }
 {
-    let mut made = Vec::new(alloc);
+    let mut made = Subst::new(alloc);
     for (node, shape) in graph.iter().enumerate() {
         if let Shape::Var(var) = shape {
             let root = roots[node];
             if root != node {
                 let term = resolve(alloc, graph, roots, root)?;
-                put(&mut made, var.0 as usize, term)?;
+                made.set(alloc, *var, term)?;
             }
         }
     }
     Ok(made)
-}
-
-/// Puts the term at the place, with no entries before it where the list is shorter.
-fn put(made: &mut Vec<Option<Term>>, place: usize, term: Term) -> Result<(), OutOfMemory>
-    ensures { OnOk result (IsPut made.old.items place term made.new.items) }
-{
-    while made.len() <= place {
-        made.push(None)?;
-    }
-    made[place] = Some(term);
-    Ok(())
 }
 
 /// The term of a root.

@@ -35,12 +35,12 @@ entries-requires-clause-variables c =
 
 pub returns-clause-general : goal.returns-clause-general
 returns-clause-general c =
-    (answer_at c.add-2.new.graph.items c.in_ok-first.first c.in_ok-second.second c.args.a.now c.args.b.now (graph_of c.new-graph.result.items c.add.new.graph.items c.add-2.new.graph.items c.in_ok-first.first c.in_ok-second.second c.args.a.now c.args.b.now c.new-graph.ensures.items c.in_ok-first.ensures c.in_ok-second.ensures) c.deref.result.now c.deref.ensures.value c.in_ok-roots.field-0 c.in-Some.roots c.in-Some.is c.in_ok-roots.ensures.closed c.deref-2.result.now c.deref-3.result.now c.deref-2.ensures.value c.deref-3.ensures.value c.in_ok-is_acyclic.field-0 c.in_ok-is_acyclic.ensures c.if-not-branch.false c.deref-4.result.now c.deref-5.result.now c.deref-4.ensures.value c.deref-5.ensures.value c.in_ok-entries.field-0.items c.from_vec-terms.result c.in_ok-entries.ensures c.from_vec-terms.ensures).general
+    (answer_at c.add-2.new.graph.items c.in_ok-first.first c.in_ok-second.second c.args.a.now c.args.b.now (graph_of c.new-graph.result.items c.add.new.graph.items c.add-2.new.graph.items c.in_ok-first.first c.in_ok-second.second c.args.a.now c.args.b.now c.new-graph.ensures.items c.in_ok-first.ensures c.in_ok-second.ensures) c.deref.result.now c.deref.ensures.value c.in_ok-roots.field-0 c.in-Some.roots c.in-Some.is c.in_ok-roots.ensures.closed c.deref-2.result.now c.deref-3.result.now c.deref-2.ensures.value c.deref-3.ensures.value c.in_ok-is_acyclic.field-0 c.in_ok-is_acyclic.ensures c.if-not-branch.false c.deref-4.result.now c.deref-5.result.now c.deref-4.ensures.value c.deref-5.ensures.value c.in_ok-entries.field-0.terms c.in_ok-entries.ensures).general
 
 pub returns-clause-relevant : goal.returns-clause-relevant
 returns-clause-relevant c =
-    (answer_at c.add-2.new.graph.items c.in_ok-first.first c.in_ok-second.second c.args.a.now c.args.b.now (graph_of c.new-graph.result.items c.add.new.graph.items c.add-2.new.graph.items c.in_ok-first.first c.in_ok-second.second c.args.a.now c.args.b.now c.new-graph.ensures.items c.in_ok-first.ensures c.in_ok-second.ensures) c.deref.result.now c.deref.ensures.value c.in_ok-roots.field-0 c.in-Some.roots c.in-Some.is c.in_ok-roots.ensures.closed c.deref-2.result.now c.deref-3.result.now c.deref-2.ensures.value c.deref-3.ensures.value c.in_ok-is_acyclic.field-0 c.in_ok-is_acyclic.ensures c.if-not-branch.false c.deref-4.result.now c.deref-5.result.now c.deref-4.ensures.value c.deref-5.ensures.value c.in_ok-entries.field-0.items c.from_vec-terms.result c.in_ok-entries.ensures c.from_vec-terms.ensures).relevant
+    (answer_at c.add-2.new.graph.items c.in_ok-first.first c.in_ok-second.second c.args.a.now c.args.b.now (graph_of c.new-graph.result.items c.add.new.graph.items c.add-2.new.graph.items c.in_ok-first.first c.in_ok-second.second c.args.a.now c.args.b.now c.new-graph.ensures.items c.in_ok-first.ensures c.in_ok-second.ensures) c.deref.result.now c.deref.ensures.value c.in_ok-roots.field-0 c.in-Some.roots c.in-Some.is c.in_ok-roots.ensures.closed c.deref-2.result.now c.deref-3.result.now c.deref-2.ensures.value c.deref-3.ensures.value c.in_ok-is_acyclic.field-0 c.in_ok-is_acyclic.ensures c.if-not-branch.false c.deref-4.result.now c.deref-5.result.now c.deref-4.ensures.value c.deref-5.ensures.value c.in_ok-entries.field-0.terms c.in_ok-entries.ensures).relevant
 
 pub returns-clause-sorted : goal.returns-clause-sorted
 returns-clause-sorted c =
-    (answer_at c.add-2.new.graph.items c.in_ok-first.first c.in_ok-second.second c.args.a.now c.args.b.now (graph_of c.new-graph.result.items c.add.new.graph.items c.add-2.new.graph.items c.in_ok-first.first c.in_ok-second.second c.args.a.now c.args.b.now c.new-graph.ensures.items c.in_ok-first.ensures c.in_ok-second.ensures) c.deref.result.now c.deref.ensures.value c.in_ok-roots.field-0 c.in-Some.roots c.in-Some.is c.in_ok-roots.ensures.closed c.deref-2.result.now c.deref-3.result.now c.deref-2.ensures.value c.deref-3.ensures.value c.in_ok-is_acyclic.field-0 c.in_ok-is_acyclic.ensures c.if-not-branch.false c.deref-4.result.now c.deref-5.result.now c.deref-4.ensures.value c.deref-5.ensures.value c.in_ok-entries.field-0.items c.from_vec-terms.result c.in_ok-entries.ensures c.from_vec-terms.ensures).sorted
+    (answer_at c.add-2.new.graph.items c.in_ok-first.first c.in_ok-second.second c.args.a.now c.args.b.now (graph_of c.new-graph.result.items c.add.new.graph.items c.add-2.new.graph.items c.in_ok-first.first c.in_ok-second.second c.args.a.now c.args.b.now c.new-graph.ensures.items c.in_ok-first.ensures c.in_ok-second.ensures) c.deref.result.now c.deref.ensures.value c.in_ok-roots.field-0 c.in-Some.roots c.in-Some.is c.in_ok-roots.ensures.closed c.deref-2.result.now c.deref-3.result.now c.deref-2.ensures.value c.deref-3.ensures.value c.in_ok-is_acyclic.field-0 c.in_ok-is_acyclic.ensures c.if-not-branch.false c.deref-4.result.now c.deref-5.result.now c.deref-4.ensures.value c.deref-5.ensures.value c.in_ok-entries.field-0.terms c.in_ok-entries.ensures).sorted
