@@ -2,8 +2,8 @@
 use Rattle.std.proofs.Common.{◌≡◌, ℕ, ◌+◌, ◌<◌, ◌≤◌, List, Option, Some, None, ◌⊎◌, inl, inr, sym, subst, arith}
 use Rattle.std.specs.Prelude.{MatchOption}
 use Rattle.term_core.specs.Tree.{Tree}
-use Rattle.spec_core.proofs.LeastSizes.{split_at}
 use Rattle.coverage_check.specs.Columns.{symbols_at, IsBusiest, HasNoSymbols}
+use Rattle.term_core.proofs.Numbers.{below_or_last}
 
 abbrev pub BusiestSoFar : List (List Tree) → ℕ → Option ℕ → ℕ → Type 0
 BusiestSoFar rows n None most = (most ≡ 0) × HasNoSymbols rows n
@@ -11,7 +11,7 @@ BusiestSoFar rows n (Some k) most = (most ≡ symbols_at k rows) × IsBusiest ro
 
 module _ (rows : List (List Tree)) (n count : ℕ) (is : count ≡ symbols_at n rows) where
   up_to : (P : ℕ → Type 0) → ((k : ℕ) → k < n → P k) → P n → (k : ℕ) → k < n + 1 → P k
-  up_to P below here k h = by (split_at k n h)
+  up_to P below here k h = by (below_or_last k n h)
     where
       by : (k < n) ⊎ (k ≡ n) → P k
       by (inl b) = below k b

@@ -11,7 +11,7 @@ use Rattle.spec_core.specs.Sig.{Sig, info_of, IsConstructor, IsSort, SortsAreInR
 use Rattle.spec_core.specs.Sorts.{Sorted, SortedAll, IsValue}
 use Rattle.spec_core.specs.WellSorted.{IsPattern, ArePatterns}
 use Rattle.spec_core.specs.Declarations.{IsDeclared}
-use Rattle.spec_core.proofs.Ranges.{declared_in_range}
+use Rattle.spec_core.proofs.Ranges.{sorts_in_range}
 use Rattle.coverage_check.specs.Values.{AreValues}
 use Rattle.coverage_check.specs.Rows.{IsRow}
 use Rattle.coverage_check.specs.Admits.{Admits, AdmitAll, SomeAdmits}
@@ -25,7 +25,7 @@ use Rattle.coverage_check.proofs.Fronts.{Paired, front_pairs, pairs_back, moved_
 
 module _ (sig : Sig) where
   pub in_range : IsDeclared sig → SortsAreInRange sig
-  in_range d = subst SortsAreInRange (sym d.is) (declared_in_range d.sorts d.constructors d.functions d.constructors_in_range d.functions_in_range)
+  in_range d = sorts_in_range sig d
 
   mutual
     pattern_of : (ctx : List SortId) (t : Tree) (s : SortId) → Sorted sig ctx t s → IsPattern sig t → IsPatternOf sig t s

@@ -3,7 +3,7 @@ use Rattle.std.proofs.Common.{◌≡◌, ℕ, zero, suc, ◌+◌, ◌-◌, ◌<�
 use Rattle.std.specs.Borrow.{Bor}
 use Rattle.std.proofs.lemmas.List.{take_all, length-drop}
 use Rattle.term_core.specs.Tree.{Tree}
-use Rattle.coverage_check.specs.References.{terms_of}
+use Rattle.term_core.specs.References.{terms_of}
 use Rattle.coverage_check.specs.Columns.{behind_first, fronted}
 
 -- the lists have the same length, and the relation holds of their items at each place

@@ -13,7 +13,8 @@ use Rattle.spec_core.specs.declared.records.Spec.{Spec}
 use Rattle.spec_core.specs.Groups.{BeginsWith, bool_same, rest_if, wanting, Whole, alone, split}
 use Rattle.coverage_check.specs.GroupTree.{IsRuleNumber, guards_of, numbered_guards}
 use Rattle.coverage_check.specs.GuardLists.{lists_of, unnumbered, AreWhole, rest_before, rests_wanting}
-use Rattle.coverage_check.proofs.Walks.{at_item, at_end, map_push_before}
+use Rattle.coverage_check.proofs.Walks.{at_item, map_push_before}
+use Rattle.term_core.proofs.Items.{drop_past}
 
 -- the number of all guards
 abbrev pub guard_count : List (List Guard) → ℕ
@@ -259,7 +260,7 @@ append_none (x ∷ xs) = ap (λ ys. x ∷ ys) (append_none xs)
 -- the lists of all rules
 pub all_met : (spec : Spec) (group : List ℕ) (i : ℕ) (made lists : List (Bor (List Guard))) → length group ≤ i → lists ≡ made → lists_of made ++ unnumbered (numbered_guards spec (drop i group)) ≡ unnumbered (numbered_guards spec group) → lists_of lists ≡ unnumbered (numbered_guards spec group)
 all_met spec group i made lists h same kept =
-    ap (λ rs. lists_of rs) same ∙ sym (append_none (lists_of made)) ∙ ap (λ ns. lists_of made ++ unnumbered (numbered_guards spec ns)) (sym (at_end group i h)) ∙ kept
+    ap (λ rs. lists_of rs) same ∙ sym (append_none (lists_of made)) ∙ ap (λ ns. lists_of made ++ unnumbered (numbered_guards spec ns)) (sym (drop_past group i h)) ∙ kept
 
 pub numbers_whole : (ms : List (ℕ × List Guard)) (lists : List (List Guard)) → lists ≡ unnumbered ms → AreWhole lists ↔ Whole ms
 numbers_whole ms lists e = (

@@ -8,14 +8,6 @@ use Rattle.spec_core.specs.Sorts.{SortedAll, AreBuilt}
 use Rattle.coverage_check.specs.Values.{AreValues}
 use Rattle.coverage_check.specs.Admits.{AdmitAll}
 
-pub same_trees : (ts : Trees) → trees_of (list_of ts) ≡ ts
-same_trees none = refl
-same_trees (some t ts) = ap (λ us. some t us) (same_trees ts)
-
-pub same_list : (ts : List Tree) → list_of (trees_of ts) ≡ ts
-same_list [] = refl
-same_list (t ∷ ts) = ap (λ us. t ∷ us) (same_list ts)
-
 -- what is known of all arguments and of the rest is known of them joined
 pub admit_join : (ps ts : Trees) (qs us : List Tree) → AdmitAll ps ts → AdmitAll (trees_of qs) (trees_of us) → AdmitAll (trees_of (list_of ps ++ qs)) (trees_of (list_of ts ++ us))
 admit_join none none qs us a b = b

@@ -16,10 +16,11 @@ use Rattle.coverage_check.specs.Opened.{BeginsWithVariable, rests, opened}
 use Rattle.coverage_check.specs.Columns.{symbols_at}
 use Rattle.coverage_check.specs.Named.{IsSettled, IsFirstOpen, IsNamed, no_sorts, no_rows, all_variables, first_constructor}
 use Rattle.coverage_check.specs.Decisions.{HasSorts, SomeMissing, IsDecisionUnder}
-use Rattle.coverage_check.proofs.Joined.{same_list, values_join, sorted_length}
+use Rattle.coverage_check.proofs.Joined.{values_join, sorted_length}
 use Rattle.coverage_check.proofs.OpenedRows.{admits_opened}
 use Rattle.coverage_check.proofs.Namings.{named_unadmitted}
 use Rattle.coverage_check.proofs.Deciding.{values_length, all_settled}
+use Rattle.term_core.proofs.Trees.{list_of-trees_of}
 
 -- the number of arguments of all symbols, which bounds how many columns an opening adds
 abbrev pub all_arguments : List (List ℕ × SymInfo) → ℕ
@@ -114,8 +115,8 @@ module _ (sig : Sig) where
         let count = length i.args in
         let firsts = take count values in
         let rest = drop count values in
-        let parts : list_of (trees_of firsts) ++ rest ≡ values = ap (λ us. us ++ rest) (same_list firsts) ∙ take-append-drop count values in
-        let long : length (list_of (trees_of firsts)) ≡ count = ap (λ us. length us) (same_list firsts) ∙ length-take-le count values (named_length values n) in
+        let parts : list_of (trees_of firsts) ++ rest ≡ values = ap (λ us. us ++ rest) (list_of-trees_of firsts) ∙ take-append-drop count values in
+        let long : length (list_of (trees_of firsts)) ≡ count = ap (λ us. length us) (list_of-trees_of firsts) ∙ length-take-le count values (named_length values n) in
         let back : IsNamed sig (opened c count rows) (i.args ++ ss) (list_of (trees_of firsts) ++ rest) = subst (λ us. IsNamed sig (opened c count rows) (i.args ++ ss) us) (sym parts) n in
         subst (λ us. IsNamed sig rows (s ∷ ss) us) (sym m) (first_constructor c i first long back)
 

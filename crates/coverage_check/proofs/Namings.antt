@@ -12,8 +12,9 @@ use Rattle.coverage_check.specs.Opened.{rests, opened}
 use Rattle.coverage_check.specs.Named.{IsFirstOpen, IsNamed, no_sorts, no_rows, all_variables, first_constructor}
 use Rattle.coverage_check.specs.Decisions.{IsUnadmitted}
 use Rattle.coverage_check.proofs.Admitted.{some_admits}
-use Rattle.coverage_check.proofs.Joined.{same_list, values_split}
+use Rattle.coverage_check.proofs.Joined.{values_split}
 use Rattle.coverage_check.proofs.OpenedRows.{opened_admits}
+use Rattle.term_core.proofs.Trees.{list_of-trees_of}
 
 -- values that some row admits are, without their first, admitted by some rest
 rests_admit : (v : Tree) (vs : List Tree) (rows : List (List Tree)) → SomeAdmits rows (v ∷ vs) → SomeAdmits (rests rows) vs
@@ -73,7 +74,7 @@ module _ (sig : Sig) where
   pub one : {rows : List (List Tree)} {sorts : List SortId} {vs ws : List Tree} → IsNamed sig rows sorts vs → IsNamed sig rows sorts ws → vs ≡ ws
   one no_sorts no_sorts = refl
   one (no_rows {s} {ss} {vs} small) (no_rows {vs = ws} other) =
-      sym (same_list vs) ∙ ap (λ ts. list_of ts) (ones_small sig (trees_of vs) (trees_of ws) (s ∷ ss) small other) ∙ same_list ws
+      sym (list_of-trees_of vs) ∙ ap (λ ts. list_of ts) (ones_small sig (trees_of vs) (trees_of ws) (s ∷ ss) small other) ∙ list_of-trees_of ws
   one (no_rows small) (all_variables some_row begin other more) = absurd (some_row refl)
   one (no_rows small) (first_constructor c i first n more) = absurd (first.decides tt)
   one (all_variables some_row begin small more) (no_rows other) = absurd (some_row refl)

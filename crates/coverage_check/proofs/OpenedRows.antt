@@ -9,14 +9,13 @@ use Rattle.term_core.specs.declared.ids.SortId.{SortId}
 use Rattle.spec_core.specs.declared.records.SymInfo.{SymInfo}
 use Rattle.spec_core.specs.Sig.{Sig, info_of}
 use Rattle.coverage_check.specs.Admits.{SomeAdmits}
-use Rattle.coverage_check.specs.References.{terms_of}
+use Rattle.term_core.specs.References.{terms_of}
 use Rattle.coverage_check.specs.Decisions.{IsOpening, HasSorts, IsPatternOf, ArePatternsOf}
 use Rattle.coverage_check.specs.Opened.{opened_before, opened}
 use Rattle.coverage_check.proofs.Walks.{at_item, push_before}
-use Rattle.coverage_check.proofs.Joined.{same_list, admit_join, admit_split, variables_join, variables_split}
-
-pub test_self : (n : ℕ) → (n == n) ≡ true
-test_self n = grind (arith, nat_tests)
+use Rattle.coverage_check.proofs.Joined.{admit_join, admit_split, variables_join, variables_split}
+use Rattle.term_core.proofs.Trees.{list_of-trees_of}
+use Rattle.spec_core.proofs.Groups.{eqb_self}
 
 pub test_same : (m n : ℕ) → (m == n) ≡ true → m ≡ n
 test_same m n h = grind (arith, nat_tests)
@@ -29,7 +28,7 @@ opened_admits c count ts us ([] ∷ rows) e (inr a) = opened_admits c count ts u
 opened_admits c count ts us ((var n ∷ ps) ∷ rows) e (inl a) = inl (variables_join count ts ps us e a.1)
 opened_admits c count ts us ((var n ∷ ps) ∷ rows) e (inr a) = inr (opened_admits c count ts us rows e a)
 opened_admits c count ts us ((app f qs ∷ ps) ∷ rows) e (inl a) =
-    let same : (f == c) ≡ true = rw a.0.0 (test_self c) in
+    let same : (f == c) ≡ true = rw a.0.0 (eqb_self c) in
     let here : SomeAdmits ((list_of qs ++ ps) ∷ opened c count rows) (list_of ts ++ us) = inl (admit_join qs ts ps us a.0.1 a.1) in
     subst (λ b. SomeAdmits (cond b ((list_of qs ++ ps) ∷ opened c count rows) (opened c count rows)) (list_of ts ++ us)) (sym same) here
 opened_admits c count ts us ((app f qs ∷ ps) ∷ rows) e (inr a) = by (f == c) (opened_admits c count ts us rows e a)
@@ -49,9 +48,9 @@ opened_variable c count refs first others n any blank made new all e v a z m w h
 pub opened_constructor : (c f count : ℕ) (refs : List (Bor Tree)) (first : Bor Tree) (others : List (Bor Tree)) (args slice blank made new all : List Tree) → refs ≡ first ∷ others → first.now ≡ app f (trees_of args) → f ≡ c → blank ≡ [] → slice ≡ args → new ≡ blank ++ slice → made ≡ new → all ≡ made ++ terms_of others → (rows : List (List Tree)) → opened_before c count (terms_of refs) rows ≡ all ∷ rows
 opened_constructor c f count refs first others args slice blank made new all e v q z s m w h rows =
     let row : terms_of refs ≡ app c (trees_of args) ∷ terms_of others = ap (λ rs. terms_of rs) e ∙ ap (λ t. t ∷ terms_of others) (v ∙ ap (λ k. app k (trees_of args)) q) in
-    let is : all ≡ list_of (trees_of args) ++ terms_of others = h ∙ ap (λ ts. ts ++ terms_of others) (w ∙ m ∙ ap (λ ts. ts ++ slice) z ∙ s ∙ sym (same_list args)) in
+    let is : all ≡ list_of (trees_of args) ++ terms_of others = h ∙ ap (λ ts. ts ++ terms_of others) (w ∙ m ∙ ap (λ ts. ts ++ slice) z ∙ s ∙ sym (list_of-trees_of args)) in
     let more = list_of (trees_of args) ++ terms_of others in
-    ap (λ r. opened_before c count r rows) row ∙ ap (λ b. cond b (more ∷ rows) rows) (test_self c) ∙ ap (λ r. r ∷ rows) (sym is)
+    ap (λ r. opened_before c count r rows) row ∙ ap (λ b. cond b (more ∷ rows) rows) (eqb_self c) ∙ ap (λ r. r ∷ rows) (sym is)
 
 -- the opened rows so far with those to come, at a row that is opened or left out
 module _ (c count : ℕ) (rows : List (List Tree)) (i : ℕ) (row slice : List Tree) (h : i < length rows) (is : row ≡ get_or rows i row) (same : slice ≡ row) (old new all : List (List Tree)) (kept : old ++ opened c count (drop i rows) ≡ all) where

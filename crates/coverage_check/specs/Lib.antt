@@ -11,7 +11,6 @@ pub mod Examples
 -- Groups of rules.
 pub mod GroupTree
 -- What only this crate's own contracts speak of.
-pub mod References
 pub mod Columns
 pub mod Decisions
 pub mod GuardLists

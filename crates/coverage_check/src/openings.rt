@@ -1,6 +1,6 @@
 ghost use Rattle.std.specs.Prelude.{◌≡◌, ◌++◌, IfOk, OnOk, replicate};
 ghost use Rattle.term_core.specs.Tree.{var as variable};
-ghost use Rattle.coverage_check.specs.References.{terms_of};
+ghost use Rattle.term_core.specs.References.{terms_of};
 ghost use Rattle.coverage_check.specs.Opened.{opened};
 ghost use Rattle.coverage_check.specs.Decisions.{IsOpening};
 

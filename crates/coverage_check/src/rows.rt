@@ -1,7 +1,7 @@
 ghost use Rattle.std.specs.Prelude.{◌≡◌, ◌↔◌, ◌<◌, ◌++◌, ◌∷◌, [], IfOk, OnOk, IsTrue, length, slice_index_or};
 ghost use Rattle.std.specs.List.{AllByRecursion};
 ghost use Rattle.term_core.specs.Tree.{Tree, var as variable, list_of};
-ghost use Rattle.coverage_check.specs.References.{terms_of};
+ghost use Rattle.term_core.specs.References.{terms_of};
 ghost use Rattle.coverage_check.specs.Opened.{BeginsWithVariable, rest_of};
 ghost use Rattle.coverage_check.specs.Columns.{IsVariable, is_application, has_symbol_at, fronted};
 ghost use Rattle.coverage_check.specs.Decisions.{BeginsOtherwise};
@@ -21,7 +21,7 @@ impl<'a> Model for Row<'a> {
     ghost use Rattle.std.specs.Coded.{coded_list};
     ghost use Rattle.term_core.specs.Tree.{Tree};
     ghost use Rattle.term_core.specs.Codes.{coded_tree};
-    ghost use Rattle.coverage_check.specs.References.{terms_of};
+    ghost use Rattle.term_core.specs.References.{terms_of};
 
     ghost Value = { List Tree };
 

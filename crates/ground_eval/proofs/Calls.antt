@@ -1,5 +1,5 @@
 -- Calls with values, rule by rule.
-use Rattle.std.proofs.Common.{◌≡◌, ℕ, zero, suc, ◌+◌, ◌-◌, ◌<◌, ◌≤◌, List, [], ◌∷◌, Bool, true, false, cond, Some, None, ◌⊎◌, inl, inr, refl, ap, sym, ◌∙◌, subst, arith, length, get_or, take, add-one}
+use Rattle.std.proofs.Common.{◌≡◌, ℕ, zero, suc, ◌+◌, ◌-◌, ◌<◌, ◌≤◌, List, [], ◌∷◌, Bool, true, false, cond, Some, None, inl, inr, refl, ap, sym, ◌∙◌, subst, arith, length, get_or, take, add-one}
 use Rattle.std.specs.Prelude.{slice_get, option_map}
 use Rattle.std.specs.List.{AllByRecursion}
 use Rattle.std.proofs.lemmas.Bool.Decides.{nat_tests}
@@ -32,6 +32,7 @@ use Rattle.ground_eval.specs.Matches.{IsMatch}
 use Rattle.ground_eval.specs.Choices.{IsMatched, HaveHeld, GoesOn, NoneFollows, Follows, Applies}
 use Rattle.ground_eval.proofs.Guards.{held_more}
 use Rattle.ground_eval.proofs.Lists.{item_at}
+use Rattle.term_core.proofs.Numbers.{below_or_last}
 
 pub left_is_application : (sig : Sig) (left : Tree) → IsLeft sig left → IsApplication left
 left_is_application sig (var n) l = absurd l
@@ -283,12 +284,9 @@ module _ (f : ℕ) (rules slice : List Rule) (items : List ℕ) (i : ℕ) (s : s
       let k : r.rule ≡ rule = cc in
       record { at = number_at; there = there; function = ap (λ (x : Rule). head_of x.left) (sym k) ∙ r.function }
 
-split_at : (k i : ℕ) → k < i + 1 → (k < i) ⊎ (k ≡ i)
-split_at k i h = grind (arith, nat_tests)
-
 -- what holds of the rules before holds of one more
 pub rules_more : (P : Rule → Type 0) (f : ℕ) (rules : List Rule) (i number : ℕ) (here : Rule) → IsRuleAt f rules i number here → ((j k : ℕ) (rule : Rule) → j < i → slice_get (numbers_of f 0 rules) j ≡ Some k → slice_get rules k ≡ Some rule → P rule) → P here → (j k : ℕ) (rule : Rule) → j < i + 1 → slice_get (numbers_of f 0 rules) j ≡ Some k → slice_get rules k ≡ Some rule → P rule
-rules_more P f rules i number here is before this j k rule h a b = elim (split_at j i h) [
+rules_more P f rules i number here is before this j k rule h a b = elim (below_or_last j i h) [
   | inl l ↦ before j k rule l a b
   | inr q ↦
       let m : Some number ≡ Some k = sym is.at ∙ ap (λ n. slice_get (numbers_of f 0 rules) n) (sym q) ∙ a in

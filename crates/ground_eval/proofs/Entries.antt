@@ -1,16 +1,16 @@
 -- Variables and their entries.
-use Rattle.std.proofs.Common.{◌≡◌, ℕ, zero, suc, ◌<◌, ◌≤◌, List, [], ◌∷◌, Some, None, ◌⊎◌, inl, inr, refl, ap, subst, arith, get_or, length}
+use Rattle.std.proofs.Common.{◌≡◌, ℕ, zero, suc, ◌<◌, ◌≤◌, List, [], ◌∷◌, Some, None, inl, inr, refl, subst, arith, get_or, length}
 use Rattle.std.specs.Prelude.{slice_get}
 use Rattle.std.specs.List.{AllByRecursion}
 use Rattle.std.proofs.lemmas.Option.{get_or_from_slice_get}
-use Rattle.std.proofs.lemmas.Bool.Decides.{nat_tests}
-use Rattle.term_core.specs.Tree.{Tree, Trees, var, app, none, some, instance, instances}
+use Rattle.term_core.specs.Tree.{Tree, var, instance}
 use Rattle.term_core.specs.declared.ids.SortId.{SortId}
 use Rattle.spec_core.specs.declared.records.Spec.{Spec}
 use Rattle.spec_core.specs.Sig.{Sig}
 use Rattle.spec_core.specs.Sorts.{Sorted, IsBuilt}
 use Rattle.spec_core.specs.Gives.{Gives}
 use Rattle.spec_core.proofs.Values.{built_gives}
+use Rattle.term_core.proofs.Numbers.{below_or_not}
 
 entry_built : (sig : Sig) (xs : List Tree) (n : ℕ) (t : Tree) → AllByRecursion (IsBuilt sig) xs → slice_get xs n ≡ Some t → IsBuilt sig t
 entry_built sig [] n t b e = absurd (let q : None ≡ Some t = e in cc)
@@ -33,9 +33,6 @@ no_entry [] n m h = refl
 no_entry (x ∷ xs) zero m h = absurd (omega arith)
 no_entry (x ∷ xs) (suc n) m h = no_entry xs n m (omega arith)
 
-below_or_not : (n m : ℕ) → (n < m) ⊎ (m ≤ n)
-below_or_not n m = grind (arith, nat_tests)
-
 -- a variable whose instance has a sort without variables has an entry
 pub entry_there : (sig : Sig) (xs : List Tree) (n : ℕ) (s : SortId) → Sorted sig [] (instance xs (var n)) s → n < length xs
 entry_there sig xs n s p = elim (below_or_not n (length xs)) [
@@ -44,16 +41,3 @@ entry_there sig xs n s p = elim (below_or_not n (length xs)) [
       let q : Sorted sig [] (var n) s = subst (λ t. Sorted sig [] t s) (no_entry xs n n h) p in
       absurd (let r : None ≡ Some s = q in cc)
 ]
-
-mutual
-  -- nothing is exchanged without entries
-  pub no_change : (t : Tree) → instance [] t ≡ t
-  no_change (var n) = refl
-  no_change (app f ts) = ap (λ us. app f us) (no_changes ts)
-
-  pub no_changes : (ts : Trees) → instances [] ts ≡ ts
-  no_changes none = refl
-  no_changes (some t ts) =
-      let p = no_change t in
-      let q = no_changes ts in
-      cc

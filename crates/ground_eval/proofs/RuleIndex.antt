@@ -9,6 +9,7 @@ use Rattle.term_core.specs.Tree.{Tree, Trees, var, app}
 use Rattle.spec_core.specs.declared.records.Rule.{Rule}
 use Rattle.ground_eval.specs.Applications.{has_head}
 use Rattle.ground_eval.specs.Index.{numbers_of, IsEntry, IsIndexOf, AddsNumber}
+use Rattle.term_core.proofs.Numbers.{same_or_not}
 
 set_same : {X : Type 0} (xs : List X) (f : ℕ) (x : X) → f < length xs → slice_get (set xs f x) f ≡ Some x
 set_same [] f x h = absurd (omega arith)
@@ -86,9 +87,6 @@ head_other : (g f : ℕ) (ts : Trees) (left : Tree) → app f ts ≡ left → g 
 head_other g f ts left e h =
     let t : (g == f) ≡ false = grind (arith, nat_tests) in
     subst (λ x. has_head g x ≡ false) e t
-
-same_or_not : (g f : ℕ) → (g ≡ f) ⊎ (g ≢ f)
-same_or_not g f = grind (arith, nat_tests)
 
 -- one more rule, with its number in its function's list
 rule_added : (n : ℕ) (rs : List Rule) (r : Rule) (old new : List (Vec ℕ)) (f : ℕ) (ts : Trees) → IsIndexOf n rs old → app f ts ≡ r.left → AddsNumber old new f (length rs) → IsIndexOf n (rs ++ r ∷ []) new

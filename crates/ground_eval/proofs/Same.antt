@@ -1,6 +1,5 @@
 -- The same answer, of what is the same.
 use Rattle.std.proofs.Common.{◌≡◌, ℕ, List, [], Some, Option, subst}
-use Rattle.std.specs.Prelude.{Result, Ok, Err, IfOk}
 use Rattle.term_core.specs.Tree.{Tree}
 use Rattle.spec_core.specs.declared.records.Spec.{Spec}
 use Rattle.term_core.specs.declared.ids.SortId.{SortId}
@@ -22,7 +21,3 @@ match_some left value found xs e m = subst (λ o. IsMatch left value o) e m
 pub eval_only : (spec : Spec) → IsWellSorted spec → (t : Tree) (s : SortId) (b : ℕ) (e : Eval) → Sorted spec.sig [] t s → IsEval spec t b e → IsOnly spec t e
 eval_only spec fine t s b (Value v n) p h = λ a w x m g. determined spec fine a w g s p h.0
 eval_only spec fine t s b Spent p h = tt
-
-pub if_ok_map : {T E : Type 0} (r : Result T E) (P Q : T → Type 0) → ((x : T) → P x → Q x) → IfOk r P → IfOk r Q
-if_ok_map (Ok x) P Q f h = f x h
-if_ok_map (Err e) P Q f h = tt

@@ -1,6 +1,6 @@
 -- The specification that the tests evaluate is well sorted.
-use Rattle.std.proofs.Common.{rules, ◌≡◌, ℕ, zero, suc, ◌<◌, ◌≤◌, List, [], ◌∷◌, ◌++◌, Some, None, inl, inr, refl, subst, arith, length}
-use Rattle.std.specs.Prelude.{slice_get, option_map, codes, replicate}
+use Rattle.std.proofs.Common.{rules, ◌≡◌, ℕ, zero, suc, ◌<◌, ◌≤◌, List, [], ◌∷◌, ◌++◌, Some, None, inl, inr, refl, arith, length}
+use Rattle.std.specs.Prelude.{slice_get, codes, replicate}
 use Rattle.std.specs.List.{AllByRecursion}
 use Rattle.term_core.specs.Tree.{Tree, var}
 use Rattle.term_core.specs.declared.ids.SortId.{SortId}
@@ -14,7 +14,8 @@ use Rattle.spec_core.specs.Small.{AllHaveSmallValues}
 use Rattle.spec_core.specs.Declarations.{IsDeclared, AreDistinct, bool_sort}
 use Rattle.spec_core.specs.WellSorted.{RuleIsSorted, GoalIsSorted, GoalNamesAreDistinct, IsWellSorted, HasFewArguments, IsLeft, Numbered, Occurs, IsShallow, sorts_of}
 use Rattle.ground_eval.specs.Samples.{nat, takes, variable, plus_rules, le_rules, isz_rules, pick_rules, grade_rules, turn_rules, part_rules, sample_sorts, sample_constructors, sample_functions, sample_sig, leaf_term, one_term, two_term, zero_term, succ_term, rule_of, rule_on, same_goal, less_goal, sample}
-use Rattle.ground_eval.proofs.Lists.{all_at}
+use Rattle.term_core.proofs.Items.{all_at}
+use Rattle.spec_core.proofs.SortedNaturals.{all_infos, one_bound, two_bound}
 
 distinct : AreDistinct sample_sorts sample_constructors sample_functions
 distinct = search rules
@@ -37,14 +38,6 @@ declared = record {
   small = small;
 }
 
-all_infos : (P : SymInfo → Type 0) (es : List (List ℕ × SymInfo)) → AllByRecursion (λ (e : List ℕ × SymInfo). P e.1) es → (f : ℕ) (i : SymInfo) → option_map (λ (e : List ℕ × SymInfo). e.1) (slice_get es f) ≡ Some i → P i
-all_infos P [] h f i at = absurd (let q : None ≡ Some i = at in cc)
-all_infos P (e ∷ es) h zero i at =
-    let q : Some (e.1) ≡ Some i = at in
-    let k : e.1 ≡ i = cc in
-    subst P k h.0
-all_infos P (e ∷ es) h (suc f) i at = all_infos P es h.1 f i at
-
 few_arguments : HasFewArguments sample_sig
 few_arguments = all_infos (λ (i : SymInfo). length i.args ≤ 8) sample_sig.table (search rules)
 
@@ -54,15 +47,6 @@ naturals n = replicate n nat
 
 no_bound : (left : Tree) (k : ℕ) → k < 0 → Occurs k left
 no_bound left k h = absurd (omega arith)
-
-one_bound : (left : Tree) → Occurs 0 left → (k : ℕ) → k < 1 → Occurs k left
-one_bound left a zero h = a
-one_bound left a (suc k) h = absurd (omega arith)
-
-two_bound : (left : Tree) → Occurs 0 left → Occurs 1 left → (k : ℕ) → k < 2 → Occurs k left
-two_bound left a b zero h = a
-two_bound left a b (suc zero) h = b
-two_bound left a b (suc (suc k)) h = absurd (omega arith)
 
 -- a rule with n variables that has no guards
 unguarded : (n : ℕ) (left right : Tree) (s : SortId) → IsLeft sample_sig left → Sorted sample_sig (sorts_of (replicate n variable)) left s → Sorted sample_sig (sorts_of (replicate n variable)) right s → Numbered 0 left (length (sorts_of (replicate n variable))) → ((k : ℕ) → k < length (sorts_of (replicate n variable)) → Occurs k left) → length (replicate n variable) ≤ 16 → IsShallow left → IsShallow right → RuleIsSorted sample_sig (rule_of n left right [])

@@ -12,7 +12,7 @@ use Rattle.spec_core.specs.Truth.{AllHold, AllBroken}
 use Rattle.spec_core.specs.Verdict.{SidesSame, SidesDiffer, ConclusionsSay, PremisesSay}
 use Rattle.ground_eval.specs.declared.answers.Sides.TheVariants.{Differ, Spent as SidesAreSpent}
 use Rattle.ground_eval.specs.Sides.{SidesAre, PremisesAre, ConclusionsAre, IsDecided}
-use Rattle.ground_eval.proofs.Lists.{drop_here}
+use Rattle.term_core.proofs.Items.{drop_here}
 
 module _ (spec : Spec) (values : List Tree) (budget : ℕ) where
   -- behind premises whose sides are the same the rest decides

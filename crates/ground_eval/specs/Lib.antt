@@ -2,7 +2,6 @@
 pub mod Evals
 pub mod Laws
 -- What only this crate's own contracts speak of.
-pub mod References
 pub mod Applications
 pub mod Entries
 pub mod Matches

@@ -1,7 +1,7 @@
 ghost use Rattle.std.specs.Prelude.{◌≡◌, ℕ, IfOk, length};
 ghost use Rattle.term_core.specs.Tree.{trees_of};
 ghost use Rattle.spec_core.specs.WellSorted.{Numbered, NumberedAll};
-ghost use Rattle.ground_eval.specs.References.{terms_of};
+ghost use Rattle.term_core.specs.References.{terms_of};
 ghost use Rattle.ground_eval.specs.Applications.{IsApplication, call_of};
 ghost use Rattle.ground_eval.specs.Matches.{Binds, BindsAll, IsMatch};
 

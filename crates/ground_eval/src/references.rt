@@ -1,6 +1,6 @@
 ghost use Rattle.std.specs.Prelude.{◌≡◌, ◌<◌, ◌≤◌, ◌++◌, ◌∷◌, [], Some, IfOk, OnOk, MatchOption, length, slice_get};
 ghost use Rattle.term_core.specs.Tree.{Tree};
-ghost use Rattle.ground_eval.specs.References.{terms_of};
+ghost use Rattle.term_core.specs.References.{terms_of};
 
 use std::alloc::Global;
 use std::marker::Model;
@@ -17,7 +17,7 @@ impl<'a> Model for TermRefs<'a> {
     ghost use Rattle.std.specs.Coded.{coded_list};
     ghost use Rattle.term_core.specs.Tree.{Tree};
     ghost use Rattle.term_core.specs.Codes.{coded_tree};
-    ghost use Rattle.ground_eval.specs.References.{terms_of};
+    ghost use Rattle.term_core.specs.References.{terms_of};
 
     ghost Value = { List Tree };
 

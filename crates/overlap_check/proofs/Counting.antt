@@ -4,12 +4,12 @@ use Rattle.std.specs.Prelude.{slice_get}
 use Rattle.term_core.specs.Tree.{Tree, Trees, var, app, none, some}
 use Rattle.spec_core.specs.declared.records.Rule.{Rule}
 use Rattle.spec_core.specs.WellSorted.{Occurs, OccursAny, Numbered}
-use Rattle.spec_core.proofs.LeastSizes.{split_at}
 use Rattle.spec_core.proofs.Numbered.{numbered_below}
 use Rattle.spec_core.specs.Linear.{OccursTwice, OccurTwice, IsLinear}
 use Rattle.overlap_check.specs.declared.linearity.Frequency.{Frequency}
 use Rattle.overlap_check.specs.declared.linearity.Frequency.TheVariants.{Never, Once, Twice}
 use Rattle.overlap_check.specs.Occurrences.{IsTimes, AreTimes}
+use Rattle.term_core.proofs.Numbers.{below_or_last}
 
 mutual
   -- what occurs twice occurs
@@ -62,7 +62,7 @@ linear_below t m h nothing n twice = nothing n (numbered_below 0 m t h n (twice_
 
 -- the rules before a place are linear, and so is the one there
 pub more_linear : (rules : List Rule) (place : ℕ) (rule : Rule) → slice_get rules place ≡ Some rule → ((k : ℕ) (earlier : Rule) → k < place → slice_get rules k ≡ Some earlier → IsLinear earlier.left) → IsLinear rule.left → (k : ℕ) (earlier : Rule) → k < place + 1 → slice_get rules k ≡ Some earlier → IsLinear earlier.left
-more_linear rules place rule at before here k earlier h is = by (split_at k place h)
+more_linear rules place rule at before here k earlier h is = by (below_or_last k place h)
   where
     by : (k < place) ⊎ (k ≡ place) → IsLinear earlier.left
     by (inl lower) = before k earlier lower is

@@ -11,19 +11,6 @@ use Rattle.substitutions.proofs.Instances.{sorted_apply, sorted_apply_all}
 use Rattle.unifier.specs.Shifting.{shifted, shifted_all}
 use Rattle.unifier.proofs.Apart.{sorted_shifted}
 
-mutual
-  -- nothing is exchanged without entries
-  pub no_change : (t : Tree) → instance [] t ≡ t
-  no_change (var n) = refl
-  no_change (app f ts) = ap (λ us. app f us) (no_changes ts)
-
-  no_changes : (ts : Trees) → instances [] ts ≡ ts
-  no_changes none = refl
-  no_changes (some t ts) =
-      let p = no_change t in
-      let q = no_changes ts in
-      cc
-
 -- an instance of a term under a substitution is the instance with the entries that its variables get
 module _ (zs : List Tree) (s : List (Option Tree)) (xs : List Tree) where
   mutual

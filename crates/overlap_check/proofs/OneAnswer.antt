@@ -1,6 +1,5 @@
 -- A specification has at most one answer of each kind.
-use Rattle.std.proofs.Common.{◌≡◌, ℕ, ◌<◌, ◌≤◌, ◌⊎◌, List, Some, inl, inr, refl, ap, sym, ◌∙◌, subst, arith}
-use Rattle.std.specs.Prelude.{slice_get}
+use Rattle.std.proofs.Common.{◌≡◌, ℕ, ◌<◌, ◌≤◌, ◌⊎◌, inl, inr, refl, sym, subst, arith}
 use Rattle.std.proofs.lemmas.Bool.{cases_lt}
 use Rattle.term_core.specs.Tree.{Trees, trees_of}
 use Rattle.term_core.proofs.Trees.{trees_of-inj}
@@ -15,6 +14,7 @@ use Rattle.overlap_check.specs.NamedValues.{IsNamed}
 use Rattle.overlap_check.specs.Answers.{AreCommon}
 use Rattle.overlap_check.specs.Laws.{OneLinearity, OneOverlap}
 use Rattle.overlap_check.proofs.OneNaming.{one_naming}
+use Rattle.spec_core.proofs.Determined.{one_rule}
 
 -- two numbers of which neither is below the other
 same_number : (m n : ℕ) → (m < n → ⊥) → (n < m → ⊥) → m ≡ n
@@ -25,16 +25,13 @@ same_number m n a b = by (cases_lt m n) (cases_lt n m)
     by (inr h) (inl k) = absurd (b k)
     by (inr h) (inr k) = omega arith
 
-same_rule : (rules : List Rule) (j k : ℕ) (r q : Rule) → slice_get rules j ≡ Some r → slice_get rules k ≡ Some q → j ≡ k → r ≡ q
-same_rule rules j k r q a b e = let h : Some r ≡ Some q = sym a ∙ ap (λ n. slice_get rules n) e ∙ b in cc
-
 module _ (spec : Spec) where
   one_place : (j k m n : ℕ) → IsFirstRepeated spec j m → IsFirstRepeated spec k n → j ≡ k
   one_place j k m n a b = same_number j k (λ h. b.before j a.rule h a.at m a.least.0) (λ h. a.before k b.rule h b.at n b.least.0)
 
   one_variable : (j k m n : ℕ) → IsFirstRepeated spec j m → IsFirstRepeated spec k n → m ≡ n
   one_variable j k m n a b =
-      let e : a.rule ≡ b.rule = same_rule spec.rules j k a.rule b.rule a.at b.at (one_place j k m n a b) in
+      let e : a.rule ≡ b.rule = one_rule spec.rules j k a.rule b.rule a.at b.at (one_place j k m n a b) in
       let least : IsLeastRepeated b.rule.left m = subst (λ (r : Rule). IsLeastRepeated r.left m) e a.least in
       same_number m n (λ h. b.least.1 m h least.0) (λ h. least.1 n h b.least.0)
 
@@ -49,8 +46,8 @@ module _ (spec : Spec) where
 
   one_common : IsWellSorted spec → (j k a b : ℕ) (vs ws : Trees) → j ≡ a → k ≡ b → AreCommon spec j k vs → AreCommon spec a b ws → vs ≡ ws
   one_common fine j k a b vs ws e d p q =
-      let r : q.first ≡ p.first = sym (same_rule spec.rules j a p.first q.first p.first_at q.first_at e) in
-      let s : q.second ≡ p.second = sym (same_rule spec.rules k b p.second q.second p.second_at q.second_at d) in
+      let r : q.first ≡ p.first = sym (one_rule spec.rules j a p.first q.first p.first_at q.first_at e) in
+      let s : q.second ≡ p.second = sym (one_rule spec.rules k b p.second q.second p.second_at q.second_at d) in
       let named : IsNamed spec.sig p.first p.second ws = subst (λ x. IsNamed spec.sig p.first x ws) s (subst (λ x. IsNamed spec.sig x q.second ws) r q.named) in
       one_naming spec.sig p.first p.second vs ws (fine.rules j p.first p.first_at) (fine.rules k p.second p.second_at) p.named named
 

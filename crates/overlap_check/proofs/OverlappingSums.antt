@@ -5,9 +5,9 @@ use Rattle.term_core.specs.Tree.{Tree, Trees, var, app, none, some, tree_size}
 use Rattle.term_core.specs.declared.ids.SortId.{SortId}
 use Rattle.spec_core.specs.declared.records.SymInfo.{SymInfo}
 use Rattle.spec_core.specs.Sorts.{Sorted, SortedAll}
-use Rattle.spec_core.specs.WellSorted.{Occurs, RuleIsSorted}
+use Rattle.spec_core.specs.WellSorted.{RuleIsSorted}
 use Rattle.spec_core.specs.Naturals.{nat, naturals_sig, plus_zero_rule, zero_term, succ_term, plus_term}
-use Rattle.spec_core.proofs.SortedNaturals.{zero_rule_is_sorted}
+use Rattle.spec_core.proofs.SortedNaturals.{zero_rule_is_sorted, one_bound}
 use Rattle.spec_core.proofs.SmallShapes.{small_nat}
 use Rattle.substitutions.specs.Substitution.{entry, image, apply, apply_all}
 use Rattle.unifier.specs.Unification.{IsUnifier, IsMostGeneral, KeepsSorts, HaveNoUnifier}
@@ -98,10 +98,6 @@ named = record {
   function = 4;
   call = refl;
 }
-
-one_bound : (t : Tree) → Occurs 0 t → (k : ℕ) → k < 1 → Occurs k t
-one_bound t a zero h = a
-one_bound t a (suc k) h = absurd (omega arith)
 
 right_zero_is_sorted : RuleIsSorted naturals_sig right_zero_rule
 right_zero_is_sorted = record {

@@ -8,12 +8,12 @@ use Rattle.spec_core.specs.declared.records.Rule.{Rule}
 use Rattle.spec_core.specs.declared.records.Spec.{Spec}
 use Rattle.spec_core.specs.Sig.{Sig}
 use Rattle.spec_core.specs.Overlap.{NoOverlap}
-use Rattle.spec_core.proofs.LeastSizes.{split_at}
 use Rattle.overlap_check.specs.Overlaps.{MatchBoth, HaveOverlap, Overlaps}
 use Rattle.overlap_check.specs.Answers.{NoneOverlaps}
 use Rattle.overlap_check.specs.Clashes.{HaveNoCommonInstance}
 use Rattle.overlap_check.specs.Searches.{AreCommonTo, NoneOverlapsAfter, IsFirstAfter}
-use Rattle.overlap_check.proofs.SameOrNot.{same_or_not}
+use Rattle.overlap_check.proofs.SameOrNot.{same_tree_or_not}
+use Rattle.term_core.proofs.Numbers.{below_or_last}
 
 -- the rule that was read from a slice of the rules
 pub rule_at : (items rules : List Rule) (place : ℕ) (rule : Rule) → items ≡ rules → place < length items → rule ≡ get_or items place rule → slice_get rules place ≡ Some rule
@@ -28,7 +28,7 @@ none_in_common sig left other none overlap =
 module _ (spec : Spec) (place other : ℕ) (r q : Rule) (at : slice_get spec.rules place ≡ Some r) (other_at : slice_get spec.rules other ≡ Some q) where
   -- one more rule that the one at the place doesn't overlap
   pub none_more : NoneOverlapsAfter spec place other → (HaveOverlap spec.sig r.left q.left → ⊥) → NoneOverlapsAfter spec place (other + 1)
-  none_more before not_here k after within overlaps = by (split_at k other within)
+  none_more before not_here k after within overlaps = by (below_or_last k other within)
     where
       by : (k < other) ⊎ (k ≡ other) → ⊥
       by (inl h) = before k after h overlaps
@@ -52,7 +52,7 @@ module _ (spec : Spec) (place other : ℕ) (r q : Rule) (at : slice_get spec.rul
 module _ (spec : Spec) where
   -- the rules before a place overlap no later one, and neither does the one there
   pub none_later : (place : ℕ) → ((j k : ℕ) → j < place → j < k → Overlaps spec j k → ⊥) → NoneOverlapsAfter spec place (length spec.rules) → (j k : ℕ) → j < place + 1 → j < k → Overlaps spec j k → ⊥
-  none_later place before here j k within after overlaps = by (split_at j place within)
+  none_later place before here j k within after overlaps = by (below_or_last j place within)
     where
       by : (j < place) ⊎ (j ≡ place) → ⊥
       by (inl h) = before j k h after overlaps
@@ -63,7 +63,7 @@ module _ (spec : Spec) where
 
   -- where no rule overlaps a later one, no values match two different left sides
   pub no_overlap : NoneOverlaps spec → NoOverlap spec
-  no_overlap nothing j k r q f i vs xs ys at other_at declared sorted built e d = by (same_or_not r.left q.left)
+  no_overlap nothing j k r q f i vs xs ys at other_at declared sorted built e d = by (same_tree_or_not r.left q.left)
     where
       first : MatchBoth spec.sig r.left q.left vs
       first = record { function = f; info = i; declared = declared; sorted = sorted; built = built; matches_left = (xs, e); matches_other = (ys, d) }

@@ -1,10 +1,7 @@
 -- Two terms are the same or not.
 use Rattle.std.proofs.Common.{◌≡◌, ◌≢◌, ℕ, ◌⊎◌, inl, inr, refl, ap}
-use Rattle.std.proofs.lemmas.Bool.Decides.{eqb_tells}
 use Rattle.term_core.specs.Tree.{Tree, Trees, var, app, none, some}
-
-numbers : (m n : ℕ) → (m ≡ n) ⊎ (m ≢ n)
-numbers m n = elim (eqb_tells m n) [ inl h ↦ inl h.1 | inr h ↦ inr h.1 ]
+use Rattle.term_core.proofs.Numbers.{same_or_not}
 
 apps : (f g : ℕ) (ts us : Trees) → (f ≡ g) ⊎ (f ≢ g) → (ts ≡ us) ⊎ (ts ≢ us) → (app f ts ≡ app g us) ⊎ (app f ts ≢ app g us)
 apps f g ts us (inr h) k = inr (λ e. h (let q : app f ts ≡ app g us = e in cc))
@@ -21,14 +18,14 @@ vars m n (inl h) = inl (ap (λ k. var k) h)
 vars m n (inr h) = inr (λ e. h (let q : var m ≡ var n = e in cc))
 
 mutual
-  pub same_or_not : (t u : Tree) → (t ≡ u) ⊎ (t ≢ u)
-  same_or_not (var m) (var n) = vars m n (numbers m n)
-  same_or_not (var m) (app g us) = inr (λ e. let q : var m ≡ app g us = e in cc)
-  same_or_not (app f ts) (var n) = inr (λ e. let q : app f ts ≡ var n = e in cc)
-  same_or_not (app f ts) (app g us) = apps f g ts us (numbers f g) (all_same_or_not ts us)
+  pub same_tree_or_not : (t u : Tree) → (t ≡ u) ⊎ (t ≢ u)
+  same_tree_or_not (var m) (var n) = vars m n (same_or_not m n)
+  same_tree_or_not (var m) (app g us) = inr (λ e. let q : var m ≡ app g us = e in cc)
+  same_tree_or_not (app f ts) (var n) = inr (λ e. let q : app f ts ≡ var n = e in cc)
+  same_tree_or_not (app f ts) (app g us) = apps f g ts us (same_or_not f g) (same_trees_or_not ts us)
 
-  all_same_or_not : (ts us : Trees) → (ts ≡ us) ⊎ (ts ≢ us)
-  all_same_or_not none none = inl refl
-  all_same_or_not none (some u us) = inr (λ e. let q : none ≡ some u us = e in cc)
-  all_same_or_not (some t ts) none = inr (λ e. let q : some t ts ≡ none = e in cc)
-  all_same_or_not (some t ts) (some u us) = pairs t u ts us (same_or_not t u) (all_same_or_not ts us)
+  same_trees_or_not : (ts us : Trees) → (ts ≡ us) ⊎ (ts ≢ us)
+  same_trees_or_not none none = inl refl
+  same_trees_or_not none (some u us) = inr (λ e. let q : none ≡ some u us = e in cc)
+  same_trees_or_not (some t ts) none = inr (λ e. let q : some t ts ≡ none = e in cc)
+  same_trees_or_not (some t ts) (some u us) = pairs t u ts us (same_tree_or_not t u) (same_trees_or_not ts us)

@@ -11,14 +11,7 @@ use Rattle.spec_core.specs.Sorts.{Sorted}
 use Rattle.spec_core.specs.Naturals.{nat, naturals_sig, zero_term, succ_term, plus_term}
 use Rattle.spec_core.proofs.SortedNaturals.{well_sorted}
 use Rattle.overlap_check.specs.Samples.{rule_of}
-
-all_at : {X : Type 0} (P : X → Type 0) (xs : List X) → AllByRecursion P xs → (i : ℕ) (x : X) → slice_get xs i ≡ Some x → P x
-all_at P [] h i x at = absurd (let q : None ≡ Some x = at in cc)
-all_at P (y ∷ xs) h zero x at =
-    let q : Some y ≡ Some x = at in
-    let k : y ≡ x = cc in
-    subst P k h.0
-all_at P (y ∷ xs) h (suc i) x at = all_at P xs h.1 i x at
+use Rattle.term_core.proofs.Items.{all_at}
 
 no_goal : (goals : List Goal) → goals ≡ [] → (k : ℕ) (goal : Goal) → slice_get goals k ≡ Some goal → ⊥
 no_goal goals e k goal at = let q : None ≡ Some goal = subst (λ gs. slice_get gs k ≡ Some goal) e at in cc

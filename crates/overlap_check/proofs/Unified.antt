@@ -14,9 +14,10 @@ use Rattle.unifier.specs.Shifting.{shifted, shifted_all}
 use Rattle.unifier.specs.Unification.{IsMostGeneral, KeepsSorts}
 use Rattle.overlap_check.specs.Overlaps.{MatchBoth}
 use Rattle.spec_core.proofs.Numbered.{numbered_below}
-use Rattle.overlap_check.proofs.Instances.{no_change, instance_of_applied, instance_of_shifted, first_values, value_at, value_after, value_of, EntriesKeepSorts, sorted_all_applied, sorted_left, sorted_right}
+use Rattle.overlap_check.proofs.Instances.{instance_of_applied, instance_of_shifted, first_values, value_at, value_after, value_of, EntriesKeepSorts, sorted_all_applied, sorted_left, sorted_right}
 use Rattle.overlap_check.proofs.Constructors.{unified_patterns, patterns_shifted}
 use Rattle.overlap_check.proofs.SmallEntries.{entry_is_value, patterns_are_built}
+use Rattle.term_core.proofs.Trees.{instance_none}
 
 -- two left sides with a common instance are calls of one function, so they have one sort
 one_sort : (sig : Sig) (ctx : List SortId) (f g : ℕ) (ps qs : Trees) (r s : SortId) → f ≡ g → Sorted sig ctx (app f ps) r → Sorted sig ctx (app g qs) s → Sorted sig ctx (app g qs) r
@@ -41,13 +42,13 @@ module _ (sig : Sig) (ctx more : List SortId) where
         s = first ++ second
 
         unfold_image : (n : ℕ) (t : Tree) → entry s n ≡ Some t → instance [] (image s n) ≡ t
-        unfold_image n t h = ap (λ x. instance [] (unwrap_or x (var n))) h ∙ no_change t
+        unfold_image n t h = ap (λ x. instance [] (unwrap_or x (var n))) h ∙ instance_none t
 
         left : apply s a ≡ instance xs a
-        left = sym (no_change (apply s a)) ∙ instance_of_applied [] s xs a (λ n o. unfold_image n (instance xs (var n)) (value_at (λ k. Some (instance xs (var k))) (length ctx) second n None (numbered_below 0 (length ctx) a numbered n o)))
+        left = sym (instance_none (apply s a)) ∙ instance_of_applied [] s xs a (λ n o. unfold_image n (instance xs (var n)) (value_at (λ k. Some (instance xs (var k))) (length ctx) second n None (numbered_below 0 (length ctx) a numbered n o)))
 
         right : apply s (shifted (length ctx) b) ≡ instance ys b
-        right = sym (no_change (apply s (shifted (length ctx) b))) ∙ instance_of_shifted [] s ys (length ctx) b (λ n o. unfold_image (n + length ctx) (instance ys (var n)) (value_after (λ k. Some (instance xs (var k))) (length ctx) second n None ∙ value_of (λ k. Some (instance ys (var k))) (length more) n None (numbered_below 0 (length more) b other_numbered n o)))
+        right = sym (instance_none (apply s (shifted (length ctx) b))) ∙ instance_of_shifted [] s ys (length ctx) b (λ n o. unfold_image (n + length ctx) (instance ys (var n)) (value_after (λ k. Some (instance xs (var k))) (length ctx) second n None ∙ value_of (λ k. Some (instance ys (var k))) (length more) n None (numbered_below 0 (length more) b other_numbered n o)))
 
     -- what one substitution after another makes of a term is one instance of it
     module _ (s : List (Option Tree)) (smalls : List Tree) where

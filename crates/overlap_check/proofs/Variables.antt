@@ -12,7 +12,7 @@ use Rattle.spec_core.specs.Sig.{Sig, IsSort, SortsAreInRange}
 use Rattle.spec_core.specs.Sorts.{Sorted, SortedAll}
 use Rattle.spec_core.specs.Declarations.{IsDeclared}
 use Rattle.spec_core.specs.WellSorted.{Occurs, OccursAny, RuleIsSorted, IsLeft, sorts_of}
-use Rattle.spec_core.proofs.Ranges.{declared_in_range}
+use Rattle.spec_core.proofs.Ranges.{sorts_in_range}
 use Rattle.unifier.specs.Shifting.{HasTooLarge}
 use Rattle.overlap_check.specs.Searches.{HaveSorts}
 use Rattle.spec_core.proofs.Numbered.{numbered_below}
@@ -20,9 +20,6 @@ use Rattle.spec_core.proofs.Numbered.{numbered_below}
 all_from_at : {A : Type 0} (P : A → Type 0) (xs : List A) → ((n : ℕ) (x : A) → slice_get xs n ≡ Some x → P x) → AllByRecursion P xs
 all_from_at P [] h = tt
 all_from_at P (x ∷ xs) h = (h 0 x refl, all_from_at P xs (λ n y e. h (suc n) y e))
-
-pub in_range : (sig : Sig) → IsDeclared sig → SortsAreInRange sig
-in_range sig d = subst (λ s. SortsAreInRange s) (sym d.is) (declared_in_range d.sorts d.constructors d.functions d.constructors_in_range d.functions_in_range)
 
 module _ (sig : Sig) (ctx : List SortId) (range : SortsAreInRange sig) where
   mutual
@@ -52,7 +49,7 @@ have_sorts sig rule d fine = all_from_at (λ (v : VarInfo). IsSort sig v.sort) r
     by n v at =
         let ctx = sorts_of rule.vars in
         let here : slice_get ctx n ≡ Some v.sort = slice_get-map (λ (w : VarInfo). w.sort) rule.vars n ∙ ap (λ o. option_map (λ (w : VarInfo). w.sort) o) at in
-        left_variable_sort sig ctx (in_range sig d) rule.left fine.sides.0 fine.left fine.sides.1 n (fine.bound n (slice_get_within ctx n v.sort here)) v.sort here
+        left_variable_sort sig ctx (sorts_in_range sig d) rule.left fine.sides.0 fine.left fine.sides.1 n (fine.bound n (slice_get_within ctx n v.sort here)) v.sort here
 
 -- the variables of two rules are too few to pass the last number
 pub not_too_large : (sig : Sig) (r q : Rule) → RuleIsSorted sig r → RuleIsSorted sig q → (by : ℕ) → by ≡ length r.vars → HasTooLarge by q.left → ⊥

@@ -3,7 +3,7 @@ use Rattle.std.proofs.Common.{◌≡◌, ℕ, suc, ◌+◌, ◌-◌, ◌<◌, �
 use Rattle.std.specs.Prelude.{filter, map, nat_le}
 use Rattle.std.specs.List.{flat_map, AllByRecursion}
 use Rattle.std.proofs.lemmas.List.Elements.{filter-append}
-use Rattle.term_core.specs.Tree.{Tree, var, app, tree_size, sizes, trees_of}
+use Rattle.term_core.specs.Tree.{Tree, app, tree_size, sizes, trees_of}
 use Rattle.term_core.specs.declared.ids.SortId.{SortId}
 use Rattle.spec_core.specs.Sig.{Sig}
 use Rattle.spec_core.specs.Order.{product, constructors_of, is_small, values}
@@ -11,10 +11,7 @@ use Rattle.refuter.proofs.Numbers.{split_le, le_true, le_false}
 use Rattle.refuter.specs.Bounded.{small_terms, small_rows, values_within, rows_within}
 use Rattle.refuter.specs.Fewest.{fewest, total}
 use Rattle.refuter.specs.After.{constructors_after, room_within, applications, made_from, rows_on, room_before}
-
-pub size_positive : (t : Tree) → 1 ≤ tree_size t
-size_positive (var n) = omega arith
-size_positive (app f ts) = omega arith
+use Rattle.term_core.proofs.Trees.{size_positive}
 
 le_same : (n m i j : ℕ) → (n ≤ m → i ≤ j) → (i ≤ j → n ≤ m) → nat_le n m ≡ nat_le i j
 le_same n m i j f g = elim (split_le n m) [

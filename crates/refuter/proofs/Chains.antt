@@ -12,6 +12,7 @@ use Rattle.refuter.specs.Bounded.{values_within, rows_within}
 use Rattle.refuter.specs.After.{args_in, args_of, constructors_after, room_within, applications, made_from, rows_on, room_before, values_after, rows_after}
 use Rattle.refuter.proofs.Bounded.{values_step, values_zero, values_none, rows_begin, rows_end}
 use Rattle.refuter.proofs.Least.{rows_have}
+use Rattle.term_core.proofs.Trees.{list_of-trees_of}
 
 -- each member is followed by what the function says
 abbrev pub IsChained : {X : Type 0} → (X → List X) → List X → Type 0
@@ -43,10 +44,6 @@ chained_later : {X : Type 0} (after : X → List X) (xs : List X) (x y : X) → 
 chained_later after [] x y c a b = absurd a
 chained_later after (z ∷ xs) x y c (inl k) b = inr (subst (λ ys. IsAmong ys y) (ap after (sym k) ∙ c.0) b)
 chained_later after (z ∷ xs) x y c (inr a) b = inr (chained_later after xs x y c.1 a b)
-
-pub listed : (ts : List Tree) → list_of (trees_of ts) ≡ ts
-listed [] = refl
-listed (t ∷ ts) = ap (λ us. t ∷ us) (listed ts)
 
 pub drop_at : {X : Type 0} (xs : List X) (f : ℕ) (x : X) (rest : List X) → drop f xs ≡ x ∷ rest → (slice_get xs f ≡ Some x) × (drop (suc f) xs ≡ rest)
 drop_at [] zero x rest e = absurd (let q : [] ≡ x ∷ rest = e in cc)
@@ -83,7 +80,7 @@ module _ (sig : Sig) where
       let m : sig.constructors - suc f ≡ left = omega arith in
       let g : args_of sig f ≡ e.1.args = ap (λ o. args_in (option_map (λ (x : List ℕ × SymInfo). x.1) o)) at in
       let made : made_from sig depth s bound (f + 1) ≡ flat_map (λ c. applications sig depth bound c) (constructors_from (suc f) left s es) = rw (k, m, d) refl in
-      let rows : map (λ x. app f (trees_of x)) (rows_after sig depth (args_of sig f) (room_within sig bound) (list_of (trees_of r))) ≡ map (λ x. app f (trees_of x)) (rows_after sig depth e.1.args (room_within sig bound) r) = ap (λ ss. map (λ x. app f (trees_of x)) (rows_after sig depth ss (room_within sig bound) (list_of (trees_of r)))) g ∙ ap (λ ts. map (λ x. app f (trees_of x)) (rows_after sig depth e.1.args (room_within sig bound) ts)) (listed r) in
+      let rows : map (λ x. app f (trees_of x)) (rows_after sig depth (args_of sig f) (room_within sig bound) (list_of (trees_of r))) ≡ map (λ x. app f (trees_of x)) (rows_after sig depth e.1.args (room_within sig bound) r) = ap (λ ss. map (λ x. app f (trees_of x)) (rows_after sig depth ss (room_within sig bound) (list_of (trees_of r)))) g ∙ ap (λ ts. map (λ x. app f (trees_of x)) (rows_after sig depth e.1.args (room_within sig bound) ts)) (list_of-trees_of r) in
       after_application depth s bound f (trees_of r) ∙ ap (λ xs. xs ++ made_from sig depth s bound (f + 1)) rows ∙ ap (λ xs. map (λ x. app f (trees_of x)) (rows_after sig depth e.1.args (room_within sig bound) r) ++ xs) made
 
   one_chained : (depth : ℕ) (s : SortId) (bound f : ℕ) (ss : List SortId) (cs : List (ℕ × List SortId)) → IsChained (rows_after sig depth ss (room_within sig bound)) (rows_within sig depth ss (room_within sig bound)) → ((r : List Tree) → values_after sig (suc depth) s bound (app f (trees_of r)) ≡ map (λ x. app f (trees_of x)) (rows_after sig depth ss (room_within sig bound) r) ++ flat_map (λ c. applications sig depth bound c) cs) → IsChained (values_after sig (suc depth) s bound) (flat_map (λ c. applications sig depth bound c) cs) → (b : Bool) → IsChained (values_after sig (suc depth) s bound) (flat_map (λ c. applications sig depth bound c) (cond b ((f, ss) ∷ cs) cs))

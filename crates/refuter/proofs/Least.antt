@@ -10,10 +10,11 @@ use Rattle.spec_core.specs.Order.{product, constructors_of, is_small, values}
 use Rattle.refuter.proofs.Numbers.{split_le, le_true, le_false}
 use Rattle.refuter.specs.Lists.{first_of, IsAmong}
 use Rattle.refuter.specs.Bounded.{small_terms, small_rows, values_within, rows_within}
-use Rattle.refuter.proofs.Bounded.{size_positive}
 use Rattle.refuter.specs.Fewest.{total, lowered, lowered_by, fewest}
 use Rattle.refuter.proofs.Among.{none_is_first, among_flat_map, flat_map_among, among_map, map_among, among_filter, filter_among, product_more, among_begun}
-use Rattle.refuter.proofs.Members.{all_append, all_flat_map, all_map}
+use Rattle.refuter.proofs.Members.{all_flat_map, all_map}
+use Rattle.term_core.proofs.Items.{all_append}
+use Rattle.term_core.proofs.Trees.{size_positive}
 
 pub lowered_to : (n k : ℕ) → k ≤ 255 → lowered n k ≡ min n k
 unfolding lowered

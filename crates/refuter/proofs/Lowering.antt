@@ -3,16 +3,16 @@ use Rattle.std.proofs.Common.{◌≡◌, ◌≢◌, ℕ, zero, suc, ◌+◌, ◌
 use Rattle.std.specs.Prelude.{slice_get, slice_index, option_map, sum, MatchBool}
 use Rattle.std.specs.List.{AllByRecursion}
 use Rattle.std.proofs.lemmas.List.{take_more, get_or-replicate, length-replicate}
-use Rattle.std.proofs.lemmas.List.Sums.{sum_by-set}
 use Rattle.term_core.specs.declared.ids.SortId.{SortId}
 use Rattle.spec_core.specs.declared.records.SymInfo.{SymInfo}
 use Rattle.spec_core.specs.Sig.{Sig, info_of, IsSort, SortsAreInRange}
 use Rattle.spec_core.specs.Order.{constructors_from, constructors_of}
-use Rattle.refuter.proofs.Numbers.{split_le, same_or_not}
+use Rattle.refuter.proofs.Numbers.{split_le}
 use Rattle.refuter.specs.Fewest.{total, lowered, lowered_by, fewest, number_in, IsRowOf, AreRowsOf}
 use Rattle.refuter.specs.After.{constructors_after}
 use Rattle.refuter.proofs.Least.{lowered_to, lowered_not}
 use Rattle.refuter.proofs.Rows.{constructor_here, constructor_other}
+use Rattle.term_core.proofs.Numbers.{same_or_not}
 
 total_append : (f : SortId → ℕ) (xs : List SortId) (y : SortId) → total f (xs ++ y ∷ []) ≡ total f xs + f y
 total_append f [] y = omega arith
@@ -27,10 +27,6 @@ total_same sig f g h (s ∷ ss) a = omega (arith, h s a.0, total_same sig f g h 
 
 pub all_long : (n m : ℕ) → n ≡ m → (ss : List SortId) → AllByRecursion (λ s. s.0 < m) ss → AllByRecursion (λ s. s.0 < n) ss
 all_long n m e ss a = subst (λ k. AllByRecursion (λ (s : SortId). s.0 < k) ss) (sym e) a
-
--- a number that falls makes the sum less
-pub sum_set : (xs : List ℕ) (i v : ℕ) → i < length xs → v < slice_index xs i → sum (set xs i v) < sum xs
-sum_set xs i v h l = omega (arith, sum_by-set (λ (n : ℕ). n) xs i v 0 h)
 
 -- a constructor's application is smaller
 pub lowers : (next : List ℕ) (place size t : ℕ) → place < length next → size ≡ 1 + min t 4096 → size ≤ 255 → size < slice_index next place → (s : SortId) → place ≡ s.0 → number_in (set next place size) s ≡ lowered (number_in next s) (1 + t)

@@ -1,16 +1,10 @@
 -- Numbers that are compared.
-use Rattle.std.proofs.Common.{◌≡◌, ◌≢◌, ℕ, ◌<◌, ◌≤◌, true, false, ◌⊎◌, arith}
+use Rattle.std.proofs.Common.{◌≡◌, ℕ, ◌<◌, ◌≤◌, true, false, ◌⊎◌, arith}
 use Rattle.std.specs.Prelude.{nat_le, nat_lt}
 use Rattle.std.proofs.lemmas.Bool.Decides.{nat_tests}
 
 pub split_le : (n m : ℕ) → (n ≤ m) ⊎ (m < n)
 split_le n m = grind (arith, nat_tests)
-
-pub split_lt : (n m : ℕ) → (n < m) ⊎ (m ≤ n)
-split_lt n m = grind (arith, nat_tests)
-
-pub same_or_not : (n m : ℕ) → (n ≡ m) ⊎ (n ≢ m)
-same_or_not n m = grind (arith, nat_tests)
 
 pub le_true : (n m : ℕ) → n ≤ m → nat_le n m ≡ true
 le_true n m h = grind (arith, nat_tests)

@@ -1,5 +1,5 @@
 -- Places in lists, and the constructors of a sort from a number on.
-use Rattle.std.proofs.Common.{◌≡◌, ◌≢◌, ℕ, zero, suc, ◌+◌, ◌-◌, ◌<◌, ◌≤◌, List, [], ◌∷◌, ◌++◌, Bool, true, false, cond, eqb, Some, None, ◌⊎◌, inl, inr, refl, ap, sym, ◌∙◌, subst, arith, length, drop, add-one, append_assoc}
+use Rattle.std.proofs.Common.{◌≡◌, ◌≢◌, ℕ, zero, suc, ◌+◌, ◌-◌, ◌<◌, List, [], ◌∷◌, ◌++◌, Bool, true, false, cond, eqb, Some, None, inl, inr, refl, ap, sym, ◌∙◌, subst, arith, drop, append_assoc}
 use Rattle.std.specs.Prelude.{slice_get, filter, option_map}
 use Rattle.std.specs.List.{flat_map, AllByRecursion}
 use Rattle.std.proofs.lemmas.Bool.Decides.{nat_tests}
@@ -8,33 +8,18 @@ use Rattle.term_core.specs.declared.ids.SortId.{SortId}
 use Rattle.spec_core.specs.declared.records.SymInfo.{SymInfo}
 use Rattle.spec_core.specs.Sig.{Sig, info_of}
 use Rattle.spec_core.specs.Order.{constructors_from}
-
-pub drop_here : {X : Type 0} (es : List X) (i : ℕ) (e : X) → slice_get es i ≡ Some e → drop i es ≡ e ∷ drop (i + 1) es
-drop_here [] i e h = absurd (let q : None ≡ Some e = h in cc)
-drop_here (x ∷ es) zero e h =
-    let q : Some x ≡ Some e = h in
-    let k : x ≡ e = cc in
-    ap (λ y. y ∷ es) k
-drop_here (x ∷ es) (suc i) e h = rw add-one (drop_here es i e h ∙ rw add-one refl)
-
-split_at : (k i : ℕ) → k < i + 1 → (k < i) ⊎ (k ≡ i)
-split_at k i h = grind (arith, nat_tests)
+use Rattle.term_core.proofs.Numbers.{below_or_last}
+use Rattle.term_core.proofs.Items.{drop_here}
 
 -- what holds of each item below holds of one more
 pub below_more : {X : Type 0} (P : X → Type 0) (xs : List X) (i : ℕ) (x : X) → slice_get xs i ≡ Some x → ((k : ℕ) (o : X) → k < i → slice_get xs k ≡ Some o → P o) → P x → (k : ℕ) (o : X) → k < i + 1 → slice_get xs k ≡ Some o → P o
-below_more P xs i x at before now k o h e = elim (split_at k i h) [
+below_more P xs i x at before now k o h e = elim (below_or_last k i h) [
   | inl b ↦ before k o b e
   | inr q ↦
       let a : Some x ≡ Some o = sym at ∙ ap (λ n. slice_get xs n) (sym q) ∙ e in
       let r : x ≡ o = cc in
       subst P r now
 ]
-
-pub drop_past : {X : Type 0} (xs : List X) (n : ℕ) → length xs ≤ n → drop n xs ≡ []
-drop_past [] zero h = refl
-drop_past [] (suc n) h = refl
-drop_past (x ∷ xs) zero h = absurd (omega arith)
-drop_past (x ∷ xs) (suc n) h = drop_past xs n (omega arith)
 
 pub info_parts : (es : List (List ℕ × SymInfo)) (f : ℕ) (i : SymInfo) → option_map (λ (e : List ℕ × SymInfo). e.1) (slice_get es f) ≡ Some i → (e : List ℕ × SymInfo) × (slice_get es f ≡ Some e) × (e.1 ≡ i)
 info_parts [] f i h = absurd (let q : None ≡ Some i = h in cc)

@@ -1,6 +1,6 @@
 -- The steps from a value, or a row of values, to the next one.
-use Rattle.std.proofs.Common.{◌≡◌, ◌≢◌, ℕ, zero, suc, ◌+◌, ◌-◌, ◌<◌, ◌≤◌, min, List, [], ◌∷◌, ◌++◌, Bool, true, false, Option, Some, None, Result, Ok, Err, ◌⊎◌, inl, inr, refl, ap, sym, ◌∙◌, subst, arith, append_assoc, length, take, drop, add-one}
-use Rattle.std.specs.Prelude.{map, slice_get, nat_le, IfOk}
+use Rattle.std.proofs.Common.{◌≡◌, ◌≢◌, ℕ, zero, suc, ◌+◌, ◌-◌, ◌<◌, ◌≤◌, min, List, [], ◌∷◌, ◌++◌, Bool, true, false, Option, Some, None, ◌⊎◌, inl, inr, refl, ap, sym, ◌∙◌, subst, arith, append_assoc, length, take, drop, add-one}
+use Rattle.std.specs.Prelude.{map, slice_get, nat_le}
 use Rattle.std.specs.List.{flat_map, AllByRecursion}
 use Rattle.std.proofs.lemmas.Option.{slice_get_within}
 use Rattle.term_core.specs.Tree.{Tree, Trees, var, app, tree_size, trees_of, list_of}
@@ -8,19 +8,22 @@ use Rattle.term_core.specs.declared.ids.SortId.{SortId}
 use Rattle.spec_core.specs.declared.records.SymInfo.{SymInfo}
 use Rattle.spec_core.specs.Sig.{Sig, info_of, IsSort}
 use Rattle.spec_core.specs.Order.{constructors_from, values}
-use Rattle.refuter.proofs.Numbers.{split_lt, true_le}
+use Rattle.refuter.proofs.Numbers.{true_le}
 use Rattle.refuter.specs.Lists.{first_of, IsAmong}
 use Rattle.refuter.specs.Bounded.{values_within, rows_within}
 use Rattle.refuter.specs.Fewest.{fewest, total, number_in, IsRowOf}
 use Rattle.refuter.specs.After.{args_in, args_of, constructors_after, room_within, applications, made_from, rows_on, room_before, values_after, rows_after}
 use Rattle.refuter.specs.Moves.{GoesOn}
 use Rattle.refuter.proofs.Among.{filter_among, flat_map_among, map_among, begun_among, first_is_among, all_among}
-use Rattle.refuter.proofs.Bounded.{size_positive, values_step, values_zero, values_none, rows_begin, rows_end}
+use Rattle.refuter.proofs.Bounded.{values_step, values_zero, values_none, rows_begin, rows_end}
 use Rattle.refuter.proofs.Least.{rows_have, row_fits, none_fits, some_fits}
 use Rattle.refuter.proofs.Lowering.{total_same}
-use Rattle.refuter.proofs.Chains.{after_application, listed, next_value_is}
-use Rattle.refuter.proofs.Rows.{constructor_here, constructor_other, drop_past, info_parts}
+use Rattle.refuter.proofs.Chains.{after_application, next_value_is}
+use Rattle.refuter.proofs.Rows.{constructor_here, constructor_other, info_parts}
 use Rattle.refuter.proofs.Members.{Makes, constructors_make}
+use Rattle.term_core.proofs.Numbers.{below_or_not}
+use Rattle.term_core.proofs.Items.{drop_past}
+use Rattle.term_core.proofs.Trees.{list_of-trees_of, size_positive}
 
 pub no_first : {X : Type 0} (xs : List X) → first_of xs ≡ None → xs ≡ []
 no_first [] e = refl
@@ -156,7 +159,7 @@ module _ (sig : Sig) where
       let v = map_among (λ r. app w.0.0 (trees_of r)) (rows_within sig depth w.0.1 room) t w.2 in
       let all = constructors_make sig s sig.table 0 (sig.constructors - 0) (λ k e q. subst (λ n. slice_get sig.table n ≡ Some e) (omega arith) q) (omega arith) in
       let m = all_among (Makes sig s) cs w.0 all w.1 in
-      (w.0.0, trees_of v.0, m.0, sym v.2, m.4, m.1, subst (λ r. IsAmong (rows_within sig depth m.0.args room) r) (sym (listed v.0)) (subst (λ ss. IsAmong (rows_within sig depth ss room) v.0) (sym m.3) v.1))
+      (w.0.0, trees_of v.0, m.0, sym v.2, m.4, m.1, subst (λ r. IsAmong (rows_within sig depth m.0.args room) r) (sym (list_of-trees_of v.0)) (subst (λ ss. IsAmong (rows_within sig depth ss room) v.0) (sym m.3) v.1))
 
   -- a value is a constructor's application to one of the rows
   pub value_parts : (depth : ℕ) (s : SortId) (bound : ℕ) (t : Tree) → IsAmong (values_within sig depth s bound) t → (f : ℕ) × (ts : Trees) × (i : SymInfo) × (t ≡ app f ts) × (1 ≤ depth) × (f < sig.constructors) × (info_of sig f ≡ Some i) × IsAmong (rows_within sig (depth - 1) i.args (room_within sig bound)) (list_of ts)
@@ -231,10 +234,6 @@ module _ (sig : Sig) where
   pub same_rows : (depth : ℕ) (us ss : List SortId) (room bound : ℕ) (o : Option (List Tree)) → us ≡ ss → room ≡ bound → first_of (rows_within sig depth us room) ≡ o → first_of (rows_within sig depth ss bound) ≡ o
   same_rows depth us ss room bound o e r h = sym (ap (λ xs. first_of (rows_within sig depth xs room)) e ∙ ap (λ b. first_of (rows_within sig depth ss b)) r) ∙ h
 
-pub if_ok_map : {T E : Type 0} (r : Result T E) (P Q : T → Type 0) → ((x : T) → P x → Q x) → IfOk r P → IfOk r Q
-if_ok_map (Ok x) P Q f h = f x h
-if_ok_map (Err e) P Q f h = tt
-
 -- the rows of a sort and more have a first value
 module _ (sig : Sig) where
   rows_begun : (depth : ℕ) (s : SortId) (ss : List SortId) (bound : ℕ) → IsAmong (rows_within sig depth (s ∷ ss) bound) [] → ⊥
@@ -246,7 +245,7 @@ module _ (sig : Sig) where
       cc
 
   pub place_within : (depth : ℕ) (all : List SortId) (s : SortId) (ss : List SortId) (bound place : ℕ) (row : List Tree) → all ≡ s ∷ ss → IsAmong (rows_within sig depth all bound) (drop place row) → place < length row
-  place_within depth all s ss bound place row e a = elim (split_lt place (length row)) [
+  place_within depth all s ss bound place row e a = elim (below_or_not place (length row)) [
     | inl h ↦ h
     | inr h ↦ absurd (rows_begun depth s ss bound (subst (λ xs. IsAmong (rows_within sig depth (s ∷ ss) bound) xs) (drop_past row place h) (subst (λ us. IsAmong (rows_within sig depth us bound) (drop place row)) e a)))
   ]
@@ -325,12 +324,12 @@ module _ (sig : Sig) (depth : ℕ) (s : SortId) (bound f : ℕ) (args : List Tre
       let ts : trees_of args ≡ w.1 = cc in
       let o : Some w.2 ≡ Some i = sym w.6 ∙ ap (λ n. info_of sig n) (sym k) ∙ at in
       let j : w.2 ≡ i = cc in
-      let row : list_of w.1 ≡ args = ap (λ x. list_of x) (sym ts) ∙ listed args in
+      let row : list_of w.1 ≡ args = ap (λ x. list_of x) (sym ts) ∙ list_of-trees_of args in
       let sorts : w.2.args ≡ us = ap (λ (x : SymInfo). x.args) j ∙ sym u in
       subst (λ b. IsAmong (rows_within sig (depth - 1) us b) args) (sym r) (subst (λ x. IsAmong (rows_within sig (depth - 1) x (room_within sig bound)) args) sorts (subst (λ x. IsAmong (rows_within sig (depth - 1) w.2.args (room_within sig bound)) x) row w.7))
 
   same_after : (i : SymInfo) (us : List SortId) (room : ℕ) → us ≡ i.args → room ≡ room_within sig bound → first_of (rows_after sig (depth - 1) us room args) ≡ first_of (rows_after sig (depth - 1) i.args (room_within sig bound) (list_of (trees_of args)))
-  same_after i us room u r = ap (λ x. first_of (rows_after sig (depth - 1) x room args)) u ∙ ap (λ b. first_of (rows_after sig (depth - 1) i.args b args)) r ∙ ap (λ x. first_of (rows_after sig (depth - 1) i.args (room_within sig bound) x)) (sym (listed args))
+  same_after i us room u r = ap (λ x. first_of (rows_after sig (depth - 1) x room args)) u ∙ ap (λ b. first_of (rows_after sig (depth - 1) i.args b args)) r ∙ ap (λ x. first_of (rows_after sig (depth - 1) i.args (room_within sig bound) x)) (sym (list_of-trees_of args))
 
   pub value_goes : (i : SymInfo) (us : List SortId) (room : ℕ) (r : List Tree) (new : Tree) → 1 ≤ depth → app f (trees_of args) ≡ t → info_of sig f ≡ Some i → us ≡ i.args → room ≡ room_within sig bound → first_of (rows_after sig (depth - 1) us room args) ≡ Some r → new ≡ app f (trees_of r) → Some new ≡ first_of (values_after sig depth s bound t)
   value_goes i us room r new d e at u k h n = ap (λ x. Some x) n ∙ value_same sig depth s bound f t (trees_of args) i r (sym e) d at (sym (same_after i us room u k) ∙ h)

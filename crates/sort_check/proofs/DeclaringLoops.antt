@@ -1,8 +1,8 @@
 -- Loops over searches, and searches in which each test sees the names that are taken before it.
-use Rattle.std.proofs.Common.{◌≡◌, ℕ, zero, suc, ◌+◌, ◌<◌, ◌≤◌, inl, inr, List, [], ◌∷◌, ◌++◌, refl, ap, sym, ◌∙◌, subst, arith, get_or, length, take, drop, append_assoc}
+use Rattle.std.proofs.Common.{◌≡◌, ℕ, suc, ◌+◌, ◌<◌, ◌≤◌, inl, inr, List, [], ◌∷◌, ◌++◌, refl, ap, sym, ◌∙◌, subst, arith, get_or, length, take, drop, append_assoc}
 use Rattle.std.specs.Prelude.{Result, Ok, Err, map}
 use Rattle.std.specs.List.{flat_map}
-use Rattle.std.proofs.lemmas.List.{append-nil, length-take-le, take_all, take_more}
+use Rattle.std.proofs.lemmas.List.{append-nil, length-take-le, take_all}
 use Rattle.spec_core.specs.declared.records.SymInfo.{SymInfo}
 use Rattle.spec_core.specs.Declarations.{IsNewName}
 use Rattle.spec_core.specs.Findings.{Search, nothing, test, then, each, Clean, First}
@@ -17,6 +17,7 @@ use Rattle.sort_check.proofs.Telling.{tells_then}
 use Rattle.sort_check.specs.declared.faults.SortFault.{SortFault}
 use Rattle.sort_check.specs.declared.faults.SortFault.TheVariants.{Sort, OutOfMemory}
 use Rattle.sort_check.specs.declared.faults.SortKind.TheVariants.{RepeatedName}
+use Rattle.term_core.proofs.Items.{parted_at, taken_next}
 
 -- the names of the constructors of sorts
 abbrev pub names_in : List RawSort → List (List ℕ)
@@ -35,15 +36,6 @@ pub tells_each : {A : Type 0} (f : A → Search SortFault) (xs : List A) (i : �
 tells_each f xs i x (Sort at kind) lt is c h = each_stops f xs i x (Sort at kind) lt is c h
 tells_each f xs i x OutOfMemory lt is c h = tt
 
--- the list about an element
-split_at : {A : Type 0} (xs : List A) (i : ℕ) (x : A) → i < length xs → x ≡ get_or xs i x → take i xs ++ x ∷ drop (suc i) xs ≡ xs
-split_at [] i x lt is = absurd (omega arith)
-split_at (y ∷ ys) zero x lt is = ap (λ z. z ∷ ys) is
-split_at (y ∷ ys) (suc i) x lt is = ap (λ zs. y ∷ zs) (split_at ys i x (omega arith) is)
-
-pub next_take : {A : Type 0} (xs : List A) (i : ℕ) (x : A) → i < length xs → x ≡ get_or xs i x → take (i + 1) xs ≡ take i xs ++ x ∷ []
-next_take xs i x lt is = take_more xs i x lt ∙ ap (λ z. take i xs ++ z ∷ []) (sym is)
-
 -- a function of lists that goes over them in pieces, at one more element
 module _ {A B : Type 0} (piece : A → List B) (whole : List A → List B) (end : whole [] ≡ []) (on : (x : A) (xs : List A) → whole (x ∷ xs) ≡ piece x ++ whole xs) where
   pub whole_more : (xs : List A) (x : A) → whole (xs ++ x ∷ []) ≡ whole xs ++ piece x
@@ -53,7 +45,7 @@ module _ {A B : Type 0} (piece : A → List B) (whole : List A → List B) (end 
   -- what a loop has put behind a list
   pub behind_next : (xs : List A) (i : ℕ) (x : A) (old now new : List B) → i < length xs → x ≡ get_or xs i x → now ≡ old ++ whole (take i xs) → new ≡ now ++ piece x → new ≡ old ++ whole (take (i + 1) xs)
   behind_next xs i x old now new lt is before made =
-      made ∙ ap (λ g. g ++ piece x) before ∙ append_assoc old (whole (take i xs)) (piece x) ∙ ap (λ g. old ++ g) (sym (whole_more (take i xs) x)) ∙ ap (λ ys. old ++ whole ys) (sym (next_take xs i x lt is))
+      made ∙ ap (λ g. g ++ piece x) before ∙ append_assoc old (whole (take i xs)) (piece x) ∙ ap (λ g. old ++ g) (sym (whole_more (take i xs) x)) ∙ ap (λ ys. old ++ whole ys) (sym (taken_next xs i x lt is))
 
   pub behind_end : (xs : List A) (i : ℕ) (old now : List B) → length xs ≤ i → now ≡ old ++ whole (take i xs) → now ≡ old ++ whole xs
   behind_end xs i old now ends is = is ∙ ap (λ ys. old ++ whole ys) (take_all i xs ends)
@@ -86,10 +78,10 @@ module _ {A : Type 0} {f : List (List ℕ) → A → Search SortFault} {names : 
 
   module _ (t : List (List ℕ)) (xs : List A) (i : ℕ) (x : A) (now : List (List ℕ)) (lt : i < length xs) (is : x ≡ get_or xs i x) (has : now ≡ t ++ taken (take i xs)) (clean : Clean (all t (take i xs))) where
     pub taking_next : Clean (f now x) → Clean (all t (take (i + 1) xs))
-    taking_next c = subst (λ ys. Clean (all t ys)) (sym (next_take xs i x lt is)) (taking_more t (take i xs) x clean (subst (λ u. Clean (f u x)) has c))
+    taking_next c = subst (λ ys. Clean (all t ys)) (sym (taken_next xs i x lt is)) (taking_more t (take i xs) x clean (subst (λ u. Clean (f u x)) has c))
 
     pub tells_taking : (e : SortFault) → Tells (f now x) e → Tells (all t xs) e
-    tells_taking (Sort at kind) h = subst (λ ys. First (all t ys) (Sort at kind)) (split_at xs i x lt is) (taking_fault t (take i xs) (drop (suc i) xs) x (Sort at kind) clean (subst (λ u. First (f u x) (Sort at kind)) has h))
+    tells_taking (Sort at kind) h = subst (λ ys. First (all t ys) (Sort at kind)) (parted_at xs i x lt is) (taking_fault t (take i xs) (drop (suc i) xs) x (Sort at kind) clean (subst (λ u. First (f u x) (Sort at kind)) has h))
     tells_taking OutOfMemory h = tt
 
   pub taking_end : (t : List (List ℕ)) (xs : List A) (i : ℕ) → length xs ≤ i → Clean (all t (take i xs)) → Clean (all t xs)
@@ -125,4 +117,4 @@ module _ (sorts : List (List ℕ)) where
   pub constructors_next : (ss : List RawSort) (i n : ℕ) (s : RawSort) (now new : List (List ℕ × SymInfo)) → i < length ss → s ≡ get_or ss i s → n ≡ i + 1 → now ≡ constructors_of sorts 1 (take i ss) → new ≡ now ++ map (constructor_of sorts n) s.constructors → new ≡ constructors_of sorts 1 (take (i + 1) ss)
   constructors_next ss i n s now new lt is number before made =
       let k : 1 + length (take i ss) ≡ n = omega (arith, length-take-le i ss (omega arith)) in
-      made ∙ (λ j. before j ++ map (constructor_of sorts (sym k j)) s.constructors) ∙ sym (constructors_more 1 (take i ss) s) ∙ ap (λ ys. constructors_of sorts 1 ys) (sym (next_take ss i s lt is))
+      made ∙ (λ j. before j ++ map (constructor_of sorts (sym k j)) s.constructors) ∙ sym (constructors_more 1 (take i ss) s) ∙ ap (λ ys. constructors_of sorts 1 ys) (sym (taken_next ss i s lt is))

@@ -14,7 +14,8 @@ use Rattle.spec_grammar.specs.declared.raw.RawFun.{RawFun}
 use Rattle.spec_grammar.specs.declared.raw.RawSpec.{RawSpec}
 use Rattle.sort_check.specs.Signatures.{sort_names}
 use Rattle.sort_check.specs.DeclarationTests.{declarations_tests, sort_number, constructor_of, constructors_of, function_of, all_sorts, all_constructors, sig_of}
-use Rattle.sort_check.proofs.DeclaringTests.{all_both, constructors_in_range, functions_in_range}
+use Rattle.sort_check.proofs.DeclaringTests.{constructors_in_range, functions_in_range}
+use Rattle.term_core.proofs.Items.{all_append}
 
 pub sig_in_range : (raw : RawSpec) → Clean (declarations_tests raw) → SortsAreInRange (sig_of raw)
 sig_in_range raw clean = declared_in_range (sort_names raw.sorts) (all_constructors raw) (map (function_of (all_sorts raw)) raw.funs) (constructors_in_range raw clean.0 clean.1.0) (functions_in_range raw clean.0 clean.1.0 clean.1.1.1)
@@ -39,7 +40,7 @@ module _ (P : ℕ → Type 0) where
 
     all_have : (n : ℕ) (ss : List RawSort) → AllByRecursion (λ (s : RawSort). AllByRecursion (λ (c : RawNames). P (length c.args)) s.constructors) ss → AllByRecursion Has (constructors_of sorts n ss)
     all_have n [] all = tt
-    all_have n (s ∷ ss) all = all_both Has (map (constructor_of sorts n) s.constructors) (constructors_of sorts (suc n) ss) (constructors_have n s.constructors all.0) (all_have (suc n) ss all.1)
+    all_have n (s ∷ ss) all = all_append Has (map (constructor_of sorts n) s.constructors) (constructors_of sorts (suc n) ss) (constructors_have n s.constructors all.0) (all_have (suc n) ss all.1)
 
     functions_have : (fs : List RawFun) → AllByRecursion (λ (f : RawFun). P (length f.head.args)) fs → AllByRecursion Has (map (function_of sorts) fs)
     functions_have [] all = tt
@@ -49,4 +50,4 @@ module _ (P : ℕ → Type 0) where
   arguments_kept raw none constructors functions f i at =
       let cs = all_constructors raw in
       let fs = map (function_of (all_sorts raw)) raw.funs in
-      entry_has (all_symbols cs fs) f i (all_both Has bool_symbols (cs ++ fs) (none, (none, tt)) (all_both Has cs fs (all_have (all_sorts raw) 1 raw.sorts constructors) (functions_have (all_sorts raw) raw.funs functions))) at
+      entry_has (all_symbols cs fs) f i (all_append Has bool_symbols (cs ++ fs) (none, (none, tt)) (all_append Has cs fs (all_have (all_sorts raw) 1 raw.sorts constructors) (functions_have (all_sorts raw) raw.funs functions))) at

@@ -20,6 +20,7 @@ use Rattle.sort_check.specs.Signatures.{sort_names, SortStands, ConstructorStand
 use Rattle.sort_check.specs.DeclarationTests.{sorts_tests, sort_test, constructors_tests, all_constructors_tests, functions_tests, sort_number, constructor_of, constructors_of, function_of, all_sorts, all_constructors, boolean_names, constructor_names, sig_of}
 use Rattle.sort_check.proofs.Names.{new_not, place_is, no_place}
 use Rattle.sort_check.proofs.DeclaringLoops.{names_in}
+use Rattle.term_core.proofs.Items.{all_append}
 
 -- a name that can't be one of the names is new
 pub new_indeed : (name : List ℕ) (names : List (List ℕ)) → ((IsNewName name names → ⊥) → ⊥) → IsNewName name names
@@ -32,10 +33,6 @@ new_indeed name names h = by (position (bytes_eq name) names) refl
 pub new_names_whole : (seen xs ys : List (List ℕ)) → AreNewNames seen xs → AreNewNames (seen ++ xs) ys → AreNewNames seen (xs ++ ys)
 new_names_whole seen [] ys a b = subst (λ s. AreNewNames s ys) (append-nil seen) b
 new_names_whole seen (x ∷ xs) ys a b = (a.0, new_names_whole (seen ++ x ∷ []) xs ys a.1 (subst (λ s. AreNewNames s ys) (sym (append_assoc seen (x ∷ []) xs)) b))
-
-pub all_both : {X : Type 0} (P : X → Type 0) (xs ys : List X) → AllByRecursion P xs → AllByRecursion P ys → AllByRecursion P (xs ++ ys)
-all_both P [] ys a b = b
-all_both P (x ∷ xs) ys a b = (a.0, all_both P xs ys a.1 b)
 
 pub sorts_new : (taken : List (List ℕ)) (ss : List RawSort) → Clean (sorts_tests taken ss) → AreNewNames taken (sort_names ss)
 sorts_new taken [] c = tt
@@ -89,11 +86,11 @@ module _ (sorts : List (List ℕ)) where
 
   pub all_below : (taken : List (List ℕ)) (n : ℕ) (ss : List RawSort) → n + length ss ≤ length sorts → Clean (all_constructors_tests sorts taken ss) → AllByRecursion (IsBelow (length sorts)) (constructors_of sorts n ss)
   all_below taken n [] le h = tt
-  all_below taken n (s ∷ ss) le h = all_both (IsBelow (length sorts)) (map (constructor_of sorts n) s.constructors) (constructors_of sorts (suc n) ss) (constructors_below taken n s.constructors (omega arith) h.0) (all_below (taken ++ map (λ (c : RawNames). c.name) s.constructors) (suc n) ss (omega arith) h.1)
+  all_below taken n (s ∷ ss) le h = all_append (IsBelow (length sorts)) (map (constructor_of sorts n) s.constructors) (constructors_of sorts (suc n) ss) (constructors_below taken n s.constructors (omega arith) h.0) (all_below (taken ++ map (λ (c : RawNames). c.name) s.constructors) (suc n) ss (omega arith) h.1)
 
   pub all_not_bool : (n : ℕ) (ss : List RawSort) → 0 < n → AllByRecursion IsNotBool (constructors_of sorts n ss)
   all_not_bool n [] lt = tt
-  all_not_bool n (s ∷ ss) lt = all_both IsNotBool (map (constructor_of sorts n) s.constructors) (constructors_of sorts (suc n) ss) (constructors_not_bool n s.constructors lt) (all_not_bool (suc n) ss (omega arith))
+  all_not_bool n (s ∷ ss) lt = all_append IsNotBool (map (constructor_of sorts n) s.constructors) (constructors_of sorts (suc n) ss) (constructors_not_bool n s.constructors lt) (all_not_bool (suc n) ss (omega arith))
 
   pub all_names : (n : ℕ) (ss : List RawSort) → map (λ (e : List ℕ × SymInfo). e.0) (constructors_of sorts n ss) ≡ names_in ss
   all_names n [] = refl

@@ -1,10 +1,9 @@
 -- What is known of the terms and variables of a walk in which nothing is found.
-use Rattle.std.proofs.Common.{◌≡◌, ◌≢◌, ◌≤◌, ◌<◌, ℕ, zero, suc, ◌+◌, List, [], ◌∷◌, ◌++◌, Option, Some, None, option_map, ◌⊎◌, inl, inr, refl, ap, sym, ◌∙◌, subst, arith, length, length-append, length-set, get_or-set_same}
+use Rattle.std.proofs.Common.{◌≡◌, ◌≢◌, ◌≤◌, ◌<◌, ℕ, zero, suc, List, [], ◌∷◌, ◌++◌, Option, Some, None, option_map, ◌⊎◌, inl, inr, refl, ap, sym, ◌∙◌, subst, arith, length, length-append, length-set, get_or-set_same}
 use Rattle.std.specs.Prelude.{slice_get, unwrap_or, map}
 use Rattle.std.specs.Str.{bytes_eq}
 use Rattle.std.proofs.lemmas.List.{length-map, map-set, map-append}
 use Rattle.std.proofs.lemmas.Bool.{cases_lt}
-use Rattle.std.proofs.lemmas.Bool.Decides.{nat_tests}
 use Rattle.std.proofs.lemmas.List.Quantifiers.{position-Some}
 use Rattle.term_core.specs.Tree.{Tree, Trees, var, app, none, some}
 use Rattle.term_core.specs.declared.ids.SortId.{SortId}
@@ -29,9 +28,10 @@ use Rattle.sort_check.specs.declared.faults.SortKind.TheVariants.{WrongSort}
 use Rattle.sort_check.specs.declared.faults.Part.{Part}
 use Rattle.sort_check.specs.declared.faults.Part.TheVariants.{Left, Right, Goal, Ground}
 use Rattle.sort_check.proofs.Names.{place_is, no_place}
-use Rattle.sort_check.proofs.Places.{same_or_not, same_number}
+use Rattle.sort_check.proofs.Places.{same_number}
 use Rattle.sort_check.proofs.Growth.{Extends, Keeps, extends_self, extends_both, variable_extends, given_names, named_stays, variable_keeps, word_has, extends_all, keeps_all}
 use Rattle.sort_check.proofs.Walks.{added_last}
+use Rattle.term_core.proofs.Numbers.{same_or_not, below_or_last}
 
 -- a sort that isn't another is the same
 pub same_sort : (a b : SortId) → (a ≢ b → ⊥) → a ≡ b
@@ -165,14 +165,11 @@ module _ (sig : Sig) (part : Part) (ctx : List SortId) where
           record { sorted = (a.sorted s refl, b.sorted); numbered = (length mid, a.numbered, b.numbered); pattern = λ e. (a.pattern e, b.pattern e) }
 
 module _ (sig : Sig) where
-  below_next : (n m : ℕ) → n < m + 1 → (n < m) ⊎ (n ≡ m)
-  below_next n m lt = grind (arith, nat_tests)
-
   variable_sorted : (es : List Entry) (name : List ℕ) (at : ℕ) (s : SortId) (o : Option ℕ) → AreSorted es → AreSorted (with_variable es name at (Some s) o)
   variable_sorted es name at s (Some m) a n lt =
       let h = a n (omega (arith, given_long es m (Some s) (sort_so_far es m))) in
       (h.0, variable_keeps es name at (Some s) (Some m) n h.0 h.1)
-  variable_sorted es name at s None a n lt = elim (below_next n (length es) (omega (arith, length-append es (record { name = name; at = at; sort = Some s } ∷ [])))) [
+  variable_sorted es name at s None a n lt = elim (below_or_last n (length es) (omega (arith, length-append es (record { name = name; at = at; sort = Some s } ∷ [])))) [
     | inl l ↦
         let h = a n l in
         (h.0, variable_keeps es name at (Some s) None n h.0 h.1)

@@ -27,9 +27,9 @@ use Rattle.sort_check.specs.declared.faults.SortKind.TheVariants.{WrongSort}
 use Rattle.sort_check.specs.declared.faults.Part.{Part}
 use Rattle.sort_check.specs.declared.faults.Part.TheVariants.{Goal}
 use Rattle.sort_check.proofs.Names.{place_is, no_place}
-use Rattle.sort_check.proofs.Places.{same_or_not}
 use Rattle.sort_check.proofs.Growth.{given_names}
 use Rattle.sort_check.proofs.Facts.{info_known}
+use Rattle.term_core.proofs.Numbers.{same_or_not}
 
 -- what holds of the names and sorts of variables
 module _ (P : List ℕ → SortId → Type 0) where

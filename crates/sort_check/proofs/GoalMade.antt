@@ -1,5 +1,5 @@
 -- The goal that the parts make, where nothing is found.
-use Rattle.std.proofs.Common.{◌≡◌, ◌≤◌, ℕ, zero, suc, List, [], ◌∷◌, ◌++◌, Option, Some, None, inl, inr, refl, ap, sym, ◌∙◌, subst, arith, length, map}
+use Rattle.std.proofs.Common.{◌≡◌, ◌≤◌, ℕ, List, [], ◌∷◌, ◌++◌, Option, Some, None, inl, inr, refl, ap, sym, ◌∙◌, subst, arith, length, map}
 use Rattle.std.specs.List.{AllByRecursion}
 use Rattle.std.specs.Prelude.{slice_get, unwrap_or, option_map}
 use Rattle.std.specs.Str.{bytes_eq}
@@ -15,7 +15,7 @@ use Rattle.spec_core.specs.TermText.{variable_names}
 use Rattle.spec_core.specs.WellSorted.{sorts_of}
 use Rattle.spec_core.specs.Findings.{Clean}
 use Rattle.spec_core.proofs.Names.{position-map}
-use Rattle.spec_core.proofs.Ranges.{declared_in_range}
+use Rattle.spec_core.proofs.Ranges.{sorts_in_range}
 use Rattle.spec_grammar.specs.RawTree.{RawTree, RawTrees, word, none as no_raws, some as more_raws}
 use Rattle.spec_grammar.specs.declared.raw.RawEq.{RawEq}
 use Rattle.spec_grammar.specs.declared.raw.RawGoal.{RawGoal}
@@ -41,6 +41,7 @@ use Rattle.sort_check.proofs.PairFacts.{opposed_extends, opposed_keeps, found_mo
 use Rattle.sort_check.proofs.GoalSorts.{HasOneSort, all_found, all_keep, equations_sorted, known_long, all_known}
 use Rattle.sort_check.proofs.GoalGets.{Holds, Got, binds_hold, sides_hold, opposites_hold, all_get}
 use Rattle.sort_check.proofs.GoalNames.{bind_entry_names, walked_names, opposed_names, fresh_sides, binds_fresh, bound_first}
+use Rattle.term_core.proofs.Items.{all_at}
 
 -- pairs of two lists, one behind the other, taken apart
 pairs_split : {X Y : Type 0} (R : X → Y → Type 0) (xs us : List X) (ys vs : List Y) → length ys ≡ length xs → Pairwise R (xs ++ us) (ys ++ vs) → Pairwise R xs ys × Pairwise R us vs
@@ -52,11 +53,6 @@ pairs_split R (x ∷ xs) us (y ∷ ys) vs l p = let r = pairs_split R xs us ys v
 all_split : {X : Type 0} (P : X → Type 0) (xs ys : List X) → AllByRecursion P (xs ++ ys) → AllByRecursion P xs × AllByRecursion P ys
 all_split P [] ys a = (tt, a)
 all_split P (x ∷ xs) ys a = let r = all_split P xs ys a.1 in ((a.0, r.0), r.1)
-
-all_at : {X : Type 0} (P : X → Type 0) (xs : List X) → AllByRecursion P xs → (k : ℕ) (x : X) → slice_get xs k ≡ Some x → P x
-all_at P [] a k x e = absurd (let z : None ≡ Some x = e in cc)
-all_at P (y ∷ ys) a zero x e = let z : Some y ≡ Some x = e in let q : y ≡ x = cc in subst P q a.0
-all_at P (y ∷ ys) a (suc k) x e = all_at P ys a.1 k x e
 
 all_map : {X : Type 0} (P Q : X → Type 0) → ((x : X) → P x → Q x) → (xs : List X) → AllByRecursion P xs → AllByRecursion Q xs
 all_map P Q f [] a = tt
@@ -70,7 +66,7 @@ equations_stand sig es (r ∷ rs) (t ∷ ts) p = ((over_stands sig es r.left t.l
 
 module _ (sig : Sig) (declared : IsDeclared sig) where
   in_range : SortsAreInRange sig
-  in_range = subst SortsAreInRange (sym declared.is) (declared_in_range declared.sorts declared.constructors declared.functions declared.constructors_in_range declared.functions_in_range)
+  in_range = sorts_in_range sig declared
 
   mutual
     taken_in_range : (x : List ℕ) (s : SortId) (r : RawTree) → IsTaken sig x s r → IsSort sig s

@@ -12,7 +12,8 @@ use Rattle.sort_check.specs.Entries.{entry_named, entry_names, known_sorts, sort
 use Rattle.sort_check.specs.Words.{symbol_named, info_at, after_word, entries_after, entries_after_all}
 use Rattle.sort_check.specs.Over.{IsOver, AreOver}
 use Rattle.sort_check.specs.declared.entries.Entry.{Entry}
-use Rattle.sort_check.proofs.Places.{same_or_not, position_stays}
+use Rattle.sort_check.proofs.Places.{position_stays}
+use Rattle.term_core.proofs.Numbers.{same_or_not}
 
 -- the names of the second are those of the first and others behind them
 abbrev pub Extends : List Entry → List Entry → Type 0

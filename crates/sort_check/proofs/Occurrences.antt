@@ -2,13 +2,12 @@
 use Rattle.std.proofs.Common.{◌≡◌, ℕ, zero, suc, ◌+◌, ◌<◌, ◌≤◌, ◌⊎◌, inl, inr, List, [], ◌∷◌, ◌++◌, Option, None, Some, refl, ap, sym, ◌∙◌, subst, arith, length, take, position, append_assoc, length-append}
 use Rattle.std.specs.Prelude.{slice_get}
 use Rattle.std.specs.Str.{bytes_eq}
-use Rattle.std.proofs.lemmas.Bool.Decides.{nat_tests}
 use Rattle.std.proofs.lemmas.List.{append-nil, take_more}
 use Rattle.std.proofs.lemmas.Option.{slice_get_within, get_or_from_slice_get}
 use Rattle.term_core.specs.Tree.{Tree, Trees, var, app, none, some}
 use Rattle.spec_core.specs.Sig.{Sig, names_of}
 use Rattle.spec_core.specs.Declarations.{IsNewName, AreNewNames}
-use Rattle.spec_core.specs.WellSorted.{Numbered, NumberedAll, Occurs, OccursAny}
+use Rattle.spec_core.specs.WellSorted.{Numbered, NumberedAll}
 use Rattle.spec_grammar.specs.RawTree.{RawTree, RawTrees, word, none as no_raws, some as more_raws, raw_trees}
 use Rattle.sort_check.specs.Terms.{TermStands, TermsStand}
 use Rattle.sort_check.specs.Occurrence.{with_name, after_word, names_after, names_after_all}
@@ -152,20 +151,3 @@ module _ (sig : Sig) where
           (length (names_after sig seen r), numbered r t seen (g.0 ++ more) p.0 here, numbered_all rs ts (names_after sig seen r) more p.1 is)
       numbered_all no_raws (some t ts) seen more p is = absurd p
       numbered_all (more_raws r rs) none seen more p is = absurd p
-
-before_or_from : (n m : ℕ) → (n < m) ⊎ (m ≤ n)
-before_or_from n m = grind (arith, nat_tests)
-
--- each number that is new in a term occurs in it
-mutual
-  pub numbered_occurs : (k m : ℕ) (t : Tree) → Numbered k t m → (n : ℕ) → k ≤ n → n < m → Occurs n t
-  numbered_occurs k m (var j) (inl h) n a b = absurd (omega arith)
-  numbered_occurs k m (var j) (inr h) n a b = omega arith
-  numbered_occurs k m (app f ts) h n a b = numbered_occur k m ts h n a b
-
-  numbered_occur : (k m : ℕ) (ts : Trees) → NumberedAll k ts m → (n : ℕ) → k ≤ n → n < m → OccursAny n ts
-  numbered_occur k m none h n a b = absurd (omega arith)
-  numbered_occur k m (some t ts) h n a b = elim (before_or_from n h.0) [
-    | inl c ↦ inl (numbered_occurs k h.0 t h.1 n a c)
-    | inr c ↦ inr (numbered_occur h.0 m ts h.2 n c b)
-  ]

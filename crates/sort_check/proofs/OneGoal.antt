@@ -22,10 +22,11 @@ use Rattle.sort_check.specs.Terms.{TermStands, TermsStand, EquationStands}
 use Rattle.sort_check.specs.Inference.{IsIn, IsVariable, IsTaken, IsAnyTaken, HasResult, IsEquation, Gets, bound, left_argument, right_argument, left_side, right_side, as_right, as_left}
 use Rattle.sort_check.specs.Goals.{VariableStands, GoalStands}
 use Rattle.sort_check.proofs.Names.{new_not, one_place, only_distinct, symbols_distinct, sorts_distinct}
-use Rattle.sort_check.proofs.Pairs.{pairs_one, pairs_with, places_have}
+use Rattle.sort_check.proofs.Pairs.{pairs_one, pairs_with}
 use Rattle.sort_check.proofs.OneTerm.{one_equation}
 use Rattle.sort_check.proofs.OneSignature.{one_sort}
 use Rattle.sort_check.proofs.OneRule.{same_vars, name_of_place}
+use Rattle.term_core.proofs.Items.{all_at}
 
 in_either : {A : Type 0} (x : A) (xs ys : List A) → IsIn x (xs ++ ys) → IsIn x xs ⊎ IsIn x ys
 in_either x [] ys h = inr h
@@ -148,7 +149,7 @@ one_goal sig declared raw g h is too =
     let distinct : AreNewNames [] (names_of sig) = symbols_distinct sig declared in
     let different : AreNewNames [] mine = only_distinct (names_of sig) mine is.names in
     let name : g.name ≡ h.name = is.name ∙ sym too.name in
-    let gets : (n : ℕ) (v : VarInfo) → slice_get g.vars n ≡ Some v → slice_get (sorts_of h.vars) n ≡ Some v.sort = λ n v at. has_what_it_gets sig declared raw h too v.name v.sort (places_have (λ (u : VarInfo). Gets sig raw u.name u.sort) g.vars is.sorts n v at) n (ap (λ ns. slice_get ns n) (sym same) ∙ name_of_place g.vars n v at) in
+    let gets : (n : ℕ) (v : VarInfo) → slice_get g.vars n ≡ Some v → slice_get (sorts_of h.vars) n ≡ Some v.sort = λ n v at. has_what_it_gets sig declared raw h too v.name v.sort (all_at (λ (u : VarInfo). Gets sig raw u.name u.sort) g.vars is.sorts n v at) n (ap (λ ns. slice_get ns n) (sym same) ∙ name_of_place g.vars n v at) in
     let vars : g.vars ≡ h.vars = same_vars g.vars h.vars same gets in
     let premises : g.premises ≡ h.premises = pairs_one (EquationStands sig mine) (one_equation sig distinct mine different) raw.premises g.premises h.premises is.premises (subst (λ ns. Pairwise (EquationStands sig ns) raw.premises h.premises) (sym same) too.premises) in
     let conclusions : g.conclusions ≡ h.conclusions = pairs_one (EquationStands sig mine) (one_equation sig distinct mine different) raw.conclusions g.conclusions h.conclusions is.conclusions (subst (λ ns. Pairwise (EquationStands sig ns) raw.conclusions h.conclusions) (sym same) too.conclusions) in

@@ -22,8 +22,9 @@ use Rattle.sort_check.specs.Terms.{TermStands}
 use Rattle.sort_check.specs.Rules.{RuleStands, GuardStands}
 use Rattle.sort_check.proofs.Pairs.{pairs_one}
 use Rattle.sort_check.proofs.Names.{symbols_distinct}
-use Rattle.sort_check.proofs.Occurrences.{through, numbered_occurs}
+use Rattle.sort_check.proofs.Occurrences.{through}
 use Rattle.sort_check.proofs.OneTerm.{one_term}
+use Rattle.spec_core.proofs.Values.{numbered_occurs}
 
 -- variables of the same names and sorts
 pub same_vars : (vs ws : List VarInfo) → variable_names vs ≡ variable_names ws → ((n : ℕ) (v : VarInfo) → slice_get vs n ≡ Some v → slice_get (sorts_of ws) n ≡ Some v.sort) → vs ≡ ws

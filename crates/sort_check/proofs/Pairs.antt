@@ -77,8 +77,3 @@ pub all_at : {X : Type 0} (P : X → Type 0) (xs : List X) (i : ℕ) (x : X) →
 all_at P [] i x all lt is = absurd (omega arith)
 all_at P (y ∷ ys) zero x all lt is = subst P (sym is) all.0
 all_at P (y ∷ ys) (suc i) x all lt is = all_at P ys i x all.1 (omega arith) is
-
-pub places_have : {X : Type 0} (P : X → Type 0) (xs : List X) → AllByRecursion P xs → (k : ℕ) (x : X) → slice_get xs k ≡ Some x → P x
-places_have P [] all k x at = let q : None ≡ Some x = at in absurd (cc)
-places_have P (y ∷ ys) all zero x at = let q : Some y ≡ Some x = at in let e : y ≡ x = cc in subst P e all.0
-places_have P (y ∷ ys) all (suc k) x at = places_have P ys all.1 k x at

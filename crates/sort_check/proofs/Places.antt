@@ -2,9 +2,7 @@
 use Rattle.std.proofs.Common.{◌≡◌, ◌≢◌, ℕ, suc, ◌+◌, List, [], ◌∷◌, ◌++◌, Bool, true, false, not, cond, ltb, Option, Some, None, option_map, ◌⊎◌, inl, inr, refl, ap, sym, ◌∙◌, arith, length, position}
 use Rattle.std.specs.List.{prefix_len}
 use Rattle.std.proofs.lemmas.Bool.Decides.{nat_tests}
-
-pub same_or_not : (k i : ℕ) → (k ≡ i) ⊎ (k ≢ i)
-same_or_not k i = grind (arith, nat_tests)
+use Rattle.term_core.proofs.Numbers.{same_or_not}
 
 -- a number that isn't another is the same
 pub same_number : (m n : ℕ) → (m ≢ n → ⊥) → m ≡ n

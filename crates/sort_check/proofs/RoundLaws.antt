@@ -13,9 +13,9 @@ use Rattle.sort_check.specs.declared.entries.Pair.{Pair}
 use Rattle.sort_check.specs.declared.faults.SortFault.{SortFault}
 use Rattle.sort_check.specs.declared.faults.SortFault.TheVariants.{Sort}
 use Rattle.sort_check.specs.declared.faults.SortKind.TheVariants.{WrongSort}
-use Rattle.sort_check.proofs.Places.{same_or_not}
 use Rattle.sort_check.proofs.Telling.{tells_first, tells_then}
 use Rattle.sort_check.proofs.Facts.{same_sort}
+use Rattle.term_core.proofs.Numbers.{same_or_not}
 
 abbrev one : Option SortId → ℕ
 one None = 1

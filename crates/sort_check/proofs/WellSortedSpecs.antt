@@ -1,5 +1,5 @@
 -- What a raw specification within the limits stands for is well sorted.
-use Rattle.std.proofs.Common.{◌≡◌, ℕ, zero, suc, ◌≤◌, List, [], ◌∷◌, ◌++◌, Some, None, sym, subst, arith, length}
+use Rattle.std.proofs.Common.{◌≡◌, ℕ, zero, suc, ◌≤◌, List, [], ◌∷◌, Some, None, sym, subst, arith, length}
 use Rattle.std.specs.Prelude.{slice_get, option_map, codes}
 use Rattle.std.specs.List.{AllByRecursion}
 use Rattle.term_core.specs.Tree.{Tree}
@@ -25,13 +25,10 @@ use Rattle.sort_check.specs.Terms.{TermStands}
 use Rattle.sort_check.specs.Rules.{GuardStands, RuleStands}
 use Rattle.sort_check.specs.Goals.{GoalStands}
 use Rattle.sort_check.specs.StandsFor.{StandsFor}
-use Rattle.sort_check.proofs.Pairs.{pairs_long, places_have}
-use Rattle.sort_check.proofs.Occurrences.{numbered_occurs}
+use Rattle.sort_check.proofs.Pairs.{pairs_long}
 use Rattle.sort_check.proofs.KeptSizes.{same_depth}
-
-all_both : {X : Type 0} (P : X → Type 0) (xs ys : List X) → AllByRecursion P xs → AllByRecursion P ys → AllByRecursion P (xs ++ ys)
-all_both P [] ys a b = b
-all_both P (x ∷ xs) ys a b = (a.0, all_both P xs ys a.1 b)
+use Rattle.term_core.proofs.Items.{all_at, all_append}
+use Rattle.spec_core.proofs.Values.{numbered_occurs}
 
 -- what is known of the partners of what is known
 pairs_have : {X Y : Type 0} (R : X → Y → Type 0) (P : X → Type 0) (Q : Y → Type 0) → ((x : X) (y : Y) → P x → R x y → Q y) → (xs : List X) (ys : List Y) → AllByRecursion P xs → Pairwise R xs ys → AllByRecursion Q ys
@@ -56,7 +53,7 @@ module _ (sorts : List (List ℕ)) where
   constructors_few sort [] es keeps stands = subst (λ ds. AllByRecursion HasFew ds) (sym stands) tt
   constructors_few sort (raw ∷ raws) es keeps stands =
       let own : AllByRecursion HasFew stands.0 = pairs_have (ConstructorStands sorts sort) NamesKeepLimits HasFew (constructor_few sort) raw.constructors stands.0 keeps.0.constructors stands.3 in
-      subst (λ ds. AllByRecursion HasFew ds) (sym stands.2) (all_both HasFew stands.0 stands.1 own (constructors_few (suc sort) raws stands.1 keeps.1 stands.4))
+      subst (λ ds. AllByRecursion HasFew ds) (sym stands.2) (all_append HasFew stands.0 stands.1 own (constructors_few (suc sort) raws stands.1 keeps.1 stands.4))
 
 symbol_few : (es : List (List ℕ × SymInfo)) → AllByRecursion HasFew es → (f : ℕ) (i : SymInfo) → option_map (λ (e : List ℕ × SymInfo). e.1) (slice_get es f) ≡ Some i → length i.args ≤ 8
 symbol_few [] all f i at = absurd (let q : None ≡ Some i = at in cc)
@@ -68,7 +65,7 @@ few_arguments raw sig keeps stands =
     let sorts = codes "Bool" ∷ sort_names raw.sorts in
     let constructors : AllByRecursion HasFew stands.constructors = constructors_few sorts 1 raw.sorts stands.constructors keeps.sorts stands.each_constructor in
     let functions : AllByRecursion HasFew stands.functions = pairs_have (FunctionStands sorts) FunctionKeepsLimits HasFew (function_few sorts) raw.funs stands.functions keeps.functions stands.each_function in
-    subst (λ (s : Sig). HasFewArguments s) (sym stands.is) (symbol_few (all_symbols stands.constructors stands.functions) (omega arith, (omega arith, all_both HasFew stands.constructors stands.functions constructors functions)))
+    subst (λ (s : Sig). HasFewArguments s) (sym stands.is) (symbol_few (all_symbols stands.constructors stands.functions) (omega arith, (omega arith, all_append HasFew stands.constructors stands.functions constructors functions)))
 
 -- Rules.
 
@@ -95,8 +92,8 @@ pub stands_well_sorted : (raw : RawSpec) (spec : Spec) → KeepsLimits raw → S
 stands_well_sorted raw spec keeps stands = record {
   signature = stands.declared;
   arities = few_arguments raw spec.sig keeps stands.signature;
-  rules = places_have (RuleIsSorted spec.sig) spec.rules (pairs_have (RuleStands spec.sig) RuleKeepsLimits (RuleIsSorted spec.sig) (rule_is_sorted spec.sig) raw.rules spec.rules keeps.rules stands.rules);
-  goals = places_have (GoalIsSorted spec.sig) spec.goals (pairs_have (GoalStands spec.sig) GoalKeepsLimits (GoalIsSorted spec.sig) (λ r g k p. p.sorted) raw.goals spec.goals keeps.goals stands.goals);
+  rules = all_at (RuleIsSorted spec.sig) spec.rules (pairs_have (RuleStands spec.sig) RuleKeepsLimits (RuleIsSorted spec.sig) (rule_is_sorted spec.sig) raw.rules spec.rules keeps.rules stands.rules);
+  goals = all_at (GoalIsSorted spec.sig) spec.goals (pairs_have (GoalStands spec.sig) GoalKeepsLimits (GoalIsSorted spec.sig) (λ r g k p. p.sorted) raw.goals spec.goals keeps.goals stands.goals);
   names = stands.names;
   few_rules = omega (arith, pairs_long (RuleStands spec.sig) raw.rules spec.rules stands.rules, keeps.few_rules);
   few_goals = omega (arith, pairs_long (GoalStands spec.sig) raw.goals spec.goals stands.goals, keeps.few_goals);

@@ -1,7 +1,8 @@
 -- Laws of searches for the first fault.
-use Rattle.std.proofs.Common.{◌≡◌, ℕ, zero, suc, ◌+◌, ◌<◌, ◌≤◌, inl, inr, List, [], ◌∷◌, ◌++◌, refl, ap, sym, ◌∙◌, subst, arith, get_or, length, take, drop, append_assoc}
-use Rattle.std.proofs.lemmas.List.{append-nil, take_all, take_more}
+use Rattle.std.proofs.Common.{◌≡◌, ℕ, suc, ◌+◌, ◌<◌, ◌≤◌, inl, inr, List, [], ◌∷◌, ◌++◌, sym, ◌∙◌, subst, get_or, length, take, drop, append_assoc}
+use Rattle.std.proofs.lemmas.List.{append-nil, take_all}
 use Rattle.spec_core.specs.Findings.{Search, nothing, test, then, Clean, First, each, each_after}
+use Rattle.term_core.proofs.Items.{parted_at, taken_next}
 
 -- where nothing is found there is no first finding
 pub not_both : {F : Type 0} (s : Search F) (f : F) → Clean s → First s f → ⊥
@@ -19,14 +20,6 @@ one_first (then s t) f g (inl h) (inr k) = absurd (not_both s f k.0 h)
 one_first (then s t) f g (inr h) (inl k) = absurd (not_both s g h.0 k)
 one_first (then s t) f g (inr h) (inr k) = one_first t f g h.1 k.1
 
-split_at : {A : Type 0} (xs : List A) (i : ℕ) (x : A) → i < length xs → x ≡ get_or xs i x → take i xs ++ x ∷ drop (suc i) xs ≡ xs
-split_at [] i x lt is = absurd (omega arith)
-split_at (y ∷ ys) zero x lt is = ap (λ z. z ∷ ys) is
-split_at (y ∷ ys) (suc i) x lt is = ap (λ zs. y ∷ zs) (split_at ys i x (omega arith) is)
-
-next_take : {A : Type 0} (xs : List A) (i : ℕ) (x : A) → i < length xs → x ≡ get_or xs i x → take (i + 1) xs ≡ take i xs ++ x ∷ []
-next_take xs i x lt is = take_more xs i x lt ∙ ap (λ z. take i xs ++ z ∷ []) (sym is)
-
 -- a search of each element, element by element
 module _ {F A : Type 0} (f : A → Search F) where
   each_more : (xs : List A) (x : A) → Clean (each f xs) → Clean (f x) → Clean (each f (xs ++ x ∷ []))
@@ -39,10 +32,10 @@ module _ {F A : Type 0} (f : A → Search F) where
 
   module _ (xs : List A) (i : ℕ) where
     pub each_next : (x : A) → i < length xs → x ≡ get_or xs i x → Clean (each f (take i xs)) → Clean (f x) → Clean (each f (take (i + 1) xs))
-    each_next x lt is c d = subst (λ ys. Clean (each f ys)) (sym (next_take xs i x lt is)) (each_more (take i xs) x c d)
+    each_next x lt is c d = subst (λ ys. Clean (each f ys)) (sym (taken_next xs i x lt is)) (each_more (take i xs) x c d)
 
     pub each_stops : (x : A) (e : F) → i < length xs → x ≡ get_or xs i x → Clean (each f (take i xs)) → First (f x) e → First (each f xs) e
-    each_stops x e lt is c h = subst (λ ys. First (each f ys) e) (split_at xs i x lt is) (each_fault (take i xs) (drop (suc i) xs) x e c h)
+    each_stops x e lt is c h = subst (λ ys. First (each f ys) e) (parted_at xs i x lt is) (each_fault (take i xs) (drop (suc i) xs) x e c h)
 
     pub each_end : length xs ≤ i → Clean (each f (take i xs)) → Clean (each f xs)
     each_end end c = subst (λ ys. Clean (each f ys)) (take_all i xs end) c
@@ -59,10 +52,10 @@ module _ {F A : Type 0} (f : List A → A → Search F) where
 
   module _ (xs : List A) (i : ℕ) where
     pub after_next : (x : A) → i < length xs → x ≡ get_or xs i x → Clean (each_after f [] (take i xs)) → Clean (f (take i xs) x) → Clean (each_after f [] (take (i + 1) xs))
-    after_next x lt is c d = subst (λ ys. Clean (each_after f [] ys)) (sym (next_take xs i x lt is)) (after_more [] (take i xs) x c d)
+    after_next x lt is c d = subst (λ ys. Clean (each_after f [] ys)) (sym (taken_next xs i x lt is)) (after_more [] (take i xs) x c d)
 
     pub after_stops : (x : A) (e : F) → i < length xs → x ≡ get_or xs i x → Clean (each_after f [] (take i xs)) → First (f (take i xs) x) e → First (each_after f [] xs) e
-    after_stops x e lt is c h = subst (λ ys. First (each_after f [] ys) e) (split_at xs i x lt is) (after_fault [] (take i xs) (drop (suc i) xs) x e c h)
+    after_stops x e lt is c h = subst (λ ys. First (each_after f [] ys) e) (parted_at xs i x lt is) (after_fault [] (take i xs) (drop (suc i) xs) x e c h)
 
     pub after_end : length xs ≤ i → Clean (each_after f [] (take i xs)) → Clean (each_after f [] xs)
     after_end end c = subst (λ ys. Clean (each_after f [] ys)) (take_all i xs end) c

@@ -16,7 +16,7 @@ In x (y ∷ ys) = (x ≡ y) ⊎ In x ys
 abbrev pub Agree : List Guard → List Guard → Type 0
 Agree gs hs = (a b : Guard) → In a gs → In b hs → a.test ≡ b.test → a.wanted ≡ b.wanted
 
-eqb_self : (n : ℕ) → (n == n) ≡ true
+pub eqb_self : (n : ℕ) → (n == n) ≡ true
 eqb_self n = grind (arith, nat_tests)
 
 and_true : (a b : Bool) → a ≡ true → b ≡ true → (a && b) ≡ true

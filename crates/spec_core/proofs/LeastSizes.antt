@@ -4,7 +4,6 @@ use Rattle.std.specs.Prelude.{slice_index}
 use Rattle.std.specs.List.{AllByRecursion}
 use Rattle.std.proofs.lemmas.List.{take_more}
 use Rattle.std.proofs.lemmas.Bool.{cases_lt}
-use Rattle.std.proofs.lemmas.Bool.Decides.{nat_tests}
 use Rattle.term_core.specs.Tree.{Tree, Trees, var, app, none, some, tree_size, sizes}
 use Rattle.term_core.specs.declared.ids.SortId.{SortId}
 use Rattle.spec_core.specs.declared.records.SymInfo.{SymInfo}
@@ -30,10 +29,6 @@ pub all_at : (P : SortId → Type 0) (ss : List SortId) (i : ℕ) (d : SortId) �
 all_at P [] i d a h = absurd (omega arith)
 all_at P (x ∷ xs) zero d a h = a.0
 all_at P (x ∷ xs) (suc i) d a h = all_at P xs i d a.1 (omega arith)
-
--- below the next number is below this one, or this one
-pub split_at : (k i : ℕ) → k < i + 1 → (k < i) ⊎ (k ≡ i)
-split_at k i h = grind (arith, nat_tests)
 
 module _ (sig : Sig) (least : List ℕ) where
   module _ (settled : AreSettled sig least) where

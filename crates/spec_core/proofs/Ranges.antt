@@ -1,14 +1,11 @@
 -- The sorts of what is declared are in range.
-use Rattle.std.proofs.Common.{◌≡◌, ℕ, zero, suc, ◌+◌, List, [], ◌∷◌, ◌++◌, Some, None, subst, arith, length}
+use Rattle.std.proofs.Common.{◌≡◌, ℕ, zero, suc, ◌+◌, List, [], ◌∷◌, ◌++◌, Some, None, sym, subst, arith, length}
 use Rattle.std.specs.Prelude.{slice_get, option_map}
 use Rattle.std.specs.List.{AllByRecursion}
 use Rattle.spec_core.specs.declared.records.SymInfo.{SymInfo}
-use Rattle.spec_core.specs.Sig.{SortsAreInRange}
-use Rattle.spec_core.specs.Declarations.{IsBelow, declared_by, bool_symbols, all_symbols}
-
-all_append : {A : Type 0} (P : A → Type 0) (xs ys : List A) → AllByRecursion P xs → AllByRecursion P ys → AllByRecursion P (xs ++ ys)
-all_append P [] ys a b = b
-all_append P (x ∷ xs) ys a b = (a.0, all_append P xs ys a.1 b)
+use Rattle.spec_core.specs.Sig.{Sig, SortsAreInRange}
+use Rattle.spec_core.specs.Declarations.{IsBelow, IsDeclared, declared_by, bool_symbols, all_symbols}
+use Rattle.term_core.proofs.Items.{all_append}
 
 -- what holds of each declaration holds of what a symbol is declared with
 at : (n : ℕ) (es : List (List ℕ × SymInfo)) (f : ℕ) (i : SymInfo) → AllByRecursion (IsBelow n) es → option_map (λ (e : List ℕ × SymInfo). e.1) (slice_get es f) ≡ Some i → IsBelow n ([], i)
@@ -27,3 +24,7 @@ declared_in_range sorts cs fs c d f i e =
     let bools : AllByRecursion (IsBelow n) bool_symbols = ((omega arith, tt), ((omega arith, tt), tt)) in
     let all = all_append (IsBelow n) bool_symbols (cs ++ fs) bools (all_append (IsBelow n) cs fs c d) in
     subst (λ k. IsBelow k ([], i)) m (at n (all_symbols cs fs) f i all e)
+
+-- so are those of each declared signature
+pub sorts_in_range : (sig : Sig) → IsDeclared sig → SortsAreInRange sig
+sorts_in_range sig d = subst SortsAreInRange (sym d.is) (declared_in_range d.sorts d.constructors d.functions d.constructors_in_range d.functions_in_range)

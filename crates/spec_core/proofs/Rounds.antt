@@ -1,7 +1,6 @@
 -- A round over the constructors lowers a number, or all are settled.
 use Rattle.std.proofs.Common.{◌≡◌, ◌≢◌, ℕ, ◌+◌, ◌<◌, ◌≤◌, List, Bool, true, false, Some, ◌⊎◌, inl, inr, ap, sym, ◌∙◌, subst, arith, length, min, set, length-set, get_or-set_same, get_or-set_other}
 use Rattle.std.specs.Prelude.{slice_index, sum, MatchBool}
-use Rattle.std.proofs.lemmas.Bool.Decides.{nat_tests}
 use Rattle.std.proofs.lemmas.List.Sums.{sum_by-set}
 use Rattle.term_core.specs.Tree.{app}
 use Rattle.spec_core.specs.declared.records.SymInfo.{SymInfo}
@@ -9,18 +8,16 @@ use Rattle.spec_core.specs.Sig.{Sig, info_of, IsConstructor, SortsAreInRange}
 use Rattle.spec_core.specs.Sorts.{IsValue}
 use Rattle.spec_core.specs.Small.{sort_of_number}
 use Rattle.spec_core.specs.Sizes.{sum_of, IsReached, AreReached, IsSettledAt, AreSettled}
-use Rattle.spec_core.proofs.LeastSizes.{split_at, reach_made}
-
-pub same_or_not : (k i : ℕ) → (k ≡ i) ⊎ (k ≢ i)
-same_or_not k i = grind (arith, nat_tests)
+use Rattle.spec_core.proofs.LeastSizes.{reach_made}
+use Rattle.term_core.proofs.Numbers.{same_or_not, below_or_last}
 
 -- a number that falls makes the sum less
-sum_set : (xs : List ℕ) (i v : ℕ) → i < length xs → v < slice_index xs i → sum (set xs i v) < sum xs
+pub sum_set : (xs : List ℕ) (i v : ℕ) → i < length xs → v < slice_index xs i → sum (set xs i v) < sum xs
 sum_set xs i v h l = omega (arith, sum_by-set (λ (n : ℕ). n) xs i v 0 h)
 
 -- one more constructor is settled
 settled_more : (sig : Sig) (least : List ℕ) (n : ℕ) (i : SymInfo) → info_of sig n ≡ Some i → slice_index least i.result.0 ≤ min (1 + sum_of least i.args) 256 → ((c : ℕ) → c < n → IsSettledAt sig least c) → (c : ℕ) → c < n + 1 → IsSettledAt sig least c
-settled_more sig least n i e l before c h = by (split_at c n h)
+settled_more sig least n i e l before c h = by (below_or_last c n h)
   where
     by : (c < n) ⊎ (c ≡ n) → IsSettledAt sig least c
     by (inl b) = before c b

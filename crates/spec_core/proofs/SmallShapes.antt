@@ -10,17 +10,14 @@ use Rattle.spec_core.specs.Small.{HasSmallValue, IsFirstWithout, Makes, IsSmall,
 use Rattle.spec_core.specs.Declarations.{bool_sort, bool_symbol}
 use Rattle.spec_core.specs.Naturals.{nat, declares, naturals_sig, zero_term}
 use Rattle.spec_core.specs.Shapes.{shape, shape_symbol, tree_sig, color_sig, wide_sig}
-
-some_symbols : (t : Tree) → 1 ≤ tree_size t
-some_symbols (var n) = omega arith
-some_symbols (app f ts) = omega arith
+use Rattle.term_core.proofs.Trees.{size_positive}
 
 module _ (sig : Sig) where
   sizes_long : (ts : Trees) (ss : List SortId) → SortedAll sig [] ts ss → length ss ≤ sizes ts
   sizes_long none [] p = omega arith
   sizes_long none (s ∷ ss) p = absurd p
   sizes_long (some t ts) [] p = absurd p
-  sizes_long (some t ts) (s ∷ ss) p = omega (arith, some_symbols t, sizes_long ts ss p.1)
+  sizes_long (some t ts) (s ∷ ss) p = omega (arith, size_positive t, sizes_long ts ss p.1)
 
   module _ (f : ℕ) (j : SymInfo) (at : info_of sig f ≡ Some j) (ts : Trees) (s : SortId) (sorted : Sorted sig [] (app f ts) s) where
     is : j ≡ sorted.0
@@ -38,7 +35,7 @@ module _ (sig : Sig) where
   first_constant : (f : ℕ) (j : SymInfo) → IsConstructor sig f → info_of sig f ≡ Some j → j.args ≡ [] → ((d : ℕ) → d < f → Makes sig d j.result 1 → ⊥) → IsSmall sig j.result (app f none)
   first_constant f j c at a before =
       let v : IsValue sig j.result (app f none) = ((j, at, refl, subst (λ ss. SortedAll sig [] none ss) (sym a) tt), (c, tt)) in
-      ((1, ((app f none, v, refl), λ t _. some_symbols t), (none, v, refl), before), (j, at, subst (λ ss. AreSmall sig ss none) (sym a) tt))
+      ((1, ((app f none, v, refl), λ t _. size_positive t), (none, v, refl), before), (j, at, subst (λ ss. AreSmall sig ss none) (sym a) tt))
 
   -- the constructors of Bool make no value of another sort
   no_boolean : info_of sig 0 ≡ Some bool_symbol → info_of sig 1 ≡ Some bool_symbol → (d : ℕ) → d < 2 → (ts : Trees) → Sorted sig [] (app d ts) shape → ⊥

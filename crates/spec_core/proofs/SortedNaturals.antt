@@ -12,6 +12,7 @@ use Rattle.spec_core.specs.Small.{HasSmallValue, AllHaveSmallValues, IsFirstWith
 use Rattle.spec_core.specs.Declarations.{AreFresh, IsDeclared, bool_symbol}
 use Rattle.spec_core.specs.WellSorted.{RuleIsSorted, GoalIsSorted, GoalNamesAreDistinct, IsWellSorted, HasFewArguments, Occurs}
 use Rattle.spec_core.specs.Naturals.{nat, declares, nat_sorts, nat_constructors, nat_function, naturals_sig, repeated_sig, endless_sig, naturals, twice, plus_zero_rule, plus_succ_rule, loose_rule, same_goal, unit_goal, mixed_goal, zero_term, plus_term}
+use Rattle.term_core.proofs.Items.{all_at}
 
 -- The signature.
 
@@ -75,7 +76,7 @@ no_small_value = record {
   before = before_nat;
 }
 
-all_infos : (P : SymInfo → Type 0) (es : List (List ℕ × SymInfo)) → AllByRecursion (λ (e : List ℕ × SymInfo). P e.1) es → (f : ℕ) (i : SymInfo) → option_map (λ (e : List ℕ × SymInfo). e.1) (slice_get es f) ≡ Some i → P i
+pub all_infos : (P : SymInfo → Type 0) (es : List (List ℕ × SymInfo)) → AllByRecursion (λ (e : List ℕ × SymInfo). P e.1) es → (f : ℕ) (i : SymInfo) → option_map (λ (e : List ℕ × SymInfo). e.1) (slice_get es f) ≡ Some i → P i
 all_infos P [] h f i at = absurd (let q : None ≡ Some i = at in cc)
 all_infos P (e ∷ es) h zero i at =
     let q : Some (e.1) ≡ Some i = at in
@@ -88,11 +89,11 @@ few_arguments = all_infos (λ (i : SymInfo). length i.args ≤ 8) naturals_sig.t
 
 -- The rules.
 
-one_bound : (left : Tree) → Occurs 0 left → (k : ℕ) → k < 1 → Occurs k left
+pub one_bound : (left : Tree) → Occurs 0 left → (k : ℕ) → k < 1 → Occurs k left
 one_bound left a zero h = a
 one_bound left a (suc k) h = absurd (omega arith)
 
-two_bound : (left : Tree) → Occurs 0 left → Occurs 1 left → (k : ℕ) → k < 2 → Occurs k left
+pub two_bound : (left : Tree) → Occurs 0 left → Occurs 1 left → (k : ℕ) → k < 2 → Occurs k left
 two_bound left a b zero h = a
 two_bound left a b (suc zero) h = b
 two_bound left a b (suc (suc k)) h = absurd (omega arith)
@@ -135,15 +136,6 @@ loose_rule_is_not r = no_second (r.bound 1 (omega arith))
 
 abbrev OneSort : List SortId → Equation → Type 0
 OneSort ctx e = (s : SortId) × Sorted naturals_sig ctx e.left s × Sorted naturals_sig ctx e.right s
-
--- what holds of each item holds of the one at a place
-all_at : {X : Type 0} (P : X → Type 0) (xs : List X) → AllByRecursion P xs → (i : ℕ) (x : X) → slice_get xs i ≡ Some x → P x
-all_at P [] h i x at = absurd (let q : None ≡ Some x = at in cc)
-all_at P (y ∷ xs) h zero x at =
-    let q : Some y ≡ Some x = at in
-    let k : y ≡ x = cc in
-    subst P k h.0
-all_at P (y ∷ xs) h (suc i) x at = all_at P xs h.1 i x at
 
 pub same_goal_is_sorted : GoalIsSorted naturals_sig same_goal
 same_goal_is_sorted = record {

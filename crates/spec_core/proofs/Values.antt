@@ -1,9 +1,8 @@
 -- Evaluation of what is built of constructors, and of a call with values.
-use Rattle.std.proofs.Common.{◌≡◌, ℕ, zero, suc, ◌+◌, ◌<◌, ◌≤◌, List, [], ◌∷◌, Some, ◌⊎◌, inl, inr, refl, ap, sym, ◌∙◌, subst, arith, get_or}
+use Rattle.std.proofs.Common.{◌≡◌, ℕ, zero, suc, ◌+◌, ◌<◌, ◌≤◌, List, [], ◌∷◌, Some, inl, inr, refl, ap, sym, ◌∙◌, subst, arith, get_or}
 use Rattle.std.specs.Prelude.{slice_get, length}
 use Rattle.std.specs.List.{AllByRecursion}
 use Rattle.std.proofs.lemmas.List.Elements.{recursion_from_All}
-use Rattle.std.proofs.lemmas.Bool.Decides.{nat_tests}
 use Rattle.term_core.specs.Tree.{Tree, Trees, var, app, none, some, instance, instances}
 use Rattle.term_core.specs.declared.ids.SortId.{SortId}
 use Rattle.spec_core.specs.declared.records.Rule.{Rule}
@@ -15,6 +14,7 @@ use Rattle.spec_core.specs.WellSorted.{IsWellSorted, Numbered, NumberedAll, Occu
 use Rattle.spec_core.specs.Overlap.{NoOverlap}
 use Rattle.spec_core.specs.Groups.{GroupsAreWhole}
 use Rattle.spec_core.proofs.Determined.{left_symbol, determined_all}
+use Rattle.term_core.proofs.Numbers.{below_or_not}
 
 module _ (spec : Spec) where
   mutual
@@ -29,9 +29,6 @@ module _ (spec : Spec) where
 
   pub var_gives_not : {n k : ℕ} {v : Tree} → Gives spec (var n) v k → ⊥
   var_gives_not g = elim g [ ]
-
-split_lt : (n m : ℕ) → (n < m) ⊎ (m ≤ n)
-split_lt n m = grind (arith, nat_tests)
 
 module _ (spec : Spec) (fine : IsWellSorted spec) where
   mutual
@@ -72,14 +69,14 @@ module _ (spec : Spec) (fine : IsWellSorted spec) (apart : NoOverlap spec) (whol
       (1 + 0 + g + k, called number rule values (built_give spec vs b) at bs back gs right refl, omega (arith, r.1))
 
 mutual
-  numbered_occurs : (k m : ℕ) (t : Tree) → Numbered k t m → (n : ℕ) → k ≤ n → n < m → Occurs n t
+  pub numbered_occurs : (k m : ℕ) (t : Tree) → Numbered k t m → (n : ℕ) → k ≤ n → n < m → Occurs n t
   numbered_occurs k m (var j) (inl h) n a b = absurd (omega arith)
   numbered_occurs k m (var j) (inr h) n a b = omega arith
   numbered_occurs k m (app f ts) h n a b = numbered_occur k m ts h n a b
 
-  numbered_occur : (k m : ℕ) (ts : Trees) → NumberedAll k ts m → (n : ℕ) → k ≤ n → n < m → OccursAny n ts
+  pub numbered_occur : (k m : ℕ) (ts : Trees) → NumberedAll k ts m → (n : ℕ) → k ≤ n → n < m → OccursAny n ts
   numbered_occur k m none h n a b = absurd (omega arith)
-  numbered_occur k m (some t ts) h n a b = elim (split_lt n h.0) [
+  numbered_occur k m (some t ts) h n a b = elim (below_or_not n h.0) [
     | inl c ↦ inl (numbered_occurs k h.0 t h.1 n a c)
     | inr c ↦ inr (numbered_occur h.0 m ts h.2 n c b)
   ]

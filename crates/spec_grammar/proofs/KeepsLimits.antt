@@ -23,6 +23,7 @@ use Rattle.spec_grammar.specs.Limits.{over, or_else, name_mark, constructor_mark
 use Rattle.spec_grammar.specs.Grammar.{Marked, sign, name_text, term_text, args_text, more_text, more_names_text, names_text, con_text, constructors_text, AreSorts, funs_text, guards_text, sides_text, rules_text, commas_text, premises_text, bars_text, conclusions_text, IsClause, bind_text, more_binds_text, binds_text, AreGoals, IsSpecText, IsTermText}
 use Rattle.spec_grammar.specs.Derives.{clean, Derives, TextDerives}
 use Rattle.spec_grammar.specs.KeepsLimits.{raw_depth, raw_depths, raw_count, WordsKeepLimits, AllWordsKeepLimits, TermKeepsLimits, NameKeepsLimits, NamesKeepLimits, SortKeepsLimits, FunctionKeepsLimits, RuleKeepsLimits, EquationKeepsLimits, BindKeepsLimits, GoalKeepsLimits, KeepsLimits}
+use Rattle.spec_grammar.proofs.Stacks.{limit_none}
 
 -- no token passes a limit
 abbrev HasNoMark : List Marked → Type 0
@@ -33,24 +34,20 @@ HasNoMark-clean : (items : List Item) → HasNoMark (clean items)
 HasNoMark-clean [] = tt
 HasNoMark-clean (x ∷ items) = (refl, HasNoMark-clean items)
 
--- what a place without a mark says
-some_none : {why : LimitKind} → ◌≡◌ {A = Option LimitKind} (Some why) None → ⊥
-some_none e = cc
-
 over_test : (b : Bool) (n most : ℕ) (why : LimitKind) → nat_le most n ≡ b → cond {A = Option LimitKind} b (Some why) None ≡ None → n < most
-over_test true n most why e h = absurd (some_none h)
+over_test true n most why e h = absurd (limit_none h)
 over_test false n most why e h = leb-false most n e
 
 over_none : (n most : ℕ) (why : LimitKind) → over n most why ≡ None → n < most
 over_none n most why h = over_test (nat_le most n) n most why refl h
 
 or_else_none : (m k : Option LimitKind) → or_else m k ≡ None → (m ≡ None) × (k ≡ None)
-or_else_none (Some why) k h = absurd (some_none h)
+or_else_none (Some why) k h = absurd (limit_none h)
 or_else_none None k h = (refl, h)
 
 name_test : (b : Bool) (n : ℕ) (m : Option LimitKind) → nat_le n 64 ≡ b → cond {A = Option LimitKind} b m (Some limit.Name) ≡ None → (n ≤ 64) × (m ≡ None)
 name_test true n m e h = (leb-true n 64 e, h)
-name_test false n m e h = absurd (some_none h)
+name_test false n m e h = absurd (limit_none h)
 
 name_none : (name : List ℕ) (m : Option LimitKind) → name_mark name m ≡ None → (length name ≤ 64) × (m ≡ None)
 name_none name m h = name_test (nat_le (length name) 64) (length name) m refl h

@@ -39,8 +39,14 @@ some_is e = cc
 pub none_some : {f : Fault} → ◌≡◌ {A = Option Fault} None (Some f) → ⊥
 none_some e = cc
 
-limit_none : {why : LimitKind} → ◌≡◌ {A = Option LimitKind} (Some why) None → ⊥
+pub limit_none : {why : LimitKind} → ◌≡◌ {A = Option LimitKind} (Some why) None → ⊥
 limit_none e = cc
+
+pub none_limit : {why : LimitKind} → ◌≡◌ {A = Option LimitKind} None (Some why) → ⊥
+none_limit e = cc
+
+pub limit_is : {a b : LimitKind} → ◌≡◌ {A = Option LimitKind} (Some a) (Some b) → a ≡ b
+limit_is e = cc
 
 left_is : {f g : Fault} → Some f ≡ Some g → f.0 ≡ g.0
 left_is e = ap (λ (g : Fault). g.0) (some_is e)
@@ -65,13 +71,13 @@ taken : (m : Option LimitKind) (s : List Symbol) (n l : ℕ) (next : List Symbol
 taken None s n l next ih h = ih h
 taken (Some why) s n l next ih h = limit_none (ap (λ (g : Fault). g.1) (some_is h))
 
-heads : {x y : Item} {xs ys : List Item} → x ∷ xs ≡ y ∷ ys → x ≡ y
+pub heads : {x y : Item} {xs ys : List Item} → x ∷ xs ≡ y ∷ ys → x ≡ y
 heads e = cc
 
-tails : {x y : Item} {xs ys : List Item} → x ∷ xs ≡ y ∷ ys → xs ≡ ys
+pub tails : {x y : Item} {xs ys : List Item} → x ∷ xs ≡ y ∷ ys → xs ≡ ys
 tails e = cc
 
-nil_cons : {x : Item} {xs : List Item} → ◌≡◌ {A = List Item} [] (x ∷ xs) → ⊥
+pub nil_cons : {x : Item} {xs : List Item} → ◌≡◌ {A = List Item} [] (x ∷ xs) → ⊥
 nil_cons e = cc
 
 -- no text goes on with a token at which the machine has a syntax fault

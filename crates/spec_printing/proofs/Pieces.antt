@@ -26,6 +26,7 @@ use Rattle.spec_grammar.specs.Grammar.{Marked}
 use Rattle.spec_grammar.specs.Derives.{clean}
 use Rattle.spec_printing.proofs.Plain.{IsGood, AllGood}
 use Rattle.spec_printing.proofs.Moved.{Step, Moved}
+use Rattle.spec_text.proofs.SpanLemmas.{and_parts}
 
 -- how a key is written; a stray token as a word that is reserved for later formats
 abbrev pub key_kind : Key → TokenKind
@@ -116,11 +117,6 @@ opens (Sign key) = key_opens key
 abbrev pub pieces : Bool → List Marked → List Written
 pieces inner [] = []
 pieces inner (x ∷ w) = record { gap = gap_of inner x.0; text = item_text x.0; kind = item_kind x.0 } ∷ pieces (opens x.0) w
-
--- reserved words are names
-and_parts : (a b : Bool) → (a && b) ≡ true → (a ≡ true) × (b ≡ true)
-and_parts true b e = (refl, e)
-and_parts false b e = absurd (let q : false ≡ true = e in cc)
 
 abbrev is_letter : ℕ → Bool
 is_letter c = nat_lt c 128 && (is_ascii_alphanumeric c || (c == 95))

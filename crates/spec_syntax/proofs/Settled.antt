@@ -11,7 +11,7 @@ use Rattle.spec_grammar.specs.Grammar.{Marked}
 use Rattle.spec_grammar.specs.Derives.{place_of, IsFault, TextDerives, TextHasFault}
 use Rattle.spec_grammar.specs.Symbols.{Symbol, Fault, run}
 use Rattle.spec_grammar.proofs.ItemLemmas.{length-items_of}
-use Rattle.spec_grammar.proofs.Stacks.{Agrees, some_is, none_some}
+use Rattle.spec_grammar.proofs.Stacks.{Agrees, some_is, none_some, limit_none, limit_is, heads, tails, nil_cons}
 use Rattle.spec_grammar.proofs.Means.{MeansTo}
 use Rattle.spec_grammar.proofs.Readings.{fault_stops, derived_or_fault, one_derived}
 use Rattle.spec_grammar.proofs.Whole.{refused, derived_run}
@@ -24,18 +24,9 @@ use Rattle.spec_syntax.specs.Wholes.{place_left, StopsAt, Settles}
 abbrev Split : List ℕ → List Token → List Item → List Item → Type 0
 Split bytes tokens done left = (before : List Token) × (after : List Token) × (tokens ≡ before ++ after) × (items_of bytes before ≡ done) × (items_of bytes after ≡ left)
 
-cons_nil : {x : Item} {xs : List Item} → ◌≡◌ {A = List Item} [] (x ∷ xs) → ⊥
-cons_nil e = cc
-
-heads : {x y : Item} {xs ys : List Item} → x ∷ xs ≡ y ∷ ys → x ≡ y
-heads e = cc
-
-tails : {x y : Item} {xs ys : List Item} → x ∷ xs ≡ y ∷ ys → xs ≡ ys
-tails e = cc
-
 split : (bytes : List ℕ) (tokens : List Token) (done left : List Item) → items_of bytes tokens ≡ done ++ left → Split bytes tokens done left
 split bytes tokens [] left e = ([], tokens, refl, refl, e)
-split bytes [] (x ∷ done) left e = absurd (cons_nil e)
+split bytes [] (x ∷ done) left e = absurd (nil_cons e)
 split bytes (t ∷ tokens) (x ∷ done) left e =
     let r = split bytes tokens done left (tails e) in
     (t ∷ r.0, r.1, ap (λ (ts : List Token). t ∷ ts) r.2, ap (λ (y : Item). y ∷ items_of bytes r.0) (heads e) ∙ ap (λ (ys : List Item). x ∷ ys) r.3, r.4)
@@ -67,12 +58,6 @@ module _ {R : Type 0} (start : List Symbol) (IsText : R → List Marked → Type
   derived_or_stop r at why d h =
       let same = one_list bytes d.0 h.0 d.1 h.2 in
       none_some (sym (derived_run start IsText agrees means (items_of bytes d.0) r d.2) ∙ ap (λ (ts : List Token). run start (items_of bytes ts)) same ∙ h.3)
-
-  limit_none : {why : LimitKind} → ◌≡◌ {A = Option LimitKind} (Some why) None → ⊥
-  limit_none e = cc
-
-  limit_is : {a b : LimitKind} → ◌≡◌ {A = Option LimitKind} (Some a) (Some b) → a ≡ b
-  limit_is e = cc
 
   -- the clauses of a reader
   pub is_derived : (result : Result R SyntaxFault) → Settles IsText start bytes result → IfOk result (TextDerives IsText bytes)

@@ -13,6 +13,7 @@ use Rattle.spec_grammar.specs.Symbols.{Symbol, name, names, sorts, run}
 use Rattle.spec_syntax.specs.Reading.{Lacks}
 use Rattle.spec_syntax.specs.ReadingSorts.{begun_text, sort_text, sort_symbols}
 use Rattle.spec_syntax.proofs.Grow.{next_is}
+use Rattle.spec_grammar.proofs.Stacks.{limit_none}
 
 -- a bar goes on with a sort that has constructors
 pub bar_takes : (n k t : ℕ) (items next : List Item) (st : List Symbol) → 0 < k → items ≡ Sign Bar ∷ next → run (sorts n k t ∷ st) items ≡ run (name (constructor_mark k t) ∷ names ∷ sorts n (k + 1) (t + 1) ∷ st) next
@@ -39,15 +40,12 @@ sorts_end n k t (Sign Sort ∷ items) st h b = absurd (h refl)
 sorts_end n k t (Sign Bar ∷ items) st h b = bar_skips n k t items st b
 sorts_end n k t (Sign _ ∷ items) st h b = refl
 
-some_none : {why : LimitKind} → ◌≡◌ {A = Option LimitKind} (Some why) None → ⊥
-some_none e = cc
-
 few_over : (b : Bool) (t : ℕ) → nat_le 500 t ≡ b → cond {A = Option LimitKind} b (Some limit.Constructors) None ≡ None → t < 500
-few_over true t e h = absurd (some_none h)
+few_over true t e h = absurd (limit_none h)
 few_over false t e h = let lt = leb-false 500 t e in omega (arith, lt)
 
 few_first : (b : Bool) (t : ℕ) → or_else (cond {A = Option LimitKind} b (Some limit.Constructors) None) (over t 500 limit.Constructors) ≡ None → t < 500
-few_first true t h = absurd (some_none h)
+few_first true t h = absurd (limit_none h)
 few_first false t h = few_over (nat_le 500 t) t refl h
 
 -- a constructor that passes no limit

@@ -29,7 +29,7 @@ few : (from end : ℕ) (ts : List Token) → InOrder from end ts → from + leng
 few from end [] h = omega arith
 few from end (t ∷ ts) h = let rest = few (t.at + t.len) end ts h.2 in omega (arith, h.0, h.1, rest)
 
-and_parts : (a b : Bool) → (a && b) ≡ true → (a ≡ true) × (b ≡ true)
+pub and_parts : (a b : Bool) → (a && b) ≡ true → (a ≡ true) × (b ≡ true)
 and_parts true b e = (refl, e)
 and_parts false b e = absurd (let q : false ≡ true = e in cc)
 

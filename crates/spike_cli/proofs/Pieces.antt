@@ -16,18 +16,12 @@ use Rattle.io_core.specs.declared.faults.WriteError.{WriteError}
 use Rattle.io_core.specs.declared.faults.WriteError.TheVariants as write
 use Rattle.spike_cli.specs.Stops.{Stopped, stop_of}
 use Rattle.spike_cli.specs.Texts.{claim_text, header_text, begun_text}
+use Rattle.io_core.proofs.Pieces.{Appended-append, AppendedPrefix-append}
+use Rattle.io_core.proofs.Counts.{Rose-after}
 
 pub nothing_appended : (old : Option (List ℕ)) → Appended old old []
 nothing_appended None = refl
 nothing_appended (Some w) = ap (λ x. Some x) (sym (append-nil w))
-
-pub appended_more : (old middle new : Option (List ℕ)) (a b : List ℕ) → Appended old middle a → Appended middle new b → Appended old new (a ++ b)
-appended_more None middle new a b p q = q ∙ ap (λ o. option_map (λ w. w ++ b) o) p
-appended_more (Some w) middle new a b p q = q ∙ ap (λ o. option_map (λ w. w ++ b) o) p ∙ ap (λ x. Some x) (append_assoc w a b)
-
-pub prefix_more : (old middle new : Option (List ℕ)) (a b : List ℕ) → Appended old middle a → AppendedPrefix middle new b → AppendedPrefix old new (a ++ b)
-prefix_more old middle new a b p q =
-    (length a + q.0, omega (arith, length-append a b), subst (λ x. Appended old new x) (sym (take-append-add a b q.0)) (appended_more old middle new a (take q.0 b) p q.2))
 
 pub whole_prefix : (old new : Option (List ℕ)) (a : List ℕ) → Appended old new a → AppendedPrefix old new a
 whole_prefix old new a p = (length a, omega arith, subst (λ x. Appended old new x) (sym (take-length a)) p)
@@ -35,14 +29,10 @@ whole_prefix old new a p = (length a, omega arith, subst (λ x. Appended old new
 -- a part of what follows a text is a part of both together
 pub part_more : (P Q : List ℕ → Type 0) (old middle new : Option (List ℕ)) (a : List ℕ) → Appended old middle a → Q a → ((t : List ℕ) → P t → Q (a ++ t)) → AppendsPartOf P middle new → AppendsPartOf Q old new
 part_more P Q old middle new a p q both (inl e) = inr (a, q, whole_prefix old new a (e ∙ p))
-part_more P Q old middle new a p q both (inr r) = inr (a ++ r.0, both r.0 r.1, prefix_more old middle new a r.0 p r.2)
-
-pub rose_more : (a b c : ℕ) → a ≤ b → Rose b c → Rose a c
-rose_more a b c h (inl r) = inl (omega arith)
-rose_more a b c h (inr r) = inr r
+part_more P Q old middle new a p q both (inr r) = inr (a ++ r.0, both r.0 r.1, AppendedPrefix-append old middle new a r.0 p r.2)
 
 pub stopped_more : (P Q : List ℕ → Type 0) (old middle new : Option (List ℕ)) (a : List ℕ) (i j k : ℕ) (stop : Stop) → i ≤ j → Appended old middle a → Q a → ((t : List ℕ) → P t → Q (a ++ t)) → Stopped middle new j k P stop → Stopped old new i k Q stop
-stopped_more P Q old middle new a i j k WriteFault h p q both s = (rose_more i j k h s.0, part_more P Q old middle new a p q both s.1)
+stopped_more P Q old middle new a i j k WriteFault h p q both s = (Rose-after i j k h s.0, part_more P Q old middle new a p q both s.1)
 stopped_more P Q old middle new a i j k OutOfMemory h p q both s = part_more P Q old middle new a p q both s
 
 pub begun_text-more : (steps : ℕ) (sig : Sig) (claims : List Claim) (claim : Claim) → begun_text steps sig (claims ++ claim ∷ []) ≡ begun_text steps sig claims ++ claim_text sig claim

@@ -1,18 +1,15 @@
 -- The entries of a composition.
-use Rattle.std.proofs.Common.{◌≡◌, ℕ, ◌<◌, ◌≤◌, ◌+◌, max, ◌⊎◌, inl, inr, List, [], ◌∷◌, ◌++◌, Option, Some, None, refl, ap, ◌∙◌, length, unwrap_or, option_map, arith}
+use Rattle.std.proofs.Common.{◌≡◌, ℕ, ◌<◌, ◌+◌, max, inl, inr, List, [], ◌∷◌, ◌++◌, Option, Some, None, refl, ap, ◌∙◌, length, unwrap_or, option_map, arith}
 use Rattle.std.specs.Option.{option_or}
 use Rattle.std.proofs.lemmas.List.{get_or_past, get_or_push, get_or_append_left}
-use Rattle.std.proofs.lemmas.Bool.Decides.{nat_tests}
 use Rattle.term_core.specs.Tree.{Tree, var}
 use Rattle.substitutions.specs.Substitution.{entry, apply, IsComposed}
 use Rattle.substitutions.proofs.Instances.{composed_from_images}
+use Rattle.term_core.proofs.Numbers.{below_or_not}
 
 -- the instance of the entry of the first, or the entry of the second where the first has none
 abbrev pub composed_entry : List (Option Tree) → List (Option Tree) → ℕ → Option Tree
 composed_entry first second n = option_or (option_map (apply second) (entry first n)) (entry second n)
-
-below_or_not : (n m : ℕ) → (n < m) ⊎ (m ≤ n)
-below_or_not n m = grind (arith, nat_tests)
 
 image_of : (second : List (Option Tree)) (n : ℕ) (o : Option Tree) → unwrap_or (option_or (option_map (apply second) o) (entry second n)) (var n) ≡ apply second (unwrap_or o (var n))
 image_of second n None = refl

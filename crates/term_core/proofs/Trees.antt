@@ -2,7 +2,7 @@ use Rattle.std.proofs.Common.{◌≡◌, zero, suc, ◌≤◌, ◌<◌, ◌++◌
 use Rattle.std.proofs.Math.Seq.{take-length}
 use Rattle.std.proofs.lemmas.List.{take_more, take_all, length-take, length-drop}
 use Rattle.term_core.specs.Measure.{weight, list_weight}
-use Rattle.term_core.specs.Tree.{Tree, Trees, app, none, some, trees_of, list_of, tree_size, sizes, tree_depth, depths}
+use Rattle.term_core.specs.Tree.{Tree, Trees, var, app, none, some, instance, instances, trees_of, list_of, tree_size, sizes, tree_depth, depths}
 
 pub list_of-trees_of : (ts : List Tree) → list_of (trees_of ts) ≡ ts
 list_of-trees_of [] = refl
@@ -14,6 +14,23 @@ trees_of-list_of (some t ts) = ap (λ us. some t us) (trees_of-list_of ts)
 
 pub trees_of-inj : (xs ys : List Tree) → trees_of xs ≡ trees_of ys → xs ≡ ys
 trees_of-inj xs ys e = sym (list_of-trees_of xs) ∙ ap (λ us. list_of us) e ∙ list_of-trees_of ys
+
+pub size_positive : (t : Tree) → 1 ≤ tree_size t
+size_positive (var n) = omega arith
+size_positive (app f ts) = omega arith
+
+mutual
+  -- nothing is exchanged without entries
+  pub instance_none : (t : Tree) → instance [] t ≡ t
+  instance_none (var n) = refl
+  instance_none (app f ts) = ap (λ us. app f us) (instances_none ts)
+
+  pub instances_none : (ts : Trees) → instances [] ts ≡ ts
+  instances_none none = refl
+  instances_none (some t ts) =
+      let p = instance_none t in
+      let q = instances_none ts in
+      cc
 
 pub args_eq : {f g : ℕ} {xs ys : Trees} → app f xs ≡ app g ys → xs ≡ ys
 args_eq e = cc

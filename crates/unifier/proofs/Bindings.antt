@@ -1,8 +1,7 @@
 -- How matches of variables and of terms make matches of lists.
-use Rattle.std.proofs.Common.{◌≡◌, ◌≢◌, ℕ, List, [], ◌∷◌, Option, Some, None, Bool, true, false, IsTrue, ◌↔◌, ◌⊎◌, inl, inr, refl, sym, ◌∙◌, ap, subst, arith}
+use Rattle.std.proofs.Common.{◌≡◌, ◌≢◌, ℕ, List, [], ◌∷◌, Option, Some, None, Bool, true, false, IsTrue, ◌↔◌, ◌⊎◌, inl, inr, refl, sym, ◌∙◌, ap, subst}
 use Rattle.std.specs.Prelude.{Result, Ok, Err, IfOk}
 use Rattle.std.specs.Option.{IsSome}
-use Rattle.std.proofs.lemmas.Bool.Decides.{nat_tests}
 use Rattle.term_core.specs.declared.memory.OutOfMemory.{OutOfMemory}
 use Rattle.term_core.specs.Tree.{Tree, var, some, trees_of}
 use Rattle.spec_core.specs.WellSorted.{Occurs, OccursAny}
@@ -11,9 +10,7 @@ use Rattle.substitutions.specs.Updates.{IsSetTo}
 use Rattle.substitutions.proofs.Instances.{image_entry, apply_same}
 use Rattle.unifier.specs.Extending.{Binds, BindsAll}
 use Rattle.unifier.specs.Matching.{IsMatch, HasNoMatch}
-
-same_or_not : (m n : ℕ) → (m ≡ n) ⊎ (m ≢ n)
-same_or_not m n = grind (arith, nat_tests)
+use Rattle.term_core.proofs.Numbers.{same_or_not}
 
 entry_of : (o : Option Tree) → IsSome o → (t : Tree) × (o ≡ Some t)
 entry_of (Some t) h = (t, refl)

@@ -13,9 +13,9 @@ use Rattle.unifier.specs.Graph.{shape_at, trees_by, built, AllBelow, ArgsBelow, 
 use Rattle.unifier.specs.Roots.{root}
 use Rattle.unifier.specs.Cycles.{IsAcyclic}
 use Rattle.unifier.specs.Answer.{resolved, resolved_all, AreEntries}
-use Rattle.unifier.proofs.Cases.{lt_or_last, eq_or_not}
 use Rattle.unifier.proofs.Graphs.{below_most, trees_by-append}
 use Rattle.unifier.proofs.Resolutions.{unfolded_is}
+use Rattle.term_core.proofs.Numbers.{same_or_not, below_or_last}
 
 -- the same as AreEntries, for the first nodes
 pub record AreEntriesBelow (graph : List Shape) (roots : List ℕ) (count : ℕ) (entries : List (Option Tree)) : Type 0 where
@@ -37,14 +37,14 @@ module _ (graph : List Shape) (roots : List ℕ) where
       let at : shape_at graph node ≡ Var v = sym (get_or_read graph node s l read (Var (record { 0 = 0 }))) ∙ is in
       let own : IsNodeOf graph v.0 node = (l, subst (λ x. IsVariable v.0 x) (sym at) refl) in
       record {
-        filled = λ i n b at_i. elim (lt_or_last i node b) [
+        filled = λ i n b at_i. elim (below_or_last i node b) [
           | inl c ↦ ap (λ o. unwrap_or o (var n)) (put.1 n (λ q. absurd (omega (arith, one i node n at_i (subst (λ m. IsNodeOf graph m node) (sym q) own))))) ∙ h.filled i n c at_i
           | inr c ↦
               let other : IsNodeOf graph n node = subst (λ k. IsNodeOf graph n k) c at_i in
               let q : v.0 ≡ n = subst (λ x. IsVariable n x) at other.1 in
               ap (λ m. image after m) (sym q) ∙ ap (λ o. unwrap_or o (var v.0)) put.0 ∙ e ∙ ap (λ k. resolved graph roots (root roots k)) (sym c)
         ];
-        only = λ n x a. elim (eq_or_not n v.0) [
+        only = λ n x a. elim (same_or_not n v.0) [
           | inl q ↦
               let d : Some t ≡ Some x = sym put.0 ∙ ap (λ m. entry after m) (sym q) ∙ a in
               let k : x ≡ t = cc in
@@ -59,7 +59,7 @@ module _ (graph : List Shape) (roots : List ℕ) where
   pub entries_keep : (old : List (Option Tree)) (node : ℕ) (s : Shape) (v : VarId) → HasOneNodeEach graph → IsAcyclic graph roots → node < length graph → s ≡ get_or graph node s → s ≡ Var v → root roots node ≡ node → AreEntriesBelow graph roots node old → AreEntriesBelow graph roots (node + 1) old
   entries_keep old node s v one acyclic l read is own h =
       record {
-        filled = λ i n b at_i. elim (lt_or_last i node b) [
+        filled = λ i n b at_i. elim (below_or_last i node b) [
           | inl c ↦ h.filled i n c at_i
           | inr c ↦
               let other : IsNodeOf graph n node = subst (λ k. IsNodeOf graph n k) c at_i in
@@ -85,7 +85,7 @@ module _ (graph : List Shape) (roots : List ℕ) where
   entries_stay old node s f cs l read is h =
       let at : shape_at graph node ≡ App f cs = sym (get_or_read graph node s l read (Var (record { 0 = 0 }))) ∙ is in
       record {
-        filled = λ i n b at_i. elim (lt_or_last i node b) [
+        filled = λ i n b at_i. elim (below_or_last i node b) [
           | inl c ↦ h.filled i n c at_i
           | inr c ↦
               let other : IsNodeOf graph n node = subst (λ k. IsNodeOf graph n k) c at_i in

@@ -13,8 +13,8 @@ use Rattle.unifier.specs.declared.unification.graph.Shape.TheVariants.{Var, App}
 use Rattle.unifier.specs.Graph.{shape_at, built, ArgsBelow, IsVariable, IsNodeOf, HasNoNode, HasOneNodeEach}
 use Rattle.unifier.specs.Parts.{IsPart, IsPartOfAny}
 use Rattle.unifier.specs.Adding.{IsOf, Extends, Adds, AddsAll}
-use Rattle.unifier.proofs.Cases.{lt_or_last, lt_or_le}
 use Rattle.unifier.proofs.Graphs.{below_most, below-append, below_each, each_from, built_each, trees_by_below, trees_by-append}
+use Rattle.term_core.proofs.Numbers.{below_or_not, below_or_last}
 
 module _ (old : List Shape) (s : Shape) where
   shape_old : (i : ℕ) → i < length old → shape_at (old ++ s ∷ []) i ≡ shape_at old i
@@ -46,12 +46,12 @@ module _ (old : List Shape) (s : Shape) where
       longer = omega (arith, long);
       kept = after_old;
       is = record {
-        numbered = λ i l. elim (lt_or_last i (length old) (omega (arith, long))) [
+        numbered = λ i l. elim (below_or_last i (length old) (omega (arith, long))) [
           | inl b ↦ subst (λ x. ArgsBelow i x) (sym (shape_old i b)) (of.numbered i b)
           | inr e ↦ subst (λ k. ArgsBelow k (shape_at (old ++ s ∷ []) k)) (sym e) (subst (λ x. ArgsBelow (length old) x) (sym shape_last) args)
         ];
         variables = one;
-        depicts = λ i l. elim (lt_or_last i (length old) (omega (arith, long))) [
+        depicts = λ i l. elim (below_or_last i (length old) (omega (arith, long))) [
           | inl b ↦ after_old i b ∙ of.depicts i b ∙ same i (shape_at old i) (omega arith) (of.numbered i b) ∙ ap (λ x. built after x) (sym (shape_old i b))
           | inr e ↦ ap (λ k. after k) e ∙ after_last ∙ same (length old) s (omega arith) args ∙ ap (λ x. built after x) (sym shape_last) ∙ ap (λ k. built after (shape_at (old ++ s ∷ []) k)) (sym e)
         ];
@@ -62,7 +62,7 @@ module _ (old : List Shape) (s : Shape) where
         same i x l args = built_each before after x (each_from {P = λ c. c < i} {Q = λ c. before c ≡ after c} x (below_each i x args) (λ c h. sym (after_old c (omega arith))))
 
         place : (n i : ℕ) → IsNodeOf (old ++ s ∷ []) n i → IsNodeOf old n i ⊎ ((i ≡ length old) × IsVariable n s)
-        place n i at = elim (lt_or_last i (length old) (omega (arith, long, at.0))) [
+        place n i at = elim (below_or_last i (length old) (omega (arith, long, at.0))) [
           | inl b ↦ inl (b, subst (λ x. IsVariable n x) (shape_old i b) at.1)
           | inr e ↦ inr (e, subst (λ x. IsVariable n x) shape_last (subst (λ k. IsVariable n (shape_at (old ++ s ∷ []) k)) e at.1))
         ]
@@ -105,7 +105,7 @@ adds_application old mid f nodes ts all before of =
       extended old mid (mid ++ s ∷ []) before u (after mid s u) r.1 p,
       omega (arith, long mid s),
       own,
-      λ i h l. elim (lt_or_last i (length mid) (omega (arith, long mid s))) [
+      λ i h l. elim (below_or_last i (length mid) (omega (arith, long mid s))) [
         | inl b ↦ inr (subst (λ x. IsPartOfAny x (trees_of ts)) (sym (p.kept i b)) (r.4 i h b))
         | inr e ↦ inl (ap (λ k. after mid s u k) e ∙ own)
       ],
@@ -130,7 +130,7 @@ adds_more old mid new ts t nodes node all one before of =
       extended old mid new before u w r.1 q.1,
       below-append (length new) nodes node (below_most (length mid) (length new) nodes q.1.longer r.2) q.2,
       trees_by-append w nodes node ts t (trees_by_below (length mid) w u nodes r.2 (λ i l. q.1.kept i l) ∙ r.3) q.3,
-      λ i h l. elim (lt_or_le i (length mid)) [
+      λ i h l. elim (below_or_not i (length mid)) [
         | inl b ↦ subst (λ x. IsPartOfAny x (trees_of (ts ++ t ∷ []))) (sym (q.1.kept i b)) (part_of_more (u i) t ts (r.4 i h b))
         | inr b ↦ part_of_last (w i) t ts (q.4 i b l)
       ],

@@ -14,11 +14,11 @@ use Rattle.unifier.specs.Markings.{Splits, Follows, Joins}
 use Rattle.unifier.specs.Classes.{AreWithin, IsLike, Classes}
 use Rattle.unifier.specs.Work.{count_roots, width, widths}
 use Rattle.unifier.specs.Closure.{Joined, NotJoined}
-use Rattle.unifier.proofs.Cases.{eq_or_not}
 use Rattle.unifier.proofs.Graphs.{below_most}
 use Rattle.unifier.proofs.Lists.{written_back}
 use Rattle.unifier.proofs.Pairs.{joins_parts, joins_all, joins_zip, zip_joins, within_parts, within_all, within_zip, length_zip_le}
 use Rattle.unifier.proofs.Relabelling.{swap_here, swap_other, root-relabelled, length-relabelled, count_falls}
+use Rattle.term_core.proofs.Numbers.{same_or_not}
 
 width_le : (graph : List Shape) (i : ℕ) (f : SymId) (cs : List ℕ) → i < length graph → shape_at graph i ≡ App f cs → length cs ≤ widths graph
 width_le [] i f cs l e = absurd (omega arith)
@@ -86,7 +86,7 @@ module _ (graph : List Shape) (roots : List ℕ) (rest : List (ℕ × ℕ)) (lef
     unfolding new
     moves i l =
         let e = root-relabelled from to roots i (omega (arith, at.long)) in
-        elim (eq_or_not (root roots i) from) [
+        elim (same_or_not (root roots i) from) [
           | inl q ↦ inl (q, e ∙ swap_here from to (root roots i) q)
           | inr q ↦ inr (q, e ∙ swap_other from to (root roots i) q)
         ]

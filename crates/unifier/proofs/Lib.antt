@@ -1,7 +1,6 @@
 pub mod Bindings
 pub mod Shifts
 pub mod Apart
-mod Cases
 mod Closing
 mod Filling
 mod Graphs

@@ -15,14 +15,12 @@ use Rattle.unifier.specs.Parts.{IsPart, IsPartOfAny}
 use Rattle.unifier.specs.Markings.{IsModel, Splits}
 use Rattle.unifier.specs.Cycles.{EachArg}
 use Rattle.unifier.proofs.Graphs.{apply-trees_by}
+use Rattle.term_core.proofs.Trees.{args_eq}
 
 module _ (graph : List Shape) where
-  same_args : {f g : ℕ} {xs ys : Trees} → app f xs ≡ app g ys → xs ≡ ys
-  same_args e = cc
-
   -- trees with one instance have arguments with one instance
   pub model_splits : (mark : ℕ → Tree) → IsModel graph mark → Splits graph mark
-  model_splits mark h i j f g cs ds li lj ei ej fg n e = same_args (sym (h i f cs li ei) ∙ e ∙ h j g ds lj ej)
+  model_splits mark h i j f g cs ds li lj ei ej fg n e = args_eq (sym (h i f cs li ei) ∙ e ∙ h j g ds lj ej)
 
   -- the instances of the nodes' trees
   pub instance_model : (tree : ℕ → Tree) → Depicts graph tree → (t : List (Option Tree)) → IsModel graph (λ i. apply t (tree i))

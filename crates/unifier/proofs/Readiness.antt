@@ -11,10 +11,10 @@ use Rattle.unifier.specs.Roots.{root, AreRoots}
 use Rattle.unifier.specs.Markings.{IsModel, Follows}
 use Rattle.unifier.specs.Cycles.{EachArg, Ends, IsAcyclic, HasNoModel}
 use Rattle.unifier.specs.Readiness.{is_ready, AreReady, IsHeld, marks, IsMarked, AreStuck}
-use Rattle.unifier.proofs.Cases.{lt_or_last}
 use Rattle.unifier.proofs.Graphs.{each_from, each_from_both, weight-trees_by}
 use Rattle.unifier.proofs.Lists.{written_back}
 use Rattle.unifier.proofs.Resolutions.{args_within}
+use Rattle.term_core.proofs.Numbers.{below_or_last}
 
 pub marks_le : (bs : List Bool) → marks bs ≤ length bs
 marks_le [] = omega arith
@@ -105,7 +105,7 @@ module _ (graph : List Shape) (roots : List ℕ) where
 
     stays : (b : Bool) → (is_ready ready node ≡ false → IsHeld roots ready (shape_at graph node)) → MatchBool b (marks old < marks ready) (AreStuck graph roots ready node) → MatchBool b (marks old < marks ready) (AreStuck graph roots ready (node + 1))
     stays true h f = f
-    stays false h f = λ i k e. elim (lt_or_last i node k) [
+    stays false h f = λ i k e. elim (below_or_last i node k) [
       | inl b ↦ f i b e
       | inr q ↦ subst (λ n. IsHeld roots ready (shape_at graph n)) (sym q) (h (subst (λ n. is_ready ready n ≡ false) q e))
     ]

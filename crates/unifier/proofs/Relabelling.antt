@@ -4,7 +4,7 @@ use Rattle.std.specs.Prelude.{if◌then◌else◌, ◌==◌}
 use Rattle.std.proofs.lemmas.Bool.Decides.{nat_tests}
 use Rattle.unifier.specs.Roots.{root, relabelled}
 use Rattle.unifier.specs.Work.{one_if, count_roots}
-use Rattle.unifier.proofs.Cases.{eq_or_not}
+use Rattle.term_core.proofs.Numbers.{same_or_not}
 
 module _ (from to : ℕ) where
   pub swap_here : (r : ℕ) → r ≡ from → (if r == from then to else r) ≡ to
@@ -23,7 +23,7 @@ module _ (from to : ℕ) where
   length-relabelled (r ∷ rs) = ap suc (length-relabelled rs)
 
   head_le : (k r : ℕ) → (r ≡ from → k ≡ to → ⊥) → one_if (if r == from then to else r) k ≤ one_if r k
-  head_le k r h = elim (eq_or_not r from) [
+  head_le k r h = elim (same_or_not r from) [
     | inl e ↦
         let s = swap_here r e in
         let n : to ≢ k = λ q. h e (sym q) in

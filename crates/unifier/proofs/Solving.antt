@@ -13,8 +13,8 @@ use Rattle.unifier.specs.Closure.{IsClosure, IsClash}
 use Rattle.unifier.specs.Roots.{AreRoots}
 use Rattle.unifier.specs.Cycles.{IsAcyclic, HasNoModel}
 use Rattle.unifier.specs.Answer.{AreEntries}
-use Rattle.unifier.proofs.Cases.{lt_or_le}
 use Rattle.unifier.proofs.Resolutions.{AreParts, none_by, none_by_cycle, is_most_general, is_relevant, keeps_sorts}
+use Rattle.term_core.proofs.Numbers.{below_or_not}
 
 -- the graph has the nodes of both terms, and no others
 pub record IsGraphOf (graph : List Shape) (first second : ℕ) (a b : Tree) : Type 0 where
@@ -36,7 +36,7 @@ graph_of empty mid graph first second a b e x y =
       parts = record {
         numbered = q.1.is.numbered;
         depicts = q.1.is.depicts;
-        parts = λ i l. elim (lt_or_le i (length mid)) [
+        parts = λ i l. elim (below_or_not i (length mid)) [
           | inl h ↦ inl (subst (λ t. IsPart t a) (sym (q.1.kept i h)) (p.4 i (omega arith) h))
           | inr h ↦ inr (q.4 i h l)
         ];

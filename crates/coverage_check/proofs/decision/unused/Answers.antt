@@ -1,14 +1,14 @@
 use Rattle.std.proofs.Common.{inl, inr, subst, arith}
 use Rattle.std.specs.List.{AllByRecursion}
-use Rattle.spec_core.proofs.LeastSizes.{split_at}
 use Rattle.coverage_check.specs.Decisions.{BeginsOtherwise, IsOf}
 use Rattle.coverage_check.proofs.Deciding.{declared_sort}
 use Rattle.coverage_check.proofs.decision.unused.Goals as goal
 use Rattle.coverage_check.proofs.decision.unused.Goals.{else-info-sort-via-then-info-sort+else-begin_otherwise, else-info-sort-via-else-info-sort}
+use Rattle.term_core.proofs.Numbers.{below_or_last}
 
 pub loop-number-preserved : goal.loop-number-preserved
 loop-number-preserved c = λ d h of free.
-    elim (split_at d c.loop-number.number h) [
+    elim (below_or_last d c.loop-number.number h) [
       | inl b ↦ c.loop-number.invariant d b of free
       | inr e ↦
           elim c.else-info-sort.branch [

@@ -2,9 +2,9 @@ use Rattle.std.proofs.Common.{refl, sym, subst}
 use Rattle.std.specs.List.{AllByRecursion}
 use Rattle.spec_core.specs.Groups.{BeginsWith}
 use Rattle.coverage_check.specs.GuardLists.{lists_of}
-use Rattle.coverage_check.proofs.Walks.{at_end}
 use Rattle.coverage_check.proofs.GuardLists.{begin_at}
 use Rattle.coverage_check.proofs.groups.all_begin_with.Goals as goal
+use Rattle.term_core.proofs.Items.{drop_past}
 
 pub loop-list-preserved : goal.loop-list-preserved
 loop-list-preserved c =
@@ -21,4 +21,4 @@ returns-in_default c =
 
 pub returns : goal.returns
 returns c =
-    (λ h. c.loop-list.invariant.1 (subst (λ rs. AllByRecursion (BeginsWith c.args.test.now) (lists_of rs)) (sym (at_end c.args.lists.now c.loop-list.list-index c.loop-list-test.false)) tt), λ a. refl)
+    (λ h. c.loop-list.invariant.1 (subst (λ rs. AllByRecursion (BeginsWith c.args.test.now) (lists_of rs)) (sym (drop_past c.args.lists.now c.loop-list.list-index c.loop-list-test.false)) tt), λ a. refl)

@@ -1,6 +1,6 @@
 use Rattle.std.proofs.Common.{drop, ◌↔◌}
 use Rattle.std.specs.List.{AllByRecursion}
-use Rattle.coverage_check.specs.References.{terms_of}
+use Rattle.term_core.specs.References.{terms_of}
 use Rattle.coverage_check.specs.Columns.{IsVariable}
 use Rattle.coverage_check.proofs.rows.are_variables.Given as goal
 

@@ -1,14 +1,9 @@
 use Rattle.std.proofs.Common.{sym, ◌∙◌, subst}
 use Rattle.std.specs.List.{AllByRecursion}
 use Rattle.spec_core.specs.Sig.{IsSort}
-use Rattle.spec_core.specs.Declarations.{IsDeclared}
 use Rattle.spec_core.specs.Naturals.{naturals_sig}
-use Rattle.spec_core.proofs.SortedNaturals.{declared}
 use Rattle.coverage_check.proofs.Samples.{nat_sorts_in_range}
 use Rattle.coverage_check.proofs.tests.ask.Goals as goal
-
-pub covers-requires-clause-declared : goal.covers-requires-clause-declared
-covers-requires-clause-declared c = subst (λ s. IsDeclared s) (sym c.requires.sig) declared
 
 pub covers-requires-clause-sorts : goal.covers-requires-clause-sorts
 covers-requires-clause-sorts c =

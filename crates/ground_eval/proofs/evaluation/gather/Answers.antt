@@ -3,9 +3,9 @@ use Rattle.std.proofs.lemmas.Option.{slice_get_read}
 use Rattle.std.proofs.lemmas.List.{drop_all}
 use Rattle.term_core.specs.View.{tree_of}
 use Rattle.ground_eval.proofs.Gathers.{GathersFrom, gathers_start, gathers_end, gathers_variable, gathers_owned, variable_there, owned_there, gathers_same}
-use Rattle.ground_eval.proofs.Lists.{drop_here}
 use Rattle.ground_eval.proofs.evaluation.gather.Goals as goal
 use Rattle.ground_eval.proofs.evaluation.gather.Goals.{After-term-item, in-Var+in_ok-push-in-Var, in-App+in-Some+in_ok-push-in-Some}
+use Rattle.term_core.proofs.Items.{drop_here}
 
 here : (c : After-term-item) → drop c.loop-term.term-index c.args.terms.now ≡ c.term-item.result ∷ drop (c.loop-term.term-index + 1) c.args.terms.now
 here c = drop_here c.args.terms.now c.loop-term.term-index c.term-item.result (slice_get_read c.args.terms.now (length c.args.terms.now) c.loop-term.term-index c.term-item.result refl c.loop-term-test.true c.term-item.is)

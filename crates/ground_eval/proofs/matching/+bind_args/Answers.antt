@@ -1,6 +1,6 @@
 use Rattle.std.proofs.Common.{rules, ◌≡◌, ◌+◌, ◌∷◌, ap, arith}
 use Rattle.term_core.specs.Measure.{weight, list_weight}
-use Rattle.ground_eval.specs.References.{terms_of}
+use Rattle.term_core.specs.References.{terms_of}
 use Rattle.ground_eval.proofs.Matches.{rest_numbered, binds_rest}
 use Rattle.ground_eval.proofs.matching.+bind_args.Goals as goal
 

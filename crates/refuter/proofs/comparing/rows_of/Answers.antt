@@ -3,11 +3,11 @@ use Rattle.std.specs.List.{AllByRecursion}
 use Rattle.term_core.specs.declared.ids.SortId.{SortId}
 use Rattle.spec_core.specs.Sig.{IsSort}
 use Rattle.refuter.proofs.Lowering.{all_long}
-use Rattle.refuter.proofs.InRange.{declared_sorts}
 use Rattle.refuter.proofs.comparing.rows_of.Goals as goal
+use Rattle.spec_core.proofs.Ranges.{sorts_in_range}
 
 pub count_same-requires-clause-in_range : goal.count_same-requires-clause-in_range
-count_same-requires-clause-in_range c = declared_sorts c.in_ok-sig.sig c.in_ok-sig.ensures
+count_same-requires-clause-in_range c = sorts_in_range c.in_ok-sig.sig c.in_ok-sig.ensures
 
 pub count_same-requires-clause-sorts : goal.count_same-requires-clause-sorts
 count_same-requires-clause-sorts c =

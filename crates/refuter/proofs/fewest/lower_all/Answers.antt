@@ -3,9 +3,10 @@ use Rattle.std.specs.Prelude.{slice_index}
 use Rattle.std.specs.List.{AllByRecursion}
 use Rattle.spec_core.specs.Sig.{IsSort}
 use Rattle.refuter.specs.Fewest.{number_in, total}
-use Rattle.refuter.proofs.Lowering.{each_more, each_start, each_end, lowers, lowers_others, stays, all_long, sum_set, fell_more}
+use Rattle.refuter.proofs.Lowering.{each_more, each_start, each_end, lowers, lowers_others, stays, all_long, fell_more}
 use Rattle.refuter.proofs.fewest.lower_all.Goals as goal
 use Rattle.refuter.proofs.fewest.lower_all.Goals.{then-size-le-MOST_SYMBOLS+then-size-next, else-size-le-MOST_SYMBOLS, else-size-le-MOST_SYMBOLS-via-then-size-le-MOST_SYMBOLS+else-size-next, else-size-le-MOST_SYMBOLS-via-else-size-le-MOST_SYMBOLS}
+use Rattle.spec_core.proofs.Rounds.{sum_set}
 
 pub loop-number-init : goal.loop-number-init
 loop-number-init c = record {

@@ -20,12 +20,12 @@ use Rattle.refuter.specs.Lists.{first_of}
 use Rattle.refuter.specs.Bounded.{rows_within}
 use Rattle.refuter.specs.After.{rows_after}
 use Rattle.refuter.specs.Moves.{GoesOn}
-use Rattle.refuter.proofs.InRange.{declared_sorts}
 use Rattle.refuter.proofs.Members.{members_are}
 use Rattle.refuter.proofs.Progress.{starts, moves, at_row, ends, whole, one_spent, none_spent, variables_are}
 use Rattle.refuter.proofs.Rows.{all_at, below_more}
 use Rattle.refuter.proofs.searching.search.Goals as goal
 use Rattle.refuter.proofs.searching.search.Goals.{In_ok-sorts, After-as_slice-in-loop-more, In_ok-verdict, in-Spent, in-Holds, then-loop-more-test+else-tried-tries, else-loop-more-test}
+use Rattle.spec_core.proofs.Ranges.{sorts_in_range}
 
 -- the sorts of the goal's variables
 sorts : (c : In_ok-sorts) → c.in_ok-sorts.sorts ≡ sorts_of c.args.goal.now.vars
@@ -141,4 +141,4 @@ returns-clause-finds c apart all =
     (w.0, w.1, c.loop-more.invariant.before apart all, c.loop-more.invariant.spent apart all)
 
 pub new-requires-2-clause-in_range : goal.new-requires-2-clause-in_range
-new-requires-2-clause-in_range c = declared_sorts c.args.spec.now.sig c.requires.fine.signature
+new-requires-2-clause-in_range c = sorts_in_range c.args.spec.now.sig c.requires.fine.signature

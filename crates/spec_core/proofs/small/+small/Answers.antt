@@ -3,10 +3,11 @@ use Rattle.std.proofs.lemmas.List.{take_more}
 use Rattle.term_core.specs.Tree.{trees_of}
 use Rattle.spec_core.specs.Small.{AreSmall}
 use Rattle.spec_core.specs.Sig.{IsSort}
-use Rattle.spec_core.proofs.LeastSizes.{size_of, split_at, sum_within, all_at}
+use Rattle.spec_core.proofs.LeastSizes.{size_of, sum_within, all_at}
 use Rattle.spec_core.proofs.SmallValues.{small_made, passed, some_maker, smalls_more}
 use Rattle.spec_core.proofs.small.+small.Goals as goal
 use Rattle.spec_core.proofs.small.+small.Goals.{small_by-then-info-sort+else-size-from, small_by-else-info-sort}
+use Rattle.term_core.proofs.Numbers.{below_or_last}
 
 pub small_by-returns-then-size-from : goal.small_by-returns-then-size-from
 small_by-returns-then-size-from t c =
@@ -15,7 +16,7 @@ small_by-returns-then-size-from t c =
 
 pub small_by-loop-number-preserved : goal.small_by-loop-number-preserved
 small_by-loop-number-preserved t c n h m =
-    elim (split_at n c.loop-number.number h) [
+    elim (below_or_last n c.loop-number.number h) [
       | inl b ↦ c.loop-number.invariant n b m
       | inr q ↦
           let i = c.info-info.result.now in

@@ -12,8 +12,9 @@ use Rattle.spike_cli.specs.Reports.{BeginsReport, begun, whole}
 use Rattle.spike_cli.specs.Words.{refuting}
 use Rattle.spike_cli.specs.Stops.{Finishes, stop_of}
 use Rattle.spike_cli.proofs.ClaimLemmas.{claims_more, first_claims, status_more, status_of_goals}
-use Rattle.spike_cli.proofs.Pieces.{appended_more, begun_text-more, stopped_more, stopped_same, piece_stopped, at_error}
+use Rattle.spike_cli.proofs.Pieces.{begun_text-more, stopped_more, stopped_same, piece_stopped, at_error}
 use Rattle.spike_cli.proofs.refuting.refute.Goals as goal
+use Rattle.io_core.proofs.Pieces.{Appended-append}
 
 pub returns-in_err-write_header-clause-finishes : goal.returns-in_err-write_header-clause-finishes
 returns-in_err-write_header-clause-finishes g c =
@@ -56,7 +57,7 @@ loop-goal-preserved g c =
     let at = listed c.as_slice-goal-items.result.now c.loop-goal.goal-index c.goal-item.result c.loop-goal-test.true c.goal-item.is in (
       i.0 ++ e.0 ∷ [],
       claims_more c.args.bounds spec c.as_slice-goal-items.result.now c.loop-goal.goal-index c.goal-item.result i.0 e.0 at e.1 i.1,
-      subst (λ t. Appended (g.S.Sink.written c.args.out.now) (g.S.Sink.written c.write_claim.new.out) t) (sym (begun_text-more c.args.bounds.steps spec.sig i.0 e.0)) (appended_more _ _ _ (begun_text c.args.bounds.steps spec.sig i.0) (claim_text spec.sig e.0) i.2 e.2),
+      subst (λ t. Appended (g.S.Sink.written c.args.out.now) (g.S.Sink.written c.write_claim.new.out) t) (sym (begun_text-more c.args.bounds.steps spec.sig i.0 e.0)) (Appended-append _ _ _ (begun_text c.args.bounds.steps spec.sig i.0) (claim_text spec.sig e.0) i.2 e.2),
       subst (λ s. IsStatusOfClaims (i.0 ++ e.0 ∷ []) s) (sym e.3) (status_more i.0 e.0 c.loop-goal.status i.3),
       omega (arith, i.4, c.in_ok-status.ensures.writes),
     )
@@ -83,5 +84,5 @@ returns-clause-finishes g c =
         answers = i.3;
         exact = λ apart whole. status_of_goals c.args.bounds spec apart whole spec.goals i.0 c.loop-goal.status all i.3;
       },
-      appended_more _ _ _ (begun_text c.args.bounds.steps spec.sig i.0) (codes "done\n") i.2 c.in_ok-write_all.ensures.appended,
+      Appended-append _ _ _ (begun_text c.args.bounds.steps spec.sig i.0) (codes "done\n") i.2 c.in_ok-write_all.ensures.appended,
     )

@@ -1,5 +1,5 @@
 use Rattle.std.proofs.Common.{◌≡◌, ◌++◌, take}
-use Rattle.coverage_check.specs.References.{terms_of}
+use Rattle.term_core.specs.References.{terms_of}
 use Rattle.coverage_check.proofs.rows.Row.extend.Given as goal
 
 abbrev pub invariant-loop-pattern : goal.invariant-loop-pattern

@@ -21,8 +21,9 @@ use Rattle.ground_eval.proofs.Arguments.{all_none, all_first_spent, all_rest_spe
 use Rattle.ground_eval.proofs.Calls.{left_is_application, try_nothing, number_within, rule_at, rules_more, none_matches, matched_built, right_has_sort, test_sorted, matched_too, test_spent, none_follows, next_held, applies, group_value, group_spent}
 use Rattle.ground_eval.proofs.Falls.{less_budget, use_falls, right_falls, right_below_room, test_falls, step_falls}
 use Rattle.ground_eval.proofs.Lists.{item_at}
-use Rattle.ground_eval.proofs.Same.{eval_same, match_some, if_ok_map}
+use Rattle.ground_eval.proofs.Same.{eval_same, match_some}
 use Rattle.ground_eval.proofs.evaluators.Evaluator.+eval.Goals as goal
+use Rattle.term_core.proofs.Items.{if_ok_map}
 
 pub eval_in-returns-in_ok-copy-in-Var : goal.eval_in-returns-in_ok-copy-in-Var
 eval_in-returns-in_ok-copy-in-Var t c =

@@ -5,9 +5,9 @@ use Rattle.spec_core.specs.WellSorted.{sorts_of}
 use Rattle.ground_eval.specs.declared.answers.Sides.TheVariants.{Same}
 use Rattle.ground_eval.specs.Sides.{HasOneSort, PremisesAre, ConclusionsAre}
 use Rattle.ground_eval.proofs.GoalSides.{values_built, have_one_sort}
-use Rattle.ground_eval.proofs.Same.{if_ok_map}
 use Rattle.ground_eval.proofs.Walks.{conclusions_decide}
 use Rattle.ground_eval.proofs.evaluators.Evaluator.decide.Goals as goal
+use Rattle.term_core.proofs.Items.{if_ok_map}
 
 pub compare_premises-requires-clause-built : goal.compare_premises-requires-clause-built
 compare_premises-requires-clause-built c = subst (λ xs. AllByRecursion (IsBuilt c.args.self.now.sig) xs) (sym c.in_ok-env.ensures) (values_built c.args.self.now (sorts_of c.args.goal.now.vars) c.args.values.now c.requires.values)

@@ -7,8 +7,9 @@ use Rattle.refuter.specs.Lists.{first_of}
 use Rattle.refuter.specs.Bounded.{rows_within}
 use Rattle.refuter.specs.After.{room_within}
 use Rattle.refuter.proofs.Least.{some_fits}
-use Rattle.refuter.proofs.Steps.{made_first, made_later, made_other, made_none, first_none, first_is_made, goes_true, goes_false, push_end, push_none, push_some, room_is, before_few, same_rows, if_ok_map}
+use Rattle.refuter.proofs.Steps.{made_first, made_later, made_other, made_none, first_none, first_is_made, goes_true, goes_false, push_end, push_none, push_some, room_is, before_few, same_rows}
 use Rattle.refuter.proofs.odometer.Odometer.+first.Goals as goal
+use Rattle.term_core.proofs.Items.{if_ok_map}
 
 pub first_made-loop-number-preserved-then-info-sort : goal.first_made-loop-number-preserved-then-info-sort
 first_made-loop-number-preserved-then-info-sort t c =

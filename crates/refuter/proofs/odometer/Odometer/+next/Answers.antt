@@ -9,11 +9,11 @@ use Rattle.refuter.specs.Lists.{first_of, IsAmong}
 use Rattle.refuter.specs.Bounded.{rows_within, values_within}
 use Rattle.refuter.specs.After.{rows_after, values_after}
 use Rattle.refuter.specs.Moves.{GoesOn}
-use Rattle.refuter.proofs.Rows.{drop_here}
 use Rattle.refuter.proofs.Lowering.{length_one}
-use Rattle.refuter.proofs.Steps.{goes_true, goes_false, if_ok_map, room_is, next_end, next_same, next_none, next_first, whole_taken, place_within, rest_listed, first_listed, take_here, last_same, application_is, arguments_listed, value_goes, value_ends, var_is_no_value}
+use Rattle.refuter.proofs.Steps.{goes_true, goes_false, room_is, next_end, next_same, next_none, next_first, whole_taken, place_within, rest_listed, first_listed, take_here, last_same, application_is, arguments_listed, value_goes, value_ends, var_is_no_value}
 use Rattle.refuter.proofs.odometer.Odometer.+next.Goals as goal
 use Rattle.refuter.proofs.odometer.Odometer.+next.Goals.{advance-Else-branch, next_value-In-App}
+use Rattle.term_core.proofs.Items.{drop_here, if_ok_map}
 
 pub advance-returns-in_default : goal.advance-returns-in_default
 advance-returns-in_default t c =
