@@ -13,6 +13,12 @@ all_at P (y ∷ xs) h zero x at =
     subst P k h.0
 all_at P (y ∷ xs) h (suc i) x at = all_at P xs h.1 i x at
 
+-- the same of the item at a place within the list
+pub all_at_or : {X : Type 0} (P : X → Type 0) (xs : List X) (i : ℕ) (d : X) → AllByRecursion P xs → i < length xs → P (get_or xs i d)
+all_at_or P [] i d a h = absurd (omega arith)
+all_at_or P (x ∷ xs) zero d a h = a.0
+all_at_or P (x ∷ xs) (suc i) d a h = all_at_or P xs i d a.1 (omega arith)
+
 pub all_append : {X : Type 0} (P : X → Type 0) (xs ys : List X) → AllByRecursion P xs → AllByRecursion P ys → AllByRecursion P (xs ++ ys)
 all_append P [] ys a b = b
 all_append P (x ∷ xs) ys a b = (a.0, all_append P xs ys a.1 b)

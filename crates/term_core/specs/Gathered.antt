@@ -1,10 +1,10 @@
 -- Variables as they are met one after the other.
-use Rattle.std.specs.Prelude.{ℕ, ◌==◌, List, [], ◌∷◌, ◌++◌, cond}
+use Rattle.std.specs.Prelude.{ℕ, ◌==◌, List, [], ◌∷◌, ◌++◌, if◌then◌else◌}
 use Rattle.std.specs.List.{list_any}
 
 -- the numbers with one more, which is added behind them where it is new
 abbrev pub met : List ℕ → ℕ → List ℕ
-met found n = cond (list_any (λ m. m == n) found) found (found ++ n ∷ [])
+met found n = if list_any (λ m. m == n) found then found else (found ++ n ∷ [])
 
 abbrev pub gathered : List ℕ → List ℕ → List ℕ
 gathered found [] = found

@@ -12,6 +12,7 @@ mod lists;
 mod memory;
 mod names;
 mod places;
+mod references;
 #[cfg(test)]
 mod tests;
 mod tree;
@@ -21,6 +22,7 @@ pub use ids::{SortId, SymId, VarId};
 pub use laws::{one_place, replaced_is_there, worked_examples};
 pub use lists::{Seq, front};
 pub use memory::OutOfMemory;
-pub use names::Name;
+pub use names::{Name, place_of};
 pub use places::ReplaceError;
+pub use references::TermRefs;
 pub use tree::{Node, Term, Terms, copy_all};

@@ -7,6 +7,7 @@ use crate::lists::front;
 use crate::memory::OutOfMemory;
 use crate::tree::{Node, Term, Terms, copy_all};
 use std::alloc::Global;
+use std::fmt;
 
 /// Why no subterm is exchanged.
 #[derive(Clone, Copy, Debug, PartialEq, Eq)]
@@ -24,11 +25,21 @@ impl From<OutOfMemory> for ReplaceError {
     }
 }
 
+impl fmt::Display for ReplaceError {
+    fn fmt<W: fmt::Write>(&self, f: &mut fmt::Formatter<W>) -> fmt::Result {
+        f.write_str(match self {
+            ReplaceError::NoSuchPlace => "no such place",
+            ReplaceError::OutOfMemory => "out of memory",
+        })
+    }
+}
+
 impl Term {
     /// The subterm at a path of argument numbers, which count from 1. The empty path is the place
     /// of the term itself.
     pub fn at(&self, path: &[u8]) -> Option<&Term>
-        ensures { MatchOption result (HasNoPlace path.now self.now) (λ s. IsAt path.now self.now s.now) }
+        ensures { MatchOption result (HasNoPlace path.now self.now)
+            (λ s. IsAt path.now self.now s.now) }
     {
         let Some((number, rest)) = front(path) else {
             return Some(self);
@@ -64,7 +75,8 @@ impl Term {
 
 /// The argument of a number that counts from 1, with its index.
 fn numbered(args: &Terms, number: u8) -> Option<(usize, &Term)>
-    ensures { MatchOption result ((t : Tree) → IsArgument number (trees_of args.now) t → ⊥) (λ p. (number ≡ p.0 + 1) × (slice_get args.now p.0 ≡ Some p.1.now)) }
+    ensures { MatchOption result ((t : Tree) → IsArgument number (trees_of args.now) t → ⊥)
+        (λ p. (number ≡ p.0 + 1) × (slice_get args.now p.0 ≡ Some p.1.now)) }
 {
     let index = usize::from(number.checked_sub(1)?);
     Some((index, args.get(index)?))

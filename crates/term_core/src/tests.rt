@@ -47,6 +47,35 @@ fn copies_terms(rt: HostRuntime) -> Result<(), Fail> {
 }
 
 #[test]
+fn refers_to_terms(rt: HostRuntime) -> Result<(), Fail> {
+    let alloc = rt.alloc();
+    let mut terms = Terms::new(alloc);
+    terms.push(nested(alloc)?)?;
+    terms.push(Term::var(VarId(2)))?;
+    let all = TermRefs::of(alloc, terms.as_slice())?;
+    let mut twice = TermRefs::new(alloc);
+    twice.extend(all.as_slice())?;
+    twice.extend(all.as_slice())?;
+    for (index, size) in [
+        (0, Some(4)),
+        (1, Some(1)),
+        (2, Some(4)),
+        (3, Some(1)),
+        (4, None),
+    ] {
+        assert_eq!(rt; twice.get(index).map(|term| term.size(9)), size);
+    }
+    Ok(())
+}
+
+#[test]
+fn copies_a_name(rt: HostRuntime) -> Result<(), Fail> {
+    let name = Name::of(rt.alloc(), b"plus")?;
+    assert_eq!(rt; name.copy(rt.alloc())?.as_bytes(), b"plus".as_slice());
+    Ok(())
+}
+
+#[test]
 fn pushes_in_order(rt: HostRuntime) -> Result<(), Fail> {
     let mut numbers = Seq::new(rt.alloc());
     numbers.push(7)?;

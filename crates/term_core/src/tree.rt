@@ -106,7 +106,8 @@ impl Terms {
     }
 
     pub fn get(&self, index: usize) -> Option<&Term>
-        ensures { MatchOption result (length self.now ≤ index) (λ t. slice_get self.now index ≡ Some t.now) }
+        ensures { MatchOption result (length self.now ≤ index)
+            (λ t. slice_get self.now index ≡ Some t.now) }
     {
         self.items.get(index)
     }

@@ -1,8 +1,7 @@
-ghost use Rattle.std.specs.Prelude.{◌≡◌, [], IfOk, OnOk, map};
+ghost use Rattle.std.specs.Prelude.{◌≡◌, [], IfOk, OnOk};
 ghost use Rattle.term_core.specs.Tree.{trees_of};
-ghost use Rattle.term_core.specs.Variables.{occurrences, occurrences_all, firsts};
+ghost use Rattle.term_core.specs.Variables.{occurrences, occurrences_all, firsts, numbers_of};
 ghost use Rattle.term_core.specs.Gathered.{gathered};
-ghost use Rattle.term_core.specs.declared.ids.VarId.{VarId};
 
 use crate::ids::VarId;
 use crate::lists::Seq;
@@ -14,7 +13,7 @@ impl Term {
     /// The variables by first occurrence from the left, each once. The time is that of the
     /// occurrences times that of the variables.
     pub fn vars(&self, alloc: Global) -> Result<Seq<VarId>, OutOfMemory>
-        ensures { IfOk result (λ vars. map (λ (v : VarId). v.0) vars ≡ firsts (occurrences self.now)) }
+        ensures { IfOk result (λ vars. numbers_of vars ≡ firsts (occurrences self.now)) }
     {
         let mut found = Seq::new(alloc);
         gather(self, &mut found)?;
@@ -25,7 +24,8 @@ impl Term {
 /// Adds the variables that are not yet among those found.
 #[cycle(gather)]
 fn gather(term: &Term, found: &mut Seq<VarId>) -> Result<(), OutOfMemory>
-    ensures { OnOk result (map (λ (v : VarId). v.0) found.new ≡ gathered (map (λ (v : VarId). v.0) found.old) (occurrences term.now)) }
+    ensures { OnOk result
+        (numbers_of found.new ≡ gathered (numbers_of found.old) (occurrences term.now)) }
 {
     match &term.node {
         Node::Var(var) => {
@@ -40,7 +40,8 @@ fn gather(term: &Term, found: &mut Seq<VarId>) -> Result<(), OutOfMemory>
 
 #[cycle(gather)]
 fn gather_all(terms: &[Term], found: &mut Seq<VarId>) -> Result<(), OutOfMemory>
-    ensures { OnOk result (map (λ (v : VarId). v.0) found.new ≡ gathered (map (λ (v : VarId). v.0) found.old) (occurrences_all (trees_of terms.now))) }
+    ensures { OnOk result (numbers_of found.new ≡
+        gathered (numbers_of found.old) (occurrences_all (trees_of terms.now))) }
 {
     for term in terms {
         gather(term, found)?;

@@ -1,7 +1,9 @@
-use Rattle.std.proofs.Common.{◌≡◌, [], ◌∷◌, Some, None, refl, ap, sym, ◌∙◌, subst, slice_get, arith}
-use Rattle.term_core.specs.Tree.{var}
+use Rattle.std.proofs.Common.{◌≡◌, [], ◌∷◌, Some, None, inl, inr, refl, ap, sym, ◌∙◌, subst, slice_get, arith}
+use Rattle.term_core.specs.Tree.{var, app, none}
 use Rattle.term_core.specs.Places.{IsAt, HasNoPlace}
-use Rattle.term_core.specs.Examples.{outer, inner}
+use Rattle.term_core.specs.Variables.{Occurs, Numbered}
+use Rattle.term_core.specs.Ground.{IsGroundIn}
+use Rattle.term_core.specs.Examples.{outer, inner, closed}
 use Rattle.term_core.proofs.laws.worked_examples.Goals as goal
 
 no_zeroth : HasNoPlace (0 ∷ []) outer
@@ -21,6 +23,22 @@ below_a_variable s p =
     let none : IsAt (1 ∷ []) (var 0) s = subst (λ u. IsAt (1 ∷ []) u s) variable p.2 in
     none
 
+nowhere : Occurs 2 outer → ⊥
+nowhere (inl e) = omega (arith, e)
+nowhere (inr (inl (inl e))) = omega (arith, e)
+nowhere (inr (inl (inr (inl e)))) = omega (arith, e)
+nowhere (inr (inl (inr (inr e)))) = absurd e
+nowhere (inr (inr e)) = absurd e
+
+otherwise : Numbered 0 inner 2 → ⊥
+otherwise (j, inl h, rest) = omega (arith, h.0)
+otherwise (j, inr h, rest) = omega (arith, h.0)
+
+in_seven : IsGroundIn 7 closed
+in_seven =
+    let one : IsGroundIn 7 (app 2 none) = (omega arith, omega arith, tt) in
+    (omega arith, omega arith, (one, (one, tt)))
+
 pub returns : goal.returns
 returns c = record {
   whole = refl;
@@ -33,4 +51,14 @@ returns c = record {
   all_occurrences = refl;
   met_first = refl;
   met_second = refl;
+  occurs_below = inr (inl (inl refl));
+  occurs_nowhere = nowhere;
+  numbered = (1, inr (refl, refl), (2, (2, inr (refl, refl), (2, inl (omega arith, refl), refl)), refl));
+  numbered_otherwise = otherwise;
+  same_as_itself = refl;
+  other_tree = refl;
+  plugged = refl;
+  ground = in_seven;
+  symbol_too_large = λ g. omega (arith, g.0);
+  open_term = λ g. g.2.0;
 }
