@@ -11,13 +11,16 @@ use Rattle.spec_core.specs.declared.records.Spec.{Spec}
 use Rattle.spec_core.specs.Sig.{Sig, IsConstructor}
 use Rattle.spec_core.specs.Sorts.{Sorted, SortedAll}
 use Rattle.spec_core.specs.Gives.{Gives, GivesAll, GivesGuards, boolean, built, called, no_terms, more_terms, no_guards, more_guards}
-use Rattle.spec_core.specs.WellSorted.{Occurs, OccursAny, RuleIsSorted, IsWellSorted, IsLeft, sorts_of}
+use Rattle.term_core.specs.Variables.{Occurs, OccursAny}
+use Rattle.spec_core.specs.WellSorted.{RuleIsSorted, IsWellSorted, IsLeft, sorts_of}
 use Rattle.spec_core.specs.Overlap.{NoOverlap}
 use Rattle.spec_core.specs.Groups.{GroupsAreWhole, group}
 use Rattle.spec_core.specs.Declarations.{bool_sort}
-use Rattle.spec_core.proofs.Instances.{agree, same_instance, sorted_entry, sorted_instance}
+use Rattle.term_core.proofs.Instances.{agree, same_instance}
+use Rattle.spec_core.proofs.Instances.{sorted_entry, sorted_instance}
 use Rattle.spec_core.proofs.Keeps.{one_sort, right_sorted, keeps_all}
-use Rattle.spec_core.proofs.Groups.{In, Agree, in_group, one_member}
+use Rattle.term_core.proofs.Members.{In}
+use Rattle.spec_core.proofs.Groups.{Agree, in_group, one_member}
 
 mutual
   pub occurs_within : (sig : Sig) (ctx : List SortId) (t : Tree) (s : SortId) → Sorted sig ctx t s → (n : ℕ) → Occurs n t → n < length ctx

@@ -1,35 +1,18 @@
 -- At most one rule of a whole group has guards that can all hold.
 use Rattle.std.proofs.Common.{◌≡◌, ℕ, zero, suc, ◌+◌, List, [], ◌∷◌, Bool, true, false, cond, Some, None, ◌⊎◌, inl, inr, refl, ap, sym, ◌∙◌, subst, arith}
-use Rattle.std.specs.Prelude.{slice_get, ◌==◌, ◌&&◌}
+use Rattle.std.specs.Prelude.{slice_get}
 use Rattle.std.specs.List.{AllByRecursion}
-use Rattle.std.proofs.lemmas.Bool.Decides.{nat_tests}
-use Rattle.term_core.specs.Tree.{Tree, Trees, var, app, none, some}
+use Rattle.term_core.specs.Tree.{Tree}
+use Rattle.term_core.proofs.Members.{In, all_in}
+use Rattle.term_core.proofs.SameTrees.{same_tree-refl}
 use Rattle.spec_core.specs.declared.records.Rule.{Rule}
 use Rattle.spec_core.specs.declared.records.Guard.{Guard}
-use Rattle.spec_core.specs.Groups.{same_tree, same_trees, group, BeginsWith, bool_same, rest_if, wanting, Whole, alone, split}
-
-abbrev pub In : {X : Type 0} → X → List X → Type 0
-In x [] = ⊥
-In x (y ∷ ys) = (x ≡ y) ⊎ In x ys
+use Rattle.term_core.specs.Same.{same_tree}
+use Rattle.spec_core.specs.Groups.{group, BeginsWith, bool_same, rest_if, wanting, Whole, alone, split}
 
 -- what wants the same of the same test
 abbrev pub Agree : List Guard → List Guard → Type 0
 Agree gs hs = (a b : Guard) → In a gs → In b hs → a.test ≡ b.test → a.wanted ≡ b.wanted
-
-pub eqb_self : (n : ℕ) → (n == n) ≡ true
-eqb_self n = grind (arith, nat_tests)
-
-and_true : (a b : Bool) → a ≡ true → b ≡ true → (a && b) ≡ true
-and_true a b p q = rw (p, q)
-
-mutual
-  pub same_tree-refl : (t : Tree) → same_tree t t ≡ true
-  same_tree-refl (var n) = eqb_self n
-  same_tree-refl (app f ts) = and_true _ _ (eqb_self f) (same_trees-refl ts)
-
-  pub same_trees-refl : (ts : Trees) → same_trees ts ts ≡ true
-  same_trees-refl none = refl
-  same_trees-refl (some t ts) = and_true _ _ (same_tree-refl t) (same_trees-refl ts)
 
 in_cond : {X : Type 0} (b : Bool) (x y : X) (ys : List X) → In x ys → In x (cond b (y ∷ ys) ys)
 in_cond true x y ys i = inr i
@@ -64,11 +47,6 @@ in_rests w (m ∷ ms) k g gs (inl p) e =
     let here : In (k, gs) (rest_if w k (g ∷ gs) (wanting w ms)) = rw (bool_same_self w g.wanted e) (inl refl) in
     subst (λ (m : ℕ × List Guard). In (k, gs) (rest_if w m.0 m.1 (wanting w ms))) p here
 in_rests w (m ∷ ms) k g gs (inr i) e = in_rest_if w m.0 m.1 (wanting w ms) _ (in_rests w ms k g gs i e)
-
-all_in : {X : Type 0} (P : X → Type 0) (xs : List X) (x : X) → AllByRecursion P xs → In x xs → P x
-all_in P [] x h i = absurd i
-all_in P (y ∷ ys) x h (inl p) = subst P (sym p) h.0
-all_in P (y ∷ ys) x h (inr i) = all_in P ys x h.1 i
 
 pub bool_cases : (b : Bool) → (true ≡ b) ⊎ (false ≡ b)
 bool_cases true = inl refl

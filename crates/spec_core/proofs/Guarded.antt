@@ -10,7 +10,8 @@ use Rattle.spec_core.specs.declared.records.Spec.{Spec}
 use Rattle.spec_core.specs.Sig.{IsConstructor}
 use Rattle.spec_core.specs.Sorts.{Sorted, AreBuilt}
 use Rattle.spec_core.specs.Gives.{Gives, GivesGuards, built, called, no_guards, more_guards, boolean}
-use Rattle.spec_core.specs.WellSorted.{IsWellSorted, sorts_of, Numbered}
+use Rattle.term_core.specs.Variables.{Numbered}
+use Rattle.spec_core.specs.WellSorted.{IsWellSorted, sorts_of}
 use Rattle.spec_core.specs.Overlap.{NoOverlap}
 use Rattle.spec_core.specs.Groups.{GroupsAreWhole}
 use Rattle.spec_core.specs.Declarations.{bool_sort}

@@ -25,11 +25,6 @@ sum_within least [] i d h = absurd (omega arith)
 sum_within least (x ∷ xs) zero d h = omega arith
 sum_within least (x ∷ xs) (suc i) d h = omega (arith, sum_within least xs i d (omega arith))
 
-pub all_at : (P : SortId → Type 0) (ss : List SortId) (i : ℕ) (d : SortId) → AllByRecursion P ss → i < length ss → P (get_or ss i d)
-all_at P [] i d a h = absurd (omega arith)
-all_at P (x ∷ xs) zero d a h = a.0
-all_at P (x ∷ xs) (suc i) d a h = all_at P xs i d a.1 (omega arith)
-
 module _ (sig : Sig) (least : List ℕ) where
   module _ (settled : AreSettled sig least) where
     mutual

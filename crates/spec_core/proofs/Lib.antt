@@ -1,5 +1,4 @@
 pub mod Instances
-pub mod Numbered
 pub mod Keeps
 pub mod Groups
 pub mod Determined
@@ -18,3 +17,4 @@ pub mod SortedNaturals
 pub mod SmallShapes
 mod Covered
 pub mod Findings
+pub mod Constructors

@@ -10,7 +10,8 @@ use Rattle.spec_core.specs.Sig.{Sig}
 use Rattle.spec_core.specs.Sorts.{Sorted, SortedAll, IsBuilt}
 use Rattle.spec_core.specs.Small.{HasSmallValue, AllHaveSmallValues, IsFirstWithout, sort_of_number}
 use Rattle.spec_core.specs.Declarations.{AreFresh, IsDeclared, bool_symbol}
-use Rattle.spec_core.specs.WellSorted.{RuleIsSorted, GoalIsSorted, GoalNamesAreDistinct, IsWellSorted, HasFewArguments, Occurs}
+use Rattle.term_core.specs.Variables.{Occurs}
+use Rattle.spec_core.specs.WellSorted.{RuleIsSorted, GoalIsSorted, GoalNamesAreDistinct, IsWellSorted, HasFewArguments}
 use Rattle.spec_core.specs.Naturals.{nat, declares, nat_sorts, nat_constructors, nat_function, naturals_sig, repeated_sig, endless_sig, naturals, twice, plus_zero_rule, plus_succ_rule, loose_rule, same_goal, unit_goal, mixed_goal, zero_term, plus_term}
 use Rattle.term_core.proofs.Items.{all_at}
 

@@ -10,7 +10,8 @@ use Rattle.spec_core.specs.declared.records.Spec.{Spec}
 use Rattle.spec_core.specs.Sig.{Sig, IsConstructor}
 use Rattle.spec_core.specs.Sorts.{SortedAll, IsBuilt, AreBuilt}
 use Rattle.spec_core.specs.Gives.{Gives, GivesAll, built, called, no_terms, more_terms}
-use Rattle.spec_core.specs.WellSorted.{IsWellSorted, Numbered, NumberedAll, Occurs, OccursAny, IsLeft}
+use Rattle.term_core.specs.Variables.{Numbered, NumberedAll, Occurs, OccursAny}
+use Rattle.spec_core.specs.WellSorted.{IsWellSorted, IsLeft}
 use Rattle.spec_core.specs.Overlap.{NoOverlap}
 use Rattle.spec_core.specs.Groups.{GroupsAreWhole}
 use Rattle.spec_core.proofs.Determined.{left_symbol, determined_all}

@@ -6,25 +6,29 @@ use Rattle.spec_core.specs.declared.records.SymInfo.{SymInfo}
 use Rattle.spec_core.specs.Sig.{Sig}
 use Rattle.spec_core.specs.Small.{AllHaveSmallValues}
 
--- the name is none of the table's
+module _ {X : Type 0} (name_of : X → List ℕ) where
+  -- the name is the name of none of the items
+  abbrev pub IsNewAmong : List ℕ → List X → Type 0
+  IsNewAmong name [] = Unit {0}
+  IsNewAmong name (x ∷ xs) = (name ≡ name_of x → ⊥) × IsNewAmong name xs
+
+  -- each item's name is the name of none of those seen and of none before it
+  abbrev pub AreNewAfter : List X → List X → Type 0
+  AreNewAfter seen [] = Unit {0}
+  AreNewAfter seen (x ∷ xs) = IsNewAmong (name_of x) seen × AreNewAfter (seen ++ x ∷ []) xs
+
+-- the same of the symbols of a table, and of names
 abbrev pub IsNew : List ℕ → List (List ℕ × SymInfo) → Type 0
-IsNew name [] = Unit {0}
-IsNew name (e ∷ es) = (name ≡ e.0 → ⊥) × IsNew name es
+IsNew = IsNewAmong (λ (e : List ℕ × SymInfo). e.0)
 
--- each name is none of the table's and none before it
 abbrev pub AreFresh : List (List ℕ × SymInfo) → List (List ℕ × SymInfo) → Type 0
-AreFresh seen [] = Unit {0}
-AreFresh seen (e ∷ es) = IsNew e.0 seen × AreFresh (seen ++ e ∷ []) es
+AreFresh = AreNewAfter (λ (e : List ℕ × SymInfo). e.0)
 
--- the name is none of the names
 abbrev pub IsNewName : List ℕ → List (List ℕ) → Type 0
-IsNewName name [] = Unit {0}
-IsNewName name (n ∷ ns) = (name ≡ n → ⊥) × IsNewName name ns
+IsNewName = IsNewAmong (λ (name : List ℕ). name)
 
--- each name is none of the first names and none before it
 abbrev pub AreNewNames : List (List ℕ) → List (List ℕ) → Type 0
-AreNewNames seen [] = Unit {0}
-AreNewNames seen (n ∷ ns) = IsNewName n seen × AreNewNames (seen ++ n ∷ []) ns
+AreNewNames = AreNewAfter (λ (name : List ℕ). name)
 
 abbrev pub bool_sort : SortId
 bool_sort = record { 0 = 0 }

@@ -5,7 +5,8 @@ use Rattle.spec_core.specs.declared.records.Verdict.TheVariants.{Holds, Fails}
 use Rattle.spec_core.specs.Sorts.{Sorted, IsValue}
 use Rattle.spec_core.specs.Small.{HasSmallValue, IsFirstWithout, IsSmall}
 use Rattle.spec_core.specs.Declarations.{IsDeclared, bool_sort}
-use Rattle.spec_core.specs.WellSorted.{Numbered, RuleIsSorted, GoalIsSorted, IsWellSorted}
+use Rattle.term_core.specs.Variables.{Numbered}
+use Rattle.spec_core.specs.WellSorted.{RuleIsSorted, GoalIsSorted, IsWellSorted}
 use Rattle.spec_core.specs.Gives.{Gives}
 use Rattle.spec_core.specs.Truth.{GoalFails, GoalHolds}
 use Rattle.spec_core.specs.Linear.{IsLinear, LeftSidesAreLinear}

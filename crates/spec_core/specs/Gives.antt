@@ -1,5 +1,5 @@
 -- Evaluation with its cost.
-use Rattle.std.specs.Prelude.{◌≡◌, ℕ, ◌+◌, List, [], ◌∷◌, Bool, cond, Some, slice_get}
+use Rattle.std.specs.Prelude.{◌≡◌, ℕ, ◌+◌, List, [], ◌∷◌, Bool, if◌then◌else◌, Some, slice_get}
 use Rattle.std.specs.List.{AllByRecursion}
 use Rattle.term_core.specs.Tree.{Tree, Trees, app, none, some, instance}
 use Rattle.spec_core.specs.declared.records.Rule.{Rule}
@@ -10,7 +10,7 @@ use Rattle.spec_core.specs.Sorts.{IsBuilt}
 
 -- the Boolean as a value
 abbrev pub boolean : Bool → Tree
-boolean b = app (cond b 0 1) none
+boolean b = app (if b then 0 else 1) none
 
 module _ (spec : Spec) where
   mutual

@@ -1,29 +1,16 @@
 -- The rules of one left side, and whole groups of guards.
-use Rattle.std.specs.Prelude.{◌≡◌, ℕ, suc, List, [], ◌∷◌, Bool, true, false, not, ◌&&◌, ◌==◌, cond, Some, slice_get}
+use Rattle.std.specs.Prelude.{◌≡◌, ℕ, suc, List, [], ◌∷◌, Bool, true, false, not, if◌then◌else◌, Some, slice_get}
 use Rattle.std.specs.List.{AllByRecursion}
-use Rattle.term_core.specs.Tree.{Tree, Trees, var, app, none, some}
+use Rattle.term_core.specs.Tree.{Tree}
+use Rattle.term_core.specs.Same.{same_tree}
 use Rattle.spec_core.specs.declared.records.Rule.{Rule}
 use Rattle.spec_core.specs.declared.records.Guard.{Guard}
 use Rattle.spec_core.specs.declared.records.Spec.{Spec}
 
--- the test whether two terms are the same tree
-abbrev mutual
-  pub same_tree : Tree → Tree → Bool
-  same_tree (var m) (var n) = m == n
-  same_tree (app f ts) (app g us) = (f == g) && same_trees ts us
-  same_tree (var m) (app g us) = false
-  same_tree (app f ts) (var n) = false
-
-  pub same_trees : Trees → Trees → Bool
-  same_trees none none = true
-  same_trees (some t ts) (some u us) = same_tree t u && same_trees ts us
-  same_trees none (some u us) = false
-  same_trees (some t ts) none = false
-
 -- the numbers and the guards of the rules with this left side, where the first rule has the number n
 abbrev pub group : Tree → ℕ → List Rule → List (ℕ × List Guard)
 group left n [] = []
-group left n (r ∷ rs) = cond (same_tree left r.left) ((n, r.guards) ∷ group left (suc n) rs) (group left (suc n) rs)
+group left n (r ∷ rs) = if same_tree left r.left then (n, r.guards) ∷ group left (suc n) rs else group left (suc n) rs
 
 -- the first guard has this test
 abbrev pub BeginsWith : Tree → List Guard → Type 0
@@ -36,7 +23,7 @@ bool_same false b = not b
 
 abbrev pub rest_if : Bool → ℕ → List Guard → List (ℕ × List Guard) → List (ℕ × List Guard)
 rest_if wanted k [] ms = ms
-rest_if wanted k (g ∷ gs) ms = cond (bool_same wanted g.wanted) ((k, gs) ∷ ms) ms
+rest_if wanted k (g ∷ gs) ms = if bool_same wanted g.wanted then (k, gs) ∷ ms else ms
 
 -- of the guard lists that begin by wanting this Boolean, the rests
 abbrev pub wanting : Bool → List (ℕ × List Guard) → List (ℕ × List Guard)

@@ -3,7 +3,7 @@ use Rattle.std.specs.Prelude.{◌≡◌, ◌⊎◌, ℕ, Some, slice_get}
 use Rattle.term_core.specs.Tree.{Tree, Trees, var, app, none, some}
 use Rattle.spec_core.specs.declared.records.Rule.{Rule}
 use Rattle.spec_core.specs.declared.records.Spec.{Spec}
-use Rattle.spec_core.specs.WellSorted.{Occurs, OccursAny}
+use Rattle.term_core.specs.Variables.{Occurs, OccursAny}
 
 -- the variable occurs at two places of the term, or more
 abbrev mutual

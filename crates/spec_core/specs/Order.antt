@@ -1,8 +1,9 @@
 -- The values that a search tries, in their order.
-use Rattle.std.specs.Prelude.{ℕ, zero, suc, ◌==◌, nat_le, List, [], ◌∷◌, Bool, cond, map, filter}
+use Rattle.std.specs.Prelude.{ℕ, zero, suc, ◌==◌, nat_le, List, [], ◌∷◌, Bool, if◌then◌else◌, map, filter}
 use Rattle.std.specs.List.{flat_map}
 use Rattle.term_core.specs.Tree.{Tree, app, trees_of, tree_size}
 use Rattle.term_core.specs.declared.ids.SortId.{SortId}
+use Rattle.term_core.specs.declared.ids.SymId.{SymId}
 use Rattle.spec_core.specs.declared.records.SymInfo.{SymInfo}
 use Rattle.spec_core.specs.declared.records.Goal.{Goal}
 use Rattle.spec_core.specs.declared.records.Spec.{Spec}
@@ -18,10 +19,18 @@ product (xs ∷ xss) = flat_map (λ x. map (λ ys. x ∷ ys) (product xss)) xs
 abbrev pub constructors_from : ℕ → ℕ → SortId → List (List ℕ × SymInfo) → List (ℕ × List SortId)
 constructors_from f zero s es = []
 constructors_from f (suc left) s [] = []
-constructors_from f (suc left) s (e ∷ es) = cond (e.1.result.0 == s.0) ((f, e.1.args) ∷ constructors_from (suc f) left s es) (constructors_from (suc f) left s es)
+constructors_from f (suc left) s (e ∷ es) =
+    if e.1.result.0 == s.0 then (f, e.1.args) ∷ constructors_from (suc f) left s es else constructors_from (suc f) left s es
 
 abbrev pub constructors_of : Sig → SortId → List (ℕ × List SortId)
 constructors_of sig s = constructors_from 0 sig.constructors s sig.table
+
+-- the numbers of the sort's constructors
+abbrev pub symbol_number : SymId → ℕ
+symbol_number f = f.0
+
+abbrev pub constructor_numbers : Sig → SortId → List ℕ
+constructor_numbers sig s = map (λ (c : ℕ × List SortId). c.0) (constructors_of sig s)
 
 abbrev pub is_small : Tree → Bool
 is_small t = nat_le (tree_size t) 255

@@ -1,8 +1,9 @@
 -- Well sorted rules, goals and specifications.
-use Rattle.std.specs.Prelude.{◌≡◌, ℕ, ◌+◌, ◌<◌, ◌≤◌, ◌^◌, ◌⊎◌, List, Some, map, length, slice_get}
+use Rattle.std.specs.Prelude.{◌≡◌, ℕ, ◌<◌, ◌≤◌, ◌^◌, List, Some, map, length, slice_get}
 use Rattle.std.specs.List.{AllByRecursion}
 use Rattle.term_core.specs.Tree.{Tree, Trees, var, app, none, some, tree_depth}
 use Rattle.term_core.specs.declared.ids.SortId.{SortId}
+use Rattle.term_core.specs.Variables.{Occurs, Numbered}
 use Rattle.spec_core.specs.declared.records.SymInfo.{SymInfo}
 use Rattle.spec_core.specs.declared.records.VarInfo.{VarInfo}
 use Rattle.spec_core.specs.declared.records.Rule.{Rule}
@@ -13,26 +14,6 @@ use Rattle.spec_core.specs.declared.records.Equation.{Equation}
 use Rattle.spec_core.specs.Sig.{Sig, info_of, IsConstructor, IsSort}
 use Rattle.spec_core.specs.Sorts.{Sorted}
 use Rattle.spec_core.specs.Declarations.{IsDeclared, bool_sort}
-
--- the variable is in the term
-abbrev mutual
-  pub Occurs : ℕ → Tree → Type 0
-  Occurs n (var m) = n ≡ m
-  Occurs n (app f ts) = OccursAny n ts
-
-  pub OccursAny : ℕ → Trees → Type 0
-  OccursAny n none = ⊥
-  OccursAny n (some t ts) = Occurs n t ⊎ OccursAny n ts
-
--- the variables are numbered by first occurrence, where k numbers are taken before the term, and m after it
-abbrev mutual
-  pub Numbered : ℕ → Tree → ℕ → Type 0
-  Numbered k (var n) m = ((n < k) × (m ≡ k)) ⊎ ((n ≡ k) × (m ≡ k + 1))
-  Numbered k (app f ts) m = NumberedAll k ts m
-
-  pub NumberedAll : ℕ → Trees → ℕ → Type 0
-  NumberedAll k none m = m ≡ k
-  NumberedAll k (some t ts) m = (j : ℕ) × Numbered k t j × NumberedAll j ts m
 
 -- the symbols of a pattern are constructors
 abbrev mutual

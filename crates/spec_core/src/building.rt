@@ -13,6 +13,7 @@ use crate::symbols::Signature;
 use crate::tables::Tables;
 use indexmap::IndexMap;
 use std::alloc::Global;
+use std::fmt;
 use term_core::{Name, OutOfMemory, Seq, SortId};
 
 /// Why a signature isn't made.
@@ -31,6 +32,16 @@ impl From<OutOfMemory> for BuildError {
 
     fn from(_error: OutOfMemory) -> BuildError {
         BuildError::OutOfMemory
+    }
+}
+
+impl fmt::Display for BuildError {
+    fn fmt<W: fmt::Write>(&self, f: &mut fmt::Formatter<W>) -> fmt::Result {
+        match self {
+            BuildError::Repeated => f.write_str("a name occurs twice"),
+            BuildError::NoSmallValue { sort } => { write!(f, "sort {} has no small value", sort.0) }
+            BuildError::OutOfMemory => f.write_str("out of memory"),
+        }
     }
 }
 
@@ -55,7 +66,9 @@ impl Signature {
         // The errors: each comes only where its cause is there, and Ok only where neither is.
         ensures distinct { OnOk result (AreDistinct sorts constructors functions) }
         ensures repeated { result ≡ Err BuildError.Repeated → AreDistinct sorts constructors functions → ⊥ }
-        ensures no_small_value { (s : SortId) → result ≡ Err (BuildError.NoSmallValue s) → AreDistinct sorts constructors functions × IsFirstWithout (declared_by sorts constructors functions) s }
+        ensures no_small_value { (s : SortId) → result ≡ Err (BuildError.NoSmallValue s) →
+            AreDistinct sorts constructors functions ×
+            IsFirstWithout (declared_by sorts constructors functions) s }
     {
         let Some(tables) = all_tables(alloc, sorts, constructors, functions)? else {
             return Err(BuildError::Repeated);
@@ -76,7 +89,10 @@ fn all_tables(
 ) -> Result<Option<Tables>, OutOfMemory>
     requires few_sorts { length sorts + 1 < 2 ^ 32 }
     requires few_symbols { length constructors + length functions + 2 < 2 ^ 32 }
-    ensures { IfOk result (λ r. MatchOption r (AreDistinct sorts constructors functions → ⊥) (λ tables. (tables ≡ declared_by sorts constructors functions) × AreDistinct sorts constructors functions)) }
+    ensures { IfOk result (λ r. MatchOption r
+        (AreDistinct sorts constructors functions → ⊥)
+        (λ tables. (tables ≡ declared_by sorts constructors functions) ×
+        AreDistinct sorts constructors functions)) }
 {
     let count = 2 + constructors.len() as u32;
     let Some(names) = all_sort_names(alloc, sorts.into_vec())? else {
@@ -95,7 +111,9 @@ fn all_tables(
 
 /// The names of all sorts, or None where one occurs twice.
 fn all_sort_names(alloc: Global, sorts: Vec<Name>) -> Result<Option<Seq<Name>>, OutOfMemory>
-    ensures { IfOk result (λ r. MatchOption r (AreNewNames [] (codes "Bool" ∷ sorts.items) → ⊥) (λ names. (names ≡ codes "Bool" ∷ sorts.items) × AreNewNames [] (codes "Bool" ∷ sorts.items))) }
+    ensures { let all = codes "Bool" ∷ sorts.items in
+        IfOk result (λ r. MatchOption r (AreNewNames [] all → ⊥)
+        (λ names. (names ≡ all) × AreNewNames [] all)) }
 {
     let mut names = Seq::new(alloc);
     names.push(boolean_name(alloc)?)?;
@@ -109,13 +127,15 @@ fn all_sort_names(alloc: Global, sorts: Vec<Name>) -> Result<Option<Seq<Name>>, 
 fn boolean_name(alloc: Global) -> Result<Name, OutOfMemory>
     ensures { IfOk result (λ r. r ≡ codes "Bool") }
 {
-    Ok(Name::from_bytes(Vec::from_slice(alloc, b"Bool")?))
+    Name::of(alloc, b"Bool")
 }
 
 /// Adds sorts in their order, up to one whose name is there.
 fn add_sorts(sorts: &mut Seq<Name>, names: Vec<Name>) -> Result<bool, OutOfMemory>
-    ensures fresh { IfOk result (λ fresh. IsTrue fresh → (sorts.new ≡ sorts.old ++ names.items) × AreNewNames sorts.old names.items) }
-    ensures repeated { IfOk result (λ fresh. (IsTrue fresh → ⊥) → AreNewNames sorts.old names.items → ⊥) }
+    ensures fresh { IfOk result (λ fresh. IsTrue fresh →
+        (sorts.new ≡ sorts.old ++ names.items) × AreNewNames sorts.old names.items) }
+    ensures repeated { IfOk result (λ fresh.
+        (IsTrue fresh → ⊥) → AreNewNames sorts.old names.items → ⊥) }
 {
     let mut rest = names;
     rest.reverse();
@@ -129,7 +149,8 @@ fn add_sorts(sorts: &mut Seq<Name>, names: Vec<Name>) -> Result<bool, OutOfMemor
 
 /// Adds a sort at the end, unless its name is there.
 fn add_sort(sorts: &mut Seq<Name>, name: Name) -> Result<bool, OutOfMemory>
-    ensures fresh { IfOk result (λ fresh. IsTrue fresh → (sorts.new ≡ sorts.old ++ name ∷ []) × IsNewName name sorts.old) }
+    ensures fresh { IfOk result (λ fresh. IsTrue fresh →
+        (sorts.new ≡ sorts.old ++ name ∷ []) × IsNewName name sorts.old) }
     ensures repeated { IfOk result (λ fresh. (IsTrue fresh → ⊥) → IsNewName name sorts.old → ⊥) }
 {
     if has_name(sorts.as_slice(), name.as_bytes()) {
@@ -157,7 +178,9 @@ fn all_symbol_table(
     constructors: Vec<(Name, SymInfo)>,
     functions: Vec<(Name, SymInfo)>,
 ) -> Result<Option<IndexMap<Vec<u8>, SymInfo>>, OutOfMemory>
-    ensures { IfOk result (λ r. MatchOption r (AreFresh [] (all_symbols constructors.items functions.items) → ⊥) (λ table. (pairs_of table.entries ≡ all_symbols constructors.items functions.items) × AreFresh [] (all_symbols constructors.items functions.items))) }
+    ensures { let all = all_symbols constructors.items functions.items in
+        IfOk result (λ r. MatchOption r (AreFresh [] all → ⊥)
+        (λ table. (pairs_of table.entries ≡ all) × AreFresh [] all)) }
 {
     let mut table = IndexMap::new(alloc);
     if fill(alloc, &mut table, constructors, functions)? {
@@ -175,8 +198,11 @@ fn fill(
     functions: Vec<(Name, SymInfo)>,
 ) -> Result<bool, OutOfMemory>
     requires { table.old.entries ≡ [] }
-    ensures fresh { IfOk result (λ fresh. IsTrue fresh → (pairs_of table.new.entries ≡ all_symbols constructors.items functions.items) × AreFresh [] (all_symbols constructors.items functions.items)) }
-    ensures repeated { IfOk result (λ fresh. (IsTrue fresh → ⊥) → AreFresh [] (all_symbols constructors.items functions.items) → ⊥) }
+    ensures fresh { let all = all_symbols constructors.items functions.items in
+        IfOk result (λ fresh. IsTrue fresh →
+        (pairs_of table.new.entries ≡ all) × AreFresh [] all) }
+    ensures repeated { IfOk result (λ fresh. (IsTrue fresh → ⊥) →
+        AreFresh [] (all_symbols constructors.items functions.items) → ⊥) }
 {
     let first = bools(alloc)?;
     if !add_symbols(table, first)? {
@@ -193,14 +219,8 @@ fn bools(alloc: Global) -> Result<Vec<(Name, SymInfo)>, OutOfMemory>
     ensures { IfOk result (λ r. r.items ≡ bool_symbols) }
 {
     let mut symbols = Vec::new(alloc);
-    symbols.push((
-        Name::from_bytes(Vec::from_slice(alloc, b"true")?),
-        bool_info(alloc),
-    ))?;
-    symbols.push((
-        Name::from_bytes(Vec::from_slice(alloc, b"false")?),
-        bool_info(alloc),
-    ))?;
+    symbols.push((Name::of(alloc, b"true")?, bool_info(alloc)))?;
+    symbols.push((Name::of(alloc, b"false")?, bool_info(alloc)))?;
     Ok(symbols)
 }
 
@@ -218,8 +238,11 @@ fn add_symbols(
     table: &mut IndexMap<Vec<u8>, SymInfo>,
     symbols: Vec<(Name, SymInfo)>,
 ) -> Result<bool, OutOfMemory>
-    ensures fresh { IfOk result (λ fresh. IsTrue fresh → (pairs_of table.new.entries ≡ pairs_of table.old.entries ++ symbols.items) × AreFresh (pairs_of table.old.entries) symbols.items) }
-    ensures repeated { IfOk result (λ fresh. (IsTrue fresh → ⊥) → AreFresh (pairs_of table.old.entries) symbols.items → ⊥) }
+    ensures fresh { let old = pairs_of table.old.entries in
+        IfOk result (λ fresh. IsTrue fresh →
+        (pairs_of table.new.entries ≡ old ++ symbols.items) × AreFresh old symbols.items) }
+    ensures repeated { IfOk result (λ fresh. (IsTrue fresh → ⊥) →
+        AreFresh (pairs_of table.old.entries) symbols.items → ⊥) }
 {
     let mut rest = symbols;
     rest.reverse();
@@ -237,8 +260,11 @@ fn add_symbol(
     name: Name,
     info: SymInfo,
 ) -> Result<bool, OutOfMemory>
-    ensures fresh { IfOk result (λ fresh. IsTrue fresh → (pairs_of table.new.entries ≡ pairs_of table.old.entries ++ (name, info) ∷ []) × IsNew name (pairs_of table.old.entries)) }
-    ensures repeated { IfOk result (λ fresh. (IsTrue fresh → ⊥) → IsNew name (pairs_of table.old.entries) → ⊥) }
+    ensures fresh { let old = pairs_of table.old.entries in
+        IfOk result (λ fresh. IsTrue fresh →
+        (pairs_of table.new.entries ≡ old ++ (name, info) ∷ []) × IsNew name old) }
+    ensures repeated { IfOk result (λ fresh. (IsTrue fresh → ⊥) →
+        IsNew name (pairs_of table.old.entries) → ⊥) }
 {
     let name = name.into_bytes();
     if table.contains_key(name.as_slice()) {

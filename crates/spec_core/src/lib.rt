@@ -21,4 +21,5 @@ mod tests;
 pub use building::BuildError;
 pub use laws::{one_small_value, one_value, worked_examples};
 pub use records::{Equation, Goal, Guard, Rule, Spec, SymInfo, VarInfo, Verdict};
+pub use small::SMALL_VALUE_SYMBOLS;
 pub use symbols::Signature;

@@ -17,7 +17,8 @@ impl Signature {
         out: &mut Vec<u8>,
     ) -> Result<(), OutOfMemory>
         requires in_range { SymbolsAreInRange self.now term.now }
-        ensures printed { OnOk result (out.new.items ≡ out.old.items ++ term_text self.now (variable_names names.now) term.now) }
+        ensures printed { OnOk result (out.new.items ≡
+            out.old.items ++ term_text self.now (variable_names names.now) term.now) }
         ensures kept { OnErr result (out.new.items ≡ out.old.items) }
     {
         let mut text = Vec::new(alloc);
@@ -35,7 +36,8 @@ impl Signature {
         text: &mut Vec<u8>,
     ) -> Result<(), OutOfMemory>
         requires in_range { SymbolsAreInRange self.now term.now }
-        ensures { OnOk result (text.new.items ≡ text.old.items ++ term_text self.now (variable_names names.now) term.now) }
+        ensures { OnOk result (text.new.items ≡
+            text.old.items ++ term_text self.now (variable_names names.now) term.now) }
     {
         match &term.node {
             Node::Var(var) => append_variable(alloc, names, *var, text),
@@ -63,7 +65,8 @@ impl Signature {
         text: &mut Vec<u8>,
     ) -> Result<(), OutOfMemory>
         requires in_range { AllSymbolsAreInRange self.now (trees_of terms.now) }
-        ensures { OnOk result (text.new.items ≡ text.old.items ++ others_text self.now (variable_names names.now) (trees_of terms.now)) }
+        ensures { OnOk result (text.new.items ≡ text.old.items ++
+            others_text self.now (variable_names names.now) (trees_of terms.now)) }
     {
         let Some((first, others)) = front(terms) else {
             return Ok(());
@@ -81,7 +84,8 @@ fn append_variable(
     var: VarId,
     text: &mut Vec<u8>,
 ) -> Result<(), OutOfMemory>
-    ensures { OnOk result (text.new.items ≡ text.old.items ++ variable_text (slice_get (variable_names names.now) var.0) var.0) }
+    ensures { OnOk result (text.new.items ≡
+        text.old.items ++ variable_text (slice_get (variable_names names.now) var.0) var.0) }
 {
     match names.get(var.0 as usize) {
         Some(info) => text.extend_from_slice(info.name.as_bytes())?,

@@ -10,8 +10,8 @@ use crate::tables::Tables;
 use std::alloc::Global;
 use term_core::{OutOfMemory, SortId, SymId, Term, Terms};
 
-/// The most symbols of a small value.
-const MOST: u16 = 255;
+/// The most symbols of a small value: of each value that a search tries.
+pub const SMALL_VALUE_SYMBOLS: u16 = 255;
 
 impl Signature {
     /// The small value of the sort: of the constructors that make a value of the fewest symbols
@@ -28,11 +28,12 @@ impl Signature {
 /// The first sort without a value of at most 255 symbols.
 pub(crate) fn first_without(alloc: Global, tables: &Tables) -> Result<Option<SortId>, OutOfMemory>
     requires { SortsAreInRange tables.now }
-    ensures { IfOk result (λ r. MatchOption r (AllHaveSmallValues tables.now) (IsFirstWithout tables.now)) }
+    ensures { IfOk result (λ r.
+        MatchOption r (AllHaveSmallValues tables.now) (IsFirstWithout tables.now)) }
 {
     let least = least_sizes(alloc, tables)?;
     for sort in 0..tables.sorts() {
-        if least[sort as usize] > MOST {
+        if least[sort as usize] > SMALL_VALUE_SYMBOLS {
             return Ok(Some(SortId(sort)));
         }
     }

@@ -10,7 +10,9 @@ impl Signature {
     /// The sort of the term, where the variable n has the sort at place n of `ctx`.
     #[cycle(sort)]
     pub fn sort_of(&self, ctx: &[SortId], term: &Term) -> Option<SortId>
-        ensures { MatchOption result ((s : SortId) → Sorted self.now ctx.now term.now s → ⊥) (λ s. Sorted self.now ctx.now term.now s) }
+        ensures { MatchOption result
+            ((s : SortId) → Sorted self.now ctx.now term.now s → ⊥)
+            (λ s. Sorted self.now ctx.now term.now s) }
     {
         match &term.node {
             Node::Var(var) => match ctx.get(var.0 as usize) {

@@ -1,12 +1,14 @@
-ghost use Rattle.std.specs.Prelude.{◌≡◌, ◌≤◌, ◌<◌, ◌↔◌, Some, IsTrue, length, option_map, position, slice_get};
+ghost use Rattle.std.specs.Prelude.{◌≡◌, ◌≤◌, ◌<◌, ◌↔◌, Some, IfOk, IsTrue, length, map, option_map, position, slice_get};
 ghost use Rattle.std.specs.Str.{bytes_eq};
 ghost use Rattle.spec_core.specs.Sig.{IsConstructor, info_of, names_of};
 ghost use Rattle.spec_core.specs.Declarations.{IsDeclared};
+ghost use Rattle.spec_core.specs.Order.{symbol_number, constructor_numbers};
 
 use crate::records::SymInfo;
 use crate::tables::Tables;
+use std::alloc::Global;
 use std::marker::Model;
-use term_core::{Name, SortId, SymId};
+use term_core::{OutOfMemory, Seq, SortId, SymId, place_of};
 
 /// The declared sorts and symbols, with `Bool`, `true` and `false` first. A symbol's number is its
 /// place in the table, and constructors stand before functions.
@@ -25,13 +27,6 @@ impl Model for Signature {
     ghost view = { λ a. a.tables };
 
     ghost invariant = { λ a. IsDeclared a.tables };
-}
-
-/// The first place of the name.
-fn place_of(names: &[Name], name: &[u8]) -> Option<usize>
-    ensures { result ≡ position (bytes_eq name.now) names.now }
-{
-    names.iter().position(|other| name == other.as_bytes())
 }
 
 impl Signature {
@@ -101,6 +96,19 @@ impl Signature {
             Some((name, _)) => name.as_slice(),
             None => unreachable!(),
         }
+    }
+
+    /// The constructors of the sort, in the order of their declaration.
+    pub fn constructors_of(&self, alloc: Global, sort: SortId) -> Result<Seq<SymId>, OutOfMemory>
+        ensures { IfOk result (λ made. map symbol_number made ≡ constructor_numbers self.now sort) }
+    {
+        let mut made = Seq::new(alloc);
+        for number in 0..self.constructors() {
+            if self.info(SymId(number)).result.0 == sort.0 {
+                made.push(SymId(number))?;
+            }
+        }
+        Ok(made)
     }
 
     pub fn is_constructor(&self, sym: SymId) -> bool

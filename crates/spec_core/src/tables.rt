@@ -20,9 +20,14 @@ impl Model for Tables {
 
     ghost Value = { Sig };
 
-    ghost view = { λ a. record { sorts = a.sorts; table = map (λ e. (e.0.items, e.1)) a.symbols.entries; constructors = a.constructors } };
+    ghost view = { λ a. record {
+      sorts = a.sorts;
+      table = map (λ e. (e.0.items, e.1)) a.symbols.entries;
+      constructors = a.constructors;
+    } };
 
-    ghost invariant = { λ a. (length a.symbols.entries < 2 ^ 32) × (length a.sorts < 2 ^ 32) × (a.constructors ≤ length a.symbols.entries) };
+    ghost invariant = { λ a. (length a.symbols.entries < 2 ^ 32) ×
+        (length a.sorts < 2 ^ 32) × (a.constructors ≤ length a.symbols.entries) };
 }
 
 impl Tables {

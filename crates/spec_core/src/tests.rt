@@ -61,7 +61,8 @@ fn function(alloc: Global, bytes: &[u8]) -> Result<Seq<(Name, SymInfo)>, OutOfMe
 
 /// Naturals with a function of this name.
 fn naturals(alloc: Global, bytes: &[u8]) -> Result<Signature, BuildError>
-    ensures { IfOk result (λ sig. sig ≡ declared_by nat_sorts nat_constructors (nat_function bytes.now)) }
+    ensures { IfOk result (λ sig.
+        sig ≡ declared_by nat_sorts nat_constructors (nat_function bytes.now)) }
 {
     let function = function(alloc, bytes)?;
     Signature::build(alloc, sorts(alloc)?, constructors(alloc)?, function)
@@ -155,6 +156,10 @@ fn builds_a_signature(rt: HostRuntime) -> Result<(), Fail> {
     ] {
         assert_eq!(rt; sig.symbol(bytes), number);
     }
+    assert_eq!(rt;
+        sig.constructors_of(alloc, NAT)?.as_slice(),
+        [SymId(2), SymId(3)].as_slice()
+    );
     assert_eq!(rt; naturals(alloc, b"zero").err(), Some(BuildError::Repeated));
     Ok(())
 }

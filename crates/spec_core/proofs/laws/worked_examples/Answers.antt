@@ -6,7 +6,7 @@ use Rattle.term_core.specs.declared.ids.SortId.{SortId}
 use Rattle.spec_core.specs.declared.records.SymInfo.{SymInfo}
 use Rattle.spec_core.specs.Sorts.{Sorted, IsBuilt}
 use Rattle.spec_core.specs.Declarations.{bool_sort}
-use Rattle.spec_core.specs.WellSorted.{Numbered}
+use Rattle.term_core.specs.Variables.{Numbered}
 use Rattle.spec_core.specs.Overlap.{NoOverlap}
 use Rattle.spec_core.specs.declared.records.Rule.{Rule}
 use Rattle.spec_core.specs.Gives.{Gives, built, called, no_terms, more_terms, no_guards}

@@ -3,7 +3,8 @@ use Rattle.std.proofs.lemmas.List.{take_more}
 use Rattle.term_core.specs.Tree.{trees_of}
 use Rattle.spec_core.specs.Small.{AreSmall}
 use Rattle.spec_core.specs.Sig.{IsSort}
-use Rattle.spec_core.proofs.LeastSizes.{size_of, sum_within, all_at}
+use Rattle.term_core.proofs.Items.{all_at_or}
+use Rattle.spec_core.proofs.LeastSizes.{size_of, sum_within}
 use Rattle.spec_core.proofs.SmallValues.{small_made, passed, some_maker, smalls_more}
 use Rattle.spec_core.proofs.small.+small.Goals as goal
 use Rattle.spec_core.proofs.small.+small.Goals.{small_by-then-info-sort+else-size-from, small_by-else-info-sort}
@@ -34,7 +35,7 @@ small_by-unreachable-requires t c =
 pub smalls_by-small_by-requires : goal.smalls_by-small_by-requires
 smalls_by-small_by-requires t c =
     let h = sum_within c.args.least.now c.args.sorts.now c.loop-sort.sort-index (record { 0 = 0 }) c.loop-sort-test.true in
-    (omega (arith, h), (c.requires.in_range, (c.requires.least, (omega (arith, h, c.requires.small), all_at (IsSort c.args.tables.now) c.args.sorts.now c.loop-sort.sort-index (record { 0 = 0 }) c.requires.sorts c.loop-sort-test.true))))
+    (omega (arith, h), (c.requires.in_range, (c.requires.least, (omega (arith, h, c.requires.small), all_at_or (IsSort c.args.tables.now) c.args.sorts.now c.loop-sort.sort-index (record { 0 = 0 }) c.requires.sorts c.loop-sort-test.true))))
 
 pub smalls_by-loop-sort-preserved : goal.smalls_by-loop-sort-preserved
 smalls_by-loop-sort-preserved t c =
