@@ -1,0 +1,4 @@
+mod Shared
+pub mod SortedComparison
+pub mod SortedLists
+pub mod SortedInsertion
