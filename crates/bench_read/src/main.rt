@@ -13,9 +13,7 @@ fn main(rt: HostRuntime) -> Result<()> {
         bail!("the word is FILE");
     };
     let bytes = fs::read(&rt, file.as_str())?;
-    let Ok(raw) = read(rt.alloc(), &bytes) else {
-        bail!("the file isn't read");
-    };
+    let raw = read(rt.alloc(), &bytes)?;
     let sorts = raw.sorts.len();
     let functions = raw.funs.len();
     let rules = raw.rules.len();

@@ -33,13 +33,15 @@ module _ {R : Type 0} (IsText : R → List Marked → Type 0) where
 
   -- some text begins with these tokens, its limits left aside
   abbrev pub Continues : List Item → Type 0
-  Continues items = (r : R) × (text : List Marked) × (rest : List Item) × IsText r text × (bare text ≡ items ++ rest)
+  Continues items = (r : R) × (text : List Marked) × (rest : List Item)
+      × IsText r text × (bare text ≡ items ++ rest)
 
-  -- The first fault lies behind the tokens `done`, at the first token of `left`, or at the end where none is left. What
-  -- is done begins a text within the limits.
+  -- The first fault lies behind the tokens `done`, at the first token of `left`, or at the end where
+  -- none is left. What is done begins a text within the limits.
   abbrev pub IsFault : List Item → List Item → Option LimitKind → Type 0
   -- the tokens end, and are no text
-  IsFault done [] None = Begins (clean done) × ((r : R) (text : List Marked) → IsText r text → bare text ≡ done → ⊥)
+  IsFault done [] None = Begins (clean done)
+      × ((r : R) (text : List Marked) → IsText r text → bare text ≡ done → ⊥)
   -- no text goes on with this token
   IsFault done (x ∷ left) None = Begins (clean done) × (Continues (done ++ x ∷ []) → ⊥)
   -- a text goes on with this token, which passes a limit
@@ -48,9 +50,12 @@ module _ {R : Type 0} (IsText : R → List Marked → Type 0) where
 
   -- the bytes have tokens, and these derive it
   abbrev pub TextDerives : List ℕ → R → Type 0
-  TextDerives bytes r = (tokens : List Token) × AreTokens bytes tokens × Derives (items_of bytes tokens) r
+  TextDerives bytes r =
+      (tokens : List Token) × AreTokens bytes tokens × Derives (items_of bytes tokens) r
 
   -- the bytes have tokens, and the first fault of these is at this place
   abbrev pub TextHasFault : List ℕ → ℕ → Option LimitKind → Type 0
   TextHasFault bytes at why =
-      (done : List Token) × (left : List Token) × AreTokens bytes (done ++ left) × (at ≡ place_of left (length bytes)) × IsFault (items_of bytes done) (items_of bytes left) why
+      (done : List Token) × (left : List Token) × AreTokens bytes (done ++ left)
+      × (at ≡ place_of left (length bytes))
+      × IsFault (items_of bytes done) (items_of bytes left) why

@@ -3,6 +3,8 @@ use Rattle.std.specs.Prelude.{◌≡◌, ℕ, zero, suc, List, [], ◌∷◌, So
 use Rattle.spec_grammar.specs.declared.keys.Key.TheVariants.{Spike, Goal, One, LeftPar, RightPar, Comma, Colon, Equals, Arrow}
 use Rattle.spec_grammar.specs.declared.limits.LimitKind.TheVariants as limit
 use Rattle.spec_grammar.specs.declared.raw.RawEq.{RawEq}
+use Rattle.spec_grammar.specs.declared.raw.RawGoal.{RawGoal}
+use Rattle.spec_grammar.specs.declared.raw.RawName.{RawName}
 use Rattle.spec_grammar.specs.declared.raw.RawSpec.{RawSpec}
 use Rattle.spec_grammar.specs.RawTree.{RawTree, word, none, some}
 use Rattle.spec_grammar.specs.Items.{Item, Word, Sign}
@@ -13,10 +15,12 @@ use Rattle.spec_grammar.specs.KeepsLimits.{raw_depth, TermKeepsLimits}
 
 -- `f(x, y)` at the places of its words
 abbrev pub pair_term : RawTree
-pair_term = word (codes "f") 0 (some (word (codes "x") 2 none) (some (word (codes "y") 5 none) none))
+pair_term =
+    word (codes "f") 0 (some (word (codes "x") 2 none) (some (word (codes "y") 5 none) none))
 
 abbrev pub pair_items : List Item
-pair_items = Word (codes "f") 0 ∷ Sign LeftPar ∷ Word (codes "x") 2 ∷ Sign Comma ∷ Word (codes "y") 5 ∷ Sign RightPar ∷ []
+pair_items = Word (codes "f") 0 ∷ Sign LeftPar ∷ Word (codes "x") 2 ∷ Sign Comma
+    ∷ Word (codes "y") 5 ∷ Sign RightPar ∷ []
 
 -- `f(..f(x)..)`, with n words above the last
 abbrev pub chain : ℕ → RawTree
@@ -29,27 +33,40 @@ equation x y = record { left = word (codes "x") x none; right = word (codes "y")
 
 -- one goal `g` at the place 13
 abbrev pub one_goal : List RawEq → RawSpec
-one_goal conclusions = record { sorts = []; funs = []; rules = []; goals = record { head = record { name = codes "g"; at = 13 }; binds = []; premises = []; conclusions = conclusions } ∷ [] }
+one_goal conclusions =
+    let head : RawName = record { name = codes "g"; at = 13 } in
+    let goal : RawGoal =
+    record { head = head; binds = []; premises = []; conclusions = conclusions } in
+    record { sorts = []; funs = []; rules = []; goals = goal ∷ [] }
 
 abbrev pub goal_items : List Item → List Item
 goal_items clause = Sign Spike ∷ Sign One ∷ Sign Goal ∷ Word (codes "g") 13 ∷ Sign Colon ∷ clause
 
+-- `x = y` at these places, as tokens
+abbrev pub equation_items : ℕ → ℕ → List Item
+equation_items x y = Word (codes "x") x ∷ Sign Equals ∷ Word (codes "y") y ∷ []
+
 pub record WorkedExamples : Type 0 where
   -- the header alone
-  pub header : Derives IsSpecText (Sign Spike ∷ Sign One ∷ []) (record { sorts = []; funs = []; rules = []; goals = [] })
+  pub header : Derives IsSpecText (Sign Spike ∷ Sign One ∷ [])
+      (record { sorts = []; funs = []; rules = []; goals = [] })
   -- a conclusion without the arrow and with it, and no equation at all
-  pub without_arrow : Derives IsSpecText (goal_items (Word (codes "x") 17 ∷ Sign Equals ∷ Word (codes "y") 21 ∷ [])) (one_goal (equation 17 21 ∷ []))
-  pub with_arrow : Derives IsSpecText (goal_items (Sign Arrow ∷ Word (codes "x") 20 ∷ Sign Equals ∷ Word (codes "y") 24 ∷ [])) (one_goal (equation 20 24 ∷ []))
+  pub without_arrow :
+      Derives IsSpecText (goal_items (equation_items 17 21)) (one_goal (equation 17 21 ∷ []))
+  pub with_arrow : Derives IsSpecText (goal_items (Sign Arrow ∷ equation_items 20 24))
+      (one_goal (equation 20 24 ∷ []))
   pub nothing : Derives IsSpecText (goal_items (Sign Arrow ∷ [])) (one_goal [])
   pub arguments : Derives IsTermText pair_items pair_term
   -- no term begins with a comma
   pub comma : IsFault IsTermText [] (Sign Comma ∷ pair_items) None
-  -- the eighth argument is the last, a word below 64 others is one too deep, the fifth conclusion is one too many
+  -- the eighth argument is the last, a word below 64 others is one too deep, the fifth conclusion
+  -- is one too many
   pub eighth : term_mark 1 7 ≡ None
   pub ninth : term_mark 1 8 ≡ Some limit.Arity
   pub deep : term_mark 64 0 ≡ Some limit.Nesting
   pub fifth : conclusion_mark 4 ≡ Some limit.Conclusions
-  -- a word alone has the depth 1; the deepest term has 63 words above its last, and with 64 it is too deep
+  -- a word alone has the depth 1; the deepest term has 63 words above its last, and with 64 it is
+  -- too deep
   pub depth_of_word : raw_depth (word (codes "x") 0 none) ≡ 1
   pub depth_of_pair : raw_depth pair_term ≡ 2
   pub deepest : TermKeepsLimits (chain 63)

@@ -1,5 +1,6 @@
--- The grammar: the tokens of each part of a raw specification, each token with the limit that it passes if there is
--- one. Each text is told with what stands behind it, `rest`; a number says how many items stand before.
+-- The grammar: the tokens of each part of a raw specification, each token with the limit that it
+-- passes if there is one. Each text is told with what stands behind it, `rest`; a number says how
+-- many items stand before.
 use Rattle.std.specs.Prelude.{◌≡◌, ◌≢◌, ℕ, ◌+◌, ◌⊎◌, List, [], ◌∷◌, Option, None, Bool, true, false, length}
 use Rattle.spec_grammar.specs.declared.keys.Key.{Key}
 use Rattle.spec_grammar.specs.declared.keys.Key.TheVariants.{Spike, Sort, Fun, Rule, Goal, If, Unless, One, LeftPar, RightPar, Comma, Colon, Equals, Bar, Arrow}
@@ -35,20 +36,24 @@ abbrev mutual
 
   pub args_text : ℕ → RawTrees → List Marked → List Marked
   args_text d none rest = rest
-  args_text d (some t ts) rest = sign LeftPar ∷ term_text (d + 1) (term_mark (d + 1) 0) t (more_text (d + 1) 1 ts (sign RightPar ∷ rest))
+  args_text d (some t ts) rest = sign LeftPar
+      ∷ term_text (d + 1) (term_mark (d + 1) 0) t (more_text (d + 1) 1 ts (sign RightPar ∷ rest))
 
   pub more_text : ℕ → ℕ → RawTrees → List Marked → List Marked
   more_text d n none rest = rest
-  more_text d n (some t ts) rest = sign Comma ∷ term_text d (term_mark d n) t (more_text d (n + 1) ts rest)
+  more_text d n (some t ts) rest =
+      sign Comma ∷ term_text d (term_mark d n) t (more_text d (n + 1) ts rest)
 
 -- con = NAME ["(" NAME {"," NAME} ")"]
 abbrev pub more_names_text : ℕ → List RawName → List Marked → List Marked
 more_names_text n [] rest = rest
-more_names_text n (x ∷ xs) rest = sign Comma ∷ name_text (arity_mark n) x (more_names_text (n + 1) xs rest)
+more_names_text n (x ∷ xs) rest =
+    sign Comma ∷ name_text (arity_mark n) x (more_names_text (n + 1) xs rest)
 
 abbrev pub names_text : List RawName → List Marked → List Marked
 names_text [] rest = rest
-names_text (x ∷ xs) rest = sign LeftPar ∷ name_text (arity_mark 0) x (more_names_text 1 xs (sign RightPar ∷ rest))
+names_text (x ∷ xs) rest =
+    sign LeftPar ∷ name_text (arity_mark 0) x (more_names_text 1 xs (sign RightPar ∷ rest))
 
 abbrev pub con_text : Option LimitKind → RawNames → List Marked → List Marked
 con_text mark c rest = (Word c.name c.at, name_mark c.name mark) ∷ names_text c.args rest
@@ -56,17 +61,23 @@ con_text mark c rest = (Word c.name c.at, name_mark c.name mark) ∷ names_text 
 -- sort = "sort" NAME "=" con {"|" con}; t constructors stand before in all
 abbrev pub constructors_text : ℕ → ℕ → List RawNames → List Marked → List Marked
 constructors_text k t [] rest = rest
-constructors_text k t (c ∷ cs) rest = sign Bar ∷ con_text (constructor_mark k t) c (constructors_text (k + 1) (t + 1) cs rest)
+constructors_text k t (c ∷ cs) rest = sign Bar
+    ∷ con_text (constructor_mark k t) c (constructors_text (k + 1) (t + 1) cs rest)
 
 abbrev pub AreSorts : ℕ → ℕ → List RawSort → List Marked → List Marked → Type 0
 AreSorts n t [] text rest = text ≡ rest
 AreSorts n t (s ∷ ss) text rest =
-    (first : RawNames) × (others : List RawNames) × (after : List Marked) × (s.constructors ≡ first ∷ others) × (text ≡ (Sign Sort, sort_mark n) ∷ name_text None s.head (sign Equals ∷ con_text (constructor_mark 0 t) first (constructors_text 1 (t + 1) others after))) × AreSorts (n + 1) (t + 1 + length others) ss after rest
+    (first : RawNames) × (others : List RawNames) × (after : List Marked)
+    × (s.constructors ≡ first ∷ others)
+    × (text ≡ (Sign Sort, sort_mark n) ∷ name_text None s.head (sign Equals
+    ∷ con_text (constructor_mark 0 t) first (constructors_text 1 (t + 1) others after)))
+    × AreSorts (n + 1) (t + 1 + length others) ss after rest
 
 -- fun = "fun" NAME ["(" NAME {"," NAME} ")"] ":" NAME
 abbrev pub funs_text : ℕ → List RawFun → List Marked → List Marked
 funs_text n [] rest = rest
-funs_text n (f ∷ fs) rest = (Sign Fun, fun_mark n) ∷ con_text None f.head (sign Colon ∷ name_text None f.result (funs_text (n + 1) fs rest))
+funs_text n (f ∷ fs) rest = (Sign Fun, fun_mark n)
+    ∷ con_text None f.head (sign Colon ∷ name_text None f.result (funs_text (n + 1) fs rest))
 
 -- rule = "rule" term "=" term {("if" | "unless") term}
 abbrev pub guard_key : Bool → Key
@@ -75,7 +86,8 @@ guard_key false = Unless
 
 abbrev pub guards_text : ℕ → List RawGuard → List Marked → List Marked
 guards_text n [] rest = rest
-guards_text n (g ∷ gs) rest = (Sign (guard_key g.wanted), guard_mark n) ∷ term_text 0 None g.test (guards_text (n + 1) gs rest)
+guards_text n (g ∷ gs) rest = (Sign (guard_key g.wanted), guard_mark n)
+    ∷ term_text 0 None g.test (guards_text (n + 1) gs rest)
 
 -- eq = term "=" term
 abbrev pub sides_text : Option LimitKind → RawTree → RawTree → List Marked → List Marked
@@ -83,12 +95,14 @@ sides_text mark left right rest = term_text 0 mark left (sign Equals ∷ term_te
 
 abbrev pub rules_text : ℕ → List RawRule → List Marked → List Marked
 rules_text n [] rest = rest
-rules_text n (r ∷ rs) rest = (Sign Rule, rule_mark n) ∷ sides_text None r.left r.right (guards_text 0 r.guards (rules_text (n + 1) rs rest))
+rules_text n (r ∷ rs) rest = (Sign Rule, rule_mark n)
+    ∷ sides_text None r.left r.right (guards_text 0 r.guards (rules_text (n + 1) rs rest))
 
 -- clause = eq {"|" eq} | [eq {"," eq}] "=>" [eq {"|" eq}]
 abbrev pub commas_text : ℕ → List RawEq → List Marked → List Marked
 commas_text n [] rest = rest
-commas_text n (e ∷ es) rest = sign Comma ∷ sides_text (premise_mark n) e.left e.right (commas_text (n + 1) es rest)
+commas_text n (e ∷ es) rest =
+    sign Comma ∷ sides_text (premise_mark n) e.left e.right (commas_text (n + 1) es rest)
 
 abbrev pub premises_text : List RawEq → List Marked → List Marked
 premises_text [] rest = rest
@@ -96,7 +110,8 @@ premises_text (e ∷ es) rest = sides_text (premise_mark 0) e.left e.right (comm
 
 abbrev pub bars_text : ℕ → List RawEq → List Marked → List Marked
 bars_text n [] rest = rest
-bars_text n (e ∷ es) rest = sign Bar ∷ sides_text (conclusion_mark n) e.left e.right (bars_text (n + 1) es rest)
+bars_text n (e ∷ es) rest =
+    sign Bar ∷ sides_text (conclusion_mark n) e.left e.right (bars_text (n + 1) es rest)
 
 abbrev pub conclusions_text : List RawEq → List Marked → List Marked
 conclusions_text [] rest = rest
@@ -105,7 +120,8 @@ conclusions_text (e ∷ es) rest = sides_text (conclusion_mark 0) e.left e.right
 -- with the arrow, or without it where there are conclusions only
 abbrev pub IsClause : List RawEq → List RawEq → List Marked → List Marked → Type 0
 IsClause ps cs text rest =
-    (text ≡ premises_text ps (sign Arrow ∷ conclusions_text cs rest)) ⊎ ((ps ≡ []) × (cs ≢ []) × (text ≡ conclusions_text cs rest))
+    (text ≡ premises_text ps (sign Arrow ∷ conclusions_text cs rest))
+    ⊎ ((ps ≡ []) × (cs ≢ []) × (text ≡ conclusions_text cs rest))
 
 -- bind = NAME ":" NAME
 abbrev pub bind_text : Option LimitKind → RawBind → List Marked → List Marked
@@ -113,22 +129,29 @@ bind_text mark b rest = name_text mark b.name (sign Colon ∷ name_text None b.s
 
 abbrev pub more_binds_text : ℕ → List RawBind → List Marked → List Marked
 more_binds_text n [] rest = rest
-more_binds_text n (b ∷ bs) rest = sign Comma ∷ bind_text (variable_mark n) b (more_binds_text (n + 1) bs rest)
+more_binds_text n (b ∷ bs) rest =
+    sign Comma ∷ bind_text (variable_mark n) b (more_binds_text (n + 1) bs rest)
 
 abbrev pub binds_text : List RawBind → List Marked → List Marked
 binds_text [] rest = rest
-binds_text (b ∷ bs) rest = sign LeftPar ∷ bind_text (variable_mark 0) b (more_binds_text 1 bs (sign RightPar ∷ rest))
+binds_text (b ∷ bs) rest =
+    sign LeftPar ∷ bind_text (variable_mark 0) b (more_binds_text 1 bs (sign RightPar ∷ rest))
 
 -- goal = "goal" NAME ["(" bind {"," bind} ")"] ":" clause
 abbrev pub AreGoals : ℕ → List RawGoal → List Marked → List Marked → Type 0
 AreGoals n [] text rest = text ≡ rest
 AreGoals n (g ∷ gs) text rest =
-    (clause : List Marked) × (after : List Marked) × (text ≡ (Sign Goal, goal_mark n) ∷ name_text None g.head (binds_text g.binds (sign Colon ∷ clause))) × IsClause g.premises g.conclusions clause after × AreGoals (n + 1) gs after rest
+    (clause : List Marked) × (after : List Marked)
+    × (text ≡ (Sign Goal, goal_mark n)
+    ∷ name_text None g.head (binds_text g.binds (sign Colon ∷ clause)))
+    × IsClause g.premises g.conclusions clause after × AreGoals (n + 1) gs after rest
 
 -- file = "spike" "1" {sort} {fun} {rule} {goal}
 abbrev pub IsSpecText : RawSpec → List Marked → Type 0
 IsSpecText raw text =
-    (sorts : List Marked) × (goals : List Marked) × (text ≡ sign Spike ∷ sign One ∷ sorts) × AreSorts 0 0 raw.sorts sorts (funs_text 0 raw.funs (rules_text 0 raw.rules goals)) × AreGoals 0 raw.goals goals []
+    (sorts : List Marked) × (goals : List Marked) × (text ≡ sign Spike ∷ sign One ∷ sorts)
+    × AreSorts 0 0 raw.sorts sorts (funs_text 0 raw.funs (rules_text 0 raw.rules goals))
+    × AreGoals 0 raw.goals goals []
 
 -- one term alone
 abbrev pub IsTermText : RawTree → List Marked → Type 0

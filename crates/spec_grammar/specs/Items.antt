@@ -52,7 +52,8 @@ key_or_name (Some key) text at = Sign key
 key_or_name None text at = Word text at
 
 abbrev pub item_of : List ℕ → Token → Item
-item_of bytes token = key_or_name (key_of token.kind (text_of bytes token)) (text_of bytes token) token.at
+item_of bytes token =
+    let text = text_of bytes token in key_or_name (key_of token.kind text) text token.at
 
 abbrev pub items_of : List ℕ → List Token → List Item
 items_of bytes [] = []

@@ -7,12 +7,18 @@ use Rattle.spec_grammar.specs.Grammar.{IsSpecText, IsTermText}
 use Rattle.spec_grammar.specs.Derives.{TextDerives, TextHasFault}
 use Rattle.spec_grammar.specs.KeepsLimits.{TermKeepsLimits, KeepsLimits}
 
--- a text derives one raw specification at most, and one term at most, and none where it has a fault; it has one fault at most
+-- a text derives one raw specification at most, and one term at most, and none where it has a fault;
+-- it has one fault at most
 pub record OneReading : Type 0 where
-  pub one_spec : (bytes : List ℕ) (raw other : RawSpec) → TextDerives IsSpecText bytes raw → TextDerives IsSpecText bytes other → raw ≡ other
-  pub one_term : (bytes : List ℕ) (term other : RawTree) → TextDerives IsTermText bytes term → TextDerives IsTermText bytes other → term ≡ other
-  pub no_fault : (bytes : List ℕ) (raw : RawSpec) (at : ℕ) (why : Option LimitKind) → TextDerives IsSpecText bytes raw → TextHasFault IsSpecText bytes at why → ⊥
-  pub one_fault : (bytes : List ℕ) (at place : ℕ) (why what : Option LimitKind) → TextHasFault IsSpecText bytes at why → TextHasFault IsSpecText bytes place what → (at ≡ place) × (why ≡ what)
+  pub one_spec : (bytes : List ℕ) (raw other : RawSpec)
+      → TextDerives IsSpecText bytes raw → TextDerives IsSpecText bytes other → raw ≡ other
+  pub one_term : (bytes : List ℕ) (term other : RawTree)
+      → TextDerives IsTermText bytes term → TextDerives IsTermText bytes other → term ≡ other
+  pub no_fault : (bytes : List ℕ) (raw : RawSpec) (at : ℕ) (why : Option LimitKind)
+      → TextDerives IsSpecText bytes raw → TextHasFault IsSpecText bytes at why → ⊥
+  pub one_fault : (bytes : List ℕ) (at place : ℕ) (why what : Option LimitKind)
+      → TextHasFault IsSpecText bytes at why → TextHasFault IsSpecText bytes place what
+      → (at ≡ place) × (why ≡ what)
 
 -- what a text derives keeps the limits, a specification as well as one term alone
 pub record WithinLimits : Type 0 where

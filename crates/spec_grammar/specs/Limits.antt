@@ -1,7 +1,8 @@
 -- The limits of the grammar. Each says which limit a token passes, if any.
-use Rattle.std.specs.Prelude.{ℕ, List, Option, Some, None, nat_le, length, if◌then◌else◌}
+use Rattle.std.specs.Prelude.{ℕ, List, Option, Some, None, nat_le, length, codes, if◌then◌else◌}
 use Rattle.spec_grammar.specs.declared.limits.LimitKind.{LimitKind}
 use Rattle.spec_grammar.specs.declared.limits.LimitKind.TheVariants as limit
+use Rattle.spec_grammar.specs.declared.limits.TheConstants.{MAX_NAME_BYTES, MAX_SORTS, MAX_SORT_CONSTRUCTORS, MAX_CONSTRUCTORS, MAX_FUNCTIONS, MAX_ARGUMENTS, MAX_DEPTH, MAX_RULES, MAX_GUARDS, MAX_GOALS, MAX_VARIABLES, MAX_PREMISES, MAX_CONCLUSIONS}
 
 -- the item of this number, from 0, of at most so many
 abbrev pub over : ℕ → ℕ → LimitKind → Option LimitKind
@@ -12,41 +13,58 @@ abbrev pub or_else : Option LimitKind → Option LimitKind → Option LimitKind
 or_else (Some why) other = Some why
 or_else None other = other
 
--- a name of at most 64 bytes, in a place that may pass a limit itself
+-- a name, in a place that may pass a limit itself
 abbrev pub name_mark : List ℕ → Option LimitKind → Option LimitKind
-name_mark name mark = if nat_le (length name) 64 then mark else Some limit.Name
+name_mark name mark = if nat_le (length name) MAX_NAME_BYTES then mark else Some limit.Name
 
 abbrev pub sort_mark : ℕ → Option LimitKind
-sort_mark n = over n 200 limit.Sorts
+sort_mark n = over n MAX_SORTS limit.Sorts
 
 -- k constructors of the sort stand before this one, and n in all
 abbrev pub constructor_mark : ℕ → ℕ → Option LimitKind
-constructor_mark k n = or_else (over k 64 limit.Constructors) (over n 500 limit.Constructors)
+constructor_mark k n =
+    or_else (over k MAX_SORT_CONSTRUCTORS limit.Constructors)
+    (over n MAX_CONSTRUCTORS limit.Constructors)
 
 abbrev pub fun_mark : ℕ → Option LimitKind
-fun_mark n = over n 500 limit.Functions
+fun_mark n = over n MAX_FUNCTIONS limit.Functions
 
 abbrev pub arity_mark : ℕ → Option LimitKind
-arity_mark n = over n 8 limit.Arity
+arity_mark n = over n MAX_ARGUMENTS limit.Arity
 
 -- the n-th argument of a word, with d words above it
 abbrev pub term_mark : ℕ → ℕ → Option LimitKind
-term_mark d n = or_else (arity_mark n) (over d 64 limit.Nesting)
+term_mark d n = or_else (arity_mark n) (over d MAX_DEPTH limit.Nesting)
 
 abbrev pub rule_mark : ℕ → Option LimitKind
-rule_mark n = over n 1000 limit.Rules
+rule_mark n = over n MAX_RULES limit.Rules
 
 abbrev pub guard_mark : ℕ → Option LimitKind
-guard_mark n = over n 8 limit.Guards
+guard_mark n = over n MAX_GUARDS limit.Guards
 
 abbrev pub goal_mark : ℕ → Option LimitKind
-goal_mark n = over n 200 limit.Goals
+goal_mark n = over n MAX_GOALS limit.Goals
 
 abbrev pub variable_mark : ℕ → Option LimitKind
-variable_mark n = over n 16 limit.Variables
+variable_mark n = over n MAX_VARIABLES limit.Variables
 
 abbrev pub premise_mark : ℕ → Option LimitKind
-premise_mark n = over n 8 limit.Premises
+premise_mark n = over n MAX_PREMISES limit.Premises
 
 abbrev pub conclusion_mark : ℕ → Option LimitKind
-conclusion_mark n = over n 4 limit.Conclusions
+conclusion_mark n = over n MAX_CONCLUSIONS limit.Conclusions
+
+-- the word for a limit
+abbrev pub limit_word : LimitKind → List ℕ
+limit_word limit.Name = codes "name"
+limit_word limit.Sorts = codes "sorts"
+limit_word limit.Constructors = codes "constructors"
+limit_word limit.Functions = codes "functions"
+limit_word limit.Arity = codes "arity"
+limit_word limit.Rules = codes "rules"
+limit_word limit.Guards = codes "guards"
+limit_word limit.Goals = codes "goals"
+limit_word limit.Variables = codes "variables"
+limit_word limit.Premises = codes "premises"
+limit_word limit.Conclusions = codes "conclusions"
+limit_word limit.Nesting = codes "nesting"

@@ -1,4 +1,5 @@
--- A number that falls from a raw term to its list of arguments, and from a list to its members and its rest.
+-- A number that falls from a raw term to its list of arguments, and from a list to its members and
+-- its rest.
 use Rattle.std.specs.Prelude.{◌≡◌, ℕ, ◌+◌, ◌≤◌, List, [], ◌∷◌}
 use Rattle.std.proofs.Common.{arith, refl}
 use denote.Param.Weighed.{most}

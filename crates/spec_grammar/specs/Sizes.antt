@@ -22,10 +22,13 @@ module _ (n : ℕ) where
   EquationHasFewWords e = (words e.left ≤ n) × (words e.right ≤ n)
 
   abbrev pub RuleHasFewWords : RawRule → Type 0
-  RuleHasFewWords r = (words r.left ≤ n) × (words r.right ≤ n) × AllByRecursion (λ (g : RawGuard). words g.test ≤ n) r.guards
+  RuleHasFewWords r = (words r.left ≤ n) × (words r.right ≤ n)
+      × AllByRecursion (λ (g : RawGuard). words g.test ≤ n) r.guards
 
   abbrev pub GoalHasFewWords : RawGoal → Type 0
-  GoalHasFewWords g = AllByRecursion EquationHasFewWords g.premises × AllByRecursion EquationHasFewWords g.conclusions
+  GoalHasFewWords g = AllByRecursion EquationHasFewWords g.premises
+      × AllByRecursion EquationHasFewWords g.conclusions
 
   abbrev pub HasFewWords : RawSpec → Type 0
-  HasFewWords raw = AllByRecursion RuleHasFewWords raw.rules × AllByRecursion GoalHasFewWords raw.goals
+  HasFewWords raw =
+      AllByRecursion RuleHasFewWords raw.rules × AllByRecursion GoalHasFewWords raw.goals

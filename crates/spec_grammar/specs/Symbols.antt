@@ -68,7 +68,8 @@ abbrev pub bind_then : Option LimitKind → List Symbol → List Symbol
 bind_then mark st = name mark ∷ key Colon ∷ name None ∷ st
 
 abbrev pub react_args : ℕ → Key → Reaction
-react_args d LeftPar = take None (term_then (d + 1) (term_mark (d + 1) 0) (more (d + 1) 1 ∷ key RightPar ∷ []))
+react_args d LeftPar =
+    take None (term_then (d + 1) (term_mark (d + 1) 0) (more (d + 1) 1 ∷ key RightPar ∷ []))
 react_args d _ = pass
 
 abbrev pub react_more : ℕ → ℕ → Key → Reaction
@@ -85,10 +86,12 @@ react_more_names n _ = pass
 
 abbrev pub react_bar : ℕ → ℕ → ℕ → Reaction
 react_bar n zero t = pass
-react_bar n (suc k) t = take None (name (constructor_mark (suc k) t) ∷ names ∷ sorts n (suc (suc k)) (t + 1) ∷ [])
+react_bar n (suc k) t =
+    take None (name (constructor_mark (suc k) t) ∷ names ∷ sorts n (suc (suc k)) (t + 1) ∷ [])
 
 abbrev pub react_sorts : ℕ → ℕ → ℕ → Key → Reaction
-react_sorts n k t Sort = take (sort_mark n) (name None ∷ key Equals ∷ name (constructor_mark 0 t) ∷ names ∷ sorts (n + 1) 1 (t + 1) ∷ [])
+react_sorts n k t Sort = take (sort_mark n) (name None ∷ key Equals
+    ∷ name (constructor_mark 0 t) ∷ names ∷ sorts (n + 1) 1 (t + 1) ∷ [])
 react_sorts n k t Bar = react_bar n k t
 react_sorts n k t _ = pass
 
@@ -106,7 +109,8 @@ react_guards n Unless = take (guard_mark n) (term_then 0 None (guards (n + 1) �
 react_guards n _ = pass
 
 abbrev pub react_goals : ℕ → Key → Reaction
-react_goals n Goal = take (goal_mark n) (name None ∷ binds ∷ key Colon ∷ clause ∷ goals (n + 1) ∷ [])
+react_goals n Goal =
+    take (goal_mark n) (name None ∷ binds ∷ key Colon ∷ clause ∷ goals (n + 1) ∷ [])
 react_goals n _ = pass
 
 abbrev pub react_binds : Key → Reaction

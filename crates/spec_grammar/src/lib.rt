@@ -3,9 +3,10 @@
 //! It stands on spec_text, whose tokens the grammar speaks of. A raw specification is a text's
 //! declarations in their order, with each name as it stands there and its place. The folder
 //! `specs/` has the grammar with its limits as relations on whole token lists, what a fault of a
-//! text is, and a stack of grammar symbols that a reader goes along. The layers above use what a
-//! text derives, that it derives one raw specification at most, which keeps the limits, and that it
-//! has one fault at most, and none where it derives one.
+//! text is, and a stack of grammar symbols that a reader goes along. The limits' numbers are the
+//! constants beside [`LimitKind`], and stand nowhere else. The layers above use what a text derives,
+//! that it derives one raw specification at most, which keeps the limits, and that it has one fault
+//! at most, and none where it derives one.
 #![tactic(auto)]
 
 mod keys;
@@ -16,7 +17,11 @@ mod terms;
 
 pub use keys::Key;
 pub use laws::{one_reading, within_limits, worked_examples};
-pub use limits::LimitKind;
+pub use limits::{
+    LimitKind, MAX_ARGUMENTS, MAX_CONCLUSIONS, MAX_CONSTRUCTORS, MAX_DEPTH, MAX_FILE_BYTES,
+    MAX_FUNCTIONS, MAX_GOALS, MAX_GUARDS, MAX_NAME_BYTES, MAX_PREMISES, MAX_RULES,
+    MAX_SORT_CONSTRUCTORS, MAX_SORTS, MAX_VARIABLES,
+};
 pub use raw::{
     RawBind, RawEq, RawFun, RawGoal, RawGuard, RawName, RawNames, RawRule, RawSort, RawSpec,
 };

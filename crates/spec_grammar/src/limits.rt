@@ -1,28 +1,96 @@
+use std::fmt;
+
+/// The most bytes of a file that is read as a specification.
+pub const MAX_FILE_BYTES: usize = 1_048_576;
+
+/// The most bytes of a name.
+pub const MAX_NAME_BYTES: usize = 64;
+
+/// The most sorts of a specification.
+pub const MAX_SORTS: usize = 200;
+
+/// The most constructors of one sort.
+pub const MAX_SORT_CONSTRUCTORS: usize = 64;
+
+/// The most constructors of all sorts.
+pub const MAX_CONSTRUCTORS: usize = 500;
+
+/// The most functions of a specification.
+pub const MAX_FUNCTIONS: usize = 500;
+
+/// The most arguments of a word, and the most argument sorts of a symbol.
+pub const MAX_ARGUMENTS: usize = 8;
+
+/// The greatest depth of a term; a word alone has the depth 1.
+pub const MAX_DEPTH: usize = 64;
+
+/// The most rules of a specification.
+pub const MAX_RULES: usize = 1000;
+
+/// The most guards of a rule.
+pub const MAX_GUARDS: usize = 8;
+
+/// The most goals of a specification.
+pub const MAX_GOALS: usize = 200;
+
+/// The most bindings of a goal.
+pub const MAX_VARIABLES: usize = 16;
+
+/// The most premises of a goal.
+pub const MAX_PREMISES: usize = 8;
+
+/// The most conclusions of a goal.
+pub const MAX_CONCLUSIONS: usize = 4;
+
 /// Which limit of the grammar a token passes.
 #[derive(Clone, Copy, Debug, PartialEq, Eq)]
 pub enum LimitKind {
-    /// A name of more than 64 bytes.
+    /// A name of more than [`MAX_NAME_BYTES`].
     Name,
-    /// More than 200 sorts.
+    /// More than [`MAX_SORTS`].
     Sorts,
-    /// More than 64 constructors of one sort, or more than 500 in all.
+    /// More than [`MAX_SORT_CONSTRUCTORS`] of one sort, or more than [`MAX_CONSTRUCTORS`] in all.
     Constructors,
-    /// More than 500 functions.
+    /// More than [`MAX_FUNCTIONS`].
     Functions,
-    /// More than 8 arguments.
+    /// More than [`MAX_ARGUMENTS`].
     Arity,
-    /// More than 1,000 rules.
+    /// More than [`MAX_RULES`].
     Rules,
-    /// More than 8 guards of a rule.
+    /// More than [`MAX_GUARDS`] of a rule.
     Guards,
-    /// More than 200 goals.
+    /// More than [`MAX_GOALS`].
     Goals,
-    /// More than 16 bindings of a goal.
+    /// More than [`MAX_VARIABLES`] of a goal.
     Variables,
-    /// More than 8 premises of a goal.
+    /// More than [`MAX_PREMISES`] of a goal.
     Premises,
-    /// More than 4 conclusions of a goal.
+    /// More than [`MAX_CONCLUSIONS`] of a goal.
     Conclusions,
-    /// A term of a depth of more than 64.
+    /// A term of a depth of more than [`MAX_DEPTH`].
     Nesting,
+}
+
+impl fmt::Display for LimitKind {
+    ghost use Rattle.std.specs.Prelude.{Some};
+    ghost use Rattle.spec_grammar.specs.Limits.{limit_word};
+
+    ghost output = { λ what. Some (limit_word what) };
+
+    fn fmt<W: fmt::Write>(&self, f: &mut fmt::Formatter<W>) -> fmt::Result {
+        f.write_str(match self {
+            LimitKind::Name => "name",
+            LimitKind::Sorts => "sorts",
+            LimitKind::Constructors => "constructors",
+            LimitKind::Functions => "functions",
+            LimitKind::Arity => "arity",
+            LimitKind::Rules => "rules",
+            LimitKind::Guards => "guards",
+            LimitKind::Goals => "goals",
+            LimitKind::Variables => "variables",
+            LimitKind::Premises => "premises",
+            LimitKind::Conclusions => "conclusions",
+            LimitKind::Nesting => "nesting",
+        })
+    }
 }

@@ -1,5 +1,8 @@
 -- Marked tokens whose names stand at other places, and texts of such tokens.
 use Rattle.std.proofs.Common.{◌≡◌, ℕ, ◌+◌, List, [], ◌∷◌, Option, None, length, refl, ap, sym, subst, ◌∙◌}
+use Rattle.std.specs.List.{AllZip}
+use Rattle.std.proofs.lemmas.List.Elements.{length_all_zip}
+use Rattle.spec_grammar.specs.declared.keys.Key.{Key}
 use Rattle.spec_grammar.specs.declared.keys.Key.TheVariants.{Spike, One, Sort, Fun, Rule, Goal, LeftPar, RightPar, Comma, Colon, Equals, Bar, Arrow}
 use Rattle.spec_grammar.specs.declared.limits.LimitKind.{LimitKind}
 use Rattle.spec_grammar.specs.declared.raw.RawName.{RawName}
@@ -16,7 +19,7 @@ use Rattle.spec_grammar.specs.RawTree.{RawTree, RawTrees, word, none, some}
 use Rattle.spec_grammar.specs.Items.{Item, Word, Sign}
 use Rattle.spec_grammar.specs.Limits.{name_mark, sort_mark, constructor_mark, fun_mark, arity_mark, term_mark, rule_mark, guard_mark, goal_mark, variable_mark, premise_mark, conclusion_mark}
 use Rattle.spec_grammar.specs.Grammar.{Marked, sign, name_text, term_text, args_text, more_text, more_names_text, names_text, con_text, constructors_text, AreSorts, funs_text, guard_key, guards_text, sides_text, rules_text, commas_text, bars_text, bind_text, more_binds_text, binds_text}
-use Rattle.spec_printing.specs.SamePlaces.{Pointwise, SameName, SameNames, SameTerm, SameTerms, SameSort, SameFun, SameEquation, SameGuard, SameRule, SameBind, SameGoal, IsSameButPlaces}
+use Rattle.spec_printing.specs.SamePlaces.{SameName, SameNames, SameTerm, SameTerms, SameSort, SameFun, SameEquation, SameGuard, SameRule, SameBind, SameGoal, IsSameButPlaces}
 use Rattle.spec_printing.proofs.Plain.{clause_text, goals_text, IsPlainText}
 
 -- one token, a name at any place, and then what follows
@@ -41,32 +44,48 @@ pub record Moves {X : Type 0} (text : X → List Marked → List Marked) (Same :
 name_moves : (mark : Option LimitKind) (n : RawName) (rest v : List Marked) → Moved (name_text mark n rest) v → Moves (name_text mark) SameName n rest v
 name_moves mark n rest v h = record { it = record { name = n.name; at = h.0 }; after = h.1; whole = h.2; same = refl; moved = h.3 }
 
-more_names_moves : (n : ℕ) (xs : List RawName) (rest v : List Marked) → Moved (more_names_text n xs rest) v → Moves (more_names_text n) (Pointwise SameName) xs rest v
-more_names_moves n [] rest v h = record { it = []; after = v; whole = refl; same = tt; moved = h }
-more_names_moves n (x ∷ xs) rest v h =
-    let a = name_moves (arity_mark n) x (more_names_text (n + 1) xs rest) h.0 h.2 in
-    let b = more_names_moves (n + 1) xs rest a.after a.moved in
+-- a key before a text
+key_moves : {X : Type 0} (key : Key) (mark : Option LimitKind) (text : X → List Marked → List Marked) (Same : X → X → Type 0) (x : X) (rest v : List Marked) → ((u : List Marked) → Moved (text x rest) u → Moves text Same x rest u) → Moved ((Sign key, mark) ∷ text x rest) v → Moves (λ y w. (Sign key, mark) ∷ text y w) Same x rest v
+key_moves key mark text Same x rest v each h =
+    let a = each h.0 h.2 in
+    record { it = a.it; after = a.after; whole = h.1 ∙ ap (λ (w : List Marked). (Sign key, mark) ∷ w) a.whole; same = a.same; moved = a.moved }
+
+-- the items of a list, each behind a comma or a bar
+behind_moves : {X : Type 0} (key : Key) (text : ℕ → List X → List Marked → List Marked) (item : ℕ → X → List Marked → List Marked) (Same : X → X → Type 0) → ((n : ℕ) (v : List Marked) → text n [] v ≡ v) → ((n : ℕ) (x : X) (xs : List X) (v : List Marked) → text n (x ∷ xs) v ≡ sign key ∷ item n x (text (n + 1) xs v)) → ((n : ℕ) (x : X) (rest v : List Marked) → Moved (item n x rest) v → Moves (item n) Same x rest v) → (n : ℕ) (xs : List X) (rest v : List Marked) → Moved (text n xs rest) v → Moves (text n) (AllZip Same) xs rest v
+behind_moves key text item Same ends goes_on each n [] rest v h = record { it = []; after = v; whole = sym (ends n v); same = tt; moved = subst (λ (w : List Marked). Moved w v) (ends n rest) h }
+behind_moves key text item Same ends goes_on each n (x ∷ xs) rest v h =
+    let later : List Marked = text (n + 1) xs rest in
+    let a = key_moves key None (item n) Same x later v (each n x later) (subst (λ (w : List Marked). Moved w v) (goes_on n x xs rest) h) in
+    let b = behind_moves key text item Same ends goes_on each (n + 1) xs rest a.after a.moved in
     record {
       it = a.it ∷ b.it;
       after = b.after;
-      whole = h.1 ∙ ap (λ (w : List Marked). sign Comma ∷ w) (a.whole ∙ ap (name_text (arity_mark n) a.it) b.whole);
+      whole = a.whole ∙ ap (λ (w : List Marked). sign key ∷ item n a.it w) b.whole ∙ sym (goes_on n a.it b.it b.after);
       same = (a.same, b.same);
       moved = b.moved;
     }
 
-names_moves : (xs : List RawName) (rest v : List Marked) → Moved (names_text xs rest) v → Moves names_text (Pointwise SameName) xs rest v
-names_moves [] rest v h = record { it = []; after = v; whole = refl; same = tt; moved = h }
-names_moves (x ∷ xs) rest v h =
-    let a = name_moves (arity_mark 0) x (more_names_text 1 xs (sign RightPar ∷ rest)) h.0 h.2 in
-    let b = more_names_moves 1 xs (sign RightPar ∷ rest) a.after a.moved in
-    let c = b.moved in
+-- the items of a list in parentheses, with commas between them
+enclosed_moves : {X : Type 0} (whole : List X → List Marked → List Marked) (text : ℕ → List X → List Marked → List Marked) (item : X → List Marked → List Marked) (Same : X → X → Type 0) → ((v : List Marked) → whole [] v ≡ v) → ((x : X) (xs : List X) (v : List Marked) → whole (x ∷ xs) v ≡ sign LeftPar ∷ item x (text 1 xs (sign RightPar ∷ v))) → ((x : X) (rest v : List Marked) → Moved (item x rest) v → Moves item Same x rest v) → ((xs : List X) (rest v : List Marked) → Moved (text 1 xs rest) v → Moves (text 1) (AllZip Same) xs rest v) → (xs : List X) (rest v : List Marked) → Moved (whole xs rest) v → Moves whole (AllZip Same) xs rest v
+enclosed_moves whole text item Same ends goes_on first others [] rest v h = record { it = []; after = v; whole = sym (ends v); same = tt; moved = subst (λ (w : List Marked). Moved w v) (ends rest) h }
+enclosed_moves whole text item Same ends goes_on first others (x ∷ xs) rest v h =
+    let later : List Marked = text 1 xs (sign RightPar ∷ rest) in
+    let a = key_moves LeftPar None item Same x later v (first x later) (subst (λ (w : List Marked). Moved w v) (goes_on x xs rest) h) in
+    let b = others xs (sign RightPar ∷ rest) a.after a.moved in
+    let close = b.moved in
     record {
       it = a.it ∷ b.it;
-      after = c.0;
-      whole = h.1 ∙ ap (λ (w : List Marked). sign LeftPar ∷ w) (a.whole ∙ ap (name_text (arity_mark 0) a.it) (b.whole ∙ ap (more_names_text 1 b.it) c.1));
+      after = close.0;
+      whole = a.whole ∙ ap (λ (w : List Marked). sign LeftPar ∷ item a.it w) (b.whole ∙ ap (text 1 b.it) close.1) ∙ sym (goes_on a.it b.it close.0);
       same = (a.same, b.same);
-      moved = c.2;
+      moved = close.2;
     }
+
+more_names_moves : (n : ℕ) (xs : List RawName) (rest v : List Marked) → Moved (more_names_text n xs rest) v → Moves (more_names_text n) (AllZip SameName) xs rest v
+more_names_moves n xs rest v h = behind_moves Comma more_names_text (λ n. name_text (arity_mark n)) SameName (λ n v. refl) (λ n x xs v. refl) (λ n. name_moves (arity_mark n)) n xs rest v h
+
+names_moves : (xs : List RawName) (rest v : List Marked) → Moved (names_text xs rest) v → Moves names_text (AllZip SameName) xs rest v
+names_moves xs rest v h = enclosed_moves names_text more_names_text (name_text (arity_mark 0)) SameName (λ v. refl) (λ x xs v. refl) (name_moves (arity_mark 0)) (more_names_moves 1) xs rest v h
 
 con_moves : (mark : Option LimitKind) (c : RawNames) (rest v : List Marked) → Moved (con_text mark c rest) v → Moves (con_text mark) SameNames c rest v
 con_moves mark c rest v h =
@@ -79,7 +98,7 @@ con_moves mark c rest v h =
       moved = a.moved;
     }
 
-constructors_moves : (k t : ℕ) (cs : List RawNames) (rest v : List Marked) → Moved (constructors_text k t cs rest) v → Moves (constructors_text k t) (Pointwise SameNames) cs rest v
+constructors_moves : (k t : ℕ) (cs : List RawNames) (rest v : List Marked) → Moved (constructors_text k t cs rest) v → Moves (constructors_text k t) (AllZip SameNames) cs rest v
 constructors_moves k t [] rest v h = record { it = []; after = v; whole = refl; same = tt; moved = h }
 constructors_moves k t (c ∷ cs) rest v h =
     let a = con_moves (constructor_mark k t) c (constructors_text (k + 1) (t + 1) cs rest) h.0 h.2 in
@@ -93,12 +112,6 @@ constructors_moves k t (c ∷ cs) rest v h =
     }
 
 -- sorts
-Pointwise-length : {X : Type 0} (P : X → X → Type 0) (xs ys : List X) → Pointwise P xs ys → length xs ≡ length ys
-Pointwise-length P [] [] h = refl
-Pointwise-length P [] (y ∷ ys) h = absurd h
-Pointwise-length P (x ∷ xs) [] h = absurd h
-Pointwise-length P (x ∷ xs) (y ∷ ys) h = cc (Pointwise-length P xs ys h.1)
-
 -- A sort with its first constructor and the others.
 record Declared : Type 0 where
   head : RawName
@@ -109,7 +122,7 @@ abbrev declared_text : ℕ → ℕ → Declared → List Marked → List Marked
 declared_text n t s rest = (Sign Sort, sort_mark n) ∷ name_text None s.head (sign Equals ∷ con_text (constructor_mark 0 t) s.first (constructors_text 1 (t + 1) s.others rest))
 
 abbrev SameDeclared : Declared → Declared → Type 0
-SameDeclared s u = SameName s.head u.head × SameNames s.first u.first × Pointwise SameNames s.others u.others
+SameDeclared s u = SameName s.head u.head × SameNames s.first u.first × AllZip SameNames s.others u.others
 
 declared_moves : (n t : ℕ) (s : Declared) (rest v : List Marked) → Moved (declared_text n t s rest) v → Moves (declared_text n t) SameDeclared s rest v
 declared_moves n t s rest v h =
@@ -131,7 +144,7 @@ record SortsMove (n t : ℕ) (ss : List RawSort) (rest v : List Marked) : Type 0
   it : List RawSort
   after : List Marked
   whole : AreSorts n t it v after
-  same : Pointwise SameSort it ss
+  same : AllZip SameSort it ss
   moved : Moved rest after
 
 sorts_move : (n t : ℕ) (ss : List RawSort) (w rest v : List Marked) → AreSorts n t ss w rest → Moved w v → SortsMove n t ss rest v
@@ -139,12 +152,12 @@ sorts_move n t [] w rest v s h = record { it = []; after = v; whole = refl; same
 sorts_move n t (s ∷ ss) w rest v a h =
     let declared : Declared = record { head = s.head; first = a.0; others = a.1 } in
     let m : Moves (declared_text n t) SameDeclared declared a.2 v = declared_moves n t declared a.2 v (subst (λ (x : List Marked). Moved x v) a.4 h) in
-    let count : length a.1 ≡ length m.it.others = sym (Pointwise-length SameNames m.it.others a.1 m.same.2) in
+    let count : length a.1 ≡ length m.it.others = sym (length_all_zip SameNames m.it.others a.1 m.same.2) in
     let k : ℕ = t + 1 + length m.it.others in
     let next : AreSorts (n + 1) k ss a.2 rest = subst (λ (i : ℕ). AreSorts (n + 1) (t + 1 + i) ss a.2 rest) count a.5 in
     let b : SortsMove (n + 1) k ss rest m.after = sorts_move (n + 1) k ss a.2 rest m.after next m.moved in
     let constructors : List RawNames = m.it.first ∷ m.it.others in
-    let same : Pointwise SameNames constructors s.constructors = subst (λ (cs : List RawNames). Pointwise SameNames constructors cs) (sym a.3) (m.same.1, m.same.2) in
+    let same : AllZip SameNames constructors s.constructors = subst (λ (cs : List RawNames). AllZip SameNames constructors cs) (sym a.3) (m.same.1, m.same.2) in
     record {
       it = record { head = m.it.head; constructors = constructors } ∷ b.it;
       after = b.after;
@@ -154,7 +167,7 @@ sorts_move n t (s ∷ ss) w rest v a h =
     }
 
 -- functions
-funs_moves : (n : ℕ) (fs : List RawFun) (rest v : List Marked) → Moved (funs_text n fs rest) v → Moves (funs_text n) (Pointwise SameFun) fs rest v
+funs_moves : (n : ℕ) (fs : List RawFun) (rest v : List Marked) → Moved (funs_text n fs rest) v → Moves (funs_text n) (AllZip SameFun) fs rest v
 funs_moves n [] rest v h = record { it = []; after = v; whole = refl; same = tt; moved = h }
 funs_moves n (f ∷ fs) rest v h =
     let a = con_moves None f.head (sign Colon ∷ name_text None f.result (funs_text (n + 1) fs rest)) h.0 h.2 in
@@ -227,7 +240,7 @@ equation_moves mark e rest v h =
     }
 
 -- rules
-guards_moves : (n : ℕ) (gs : List RawGuard) (rest v : List Marked) → Moved (guards_text n gs rest) v → Moves (guards_text n) (Pointwise SameGuard) gs rest v
+guards_moves : (n : ℕ) (gs : List RawGuard) (rest v : List Marked) → Moved (guards_text n gs rest) v → Moves (guards_text n) (AllZip SameGuard) gs rest v
 guards_moves n [] rest v h = record { it = []; after = v; whole = refl; same = tt; moved = h }
 guards_moves n (g ∷ gs) rest v h =
     let a = term_moves 0 None g.test (guards_text (n + 1) gs rest) h.0 h.2 in
@@ -240,7 +253,7 @@ guards_moves n (g ∷ gs) rest v h =
       moved = b.moved;
     }
 
-rules_moves : (n : ℕ) (rs : List RawRule) (rest v : List Marked) → Moved (rules_text n rs rest) v → Moves (rules_text n) (Pointwise SameRule) rs rest v
+rules_moves : (n : ℕ) (rs : List RawRule) (rest v : List Marked) → Moved (rules_text n rs rest) v → Moves (rules_text n) (AllZip SameRule) rs rest v
 rules_moves n [] rest v h = record { it = []; after = v; whole = refl; same = tt; moved = h }
 rules_moves n (r ∷ rs) rest v h =
     let a = equation_moves None (record { left = r.left; right = r.right }) (guards_text 0 r.guards (rules_text (n + 1) rs rest)) h.0 h.2 in
@@ -255,31 +268,11 @@ rules_moves n (r ∷ rs) rest v h =
     }
 
 -- clauses
-commas_moves : (n : ℕ) (es : List RawEq) (rest v : List Marked) → Moved (commas_text n es rest) v → Moves (commas_text n) (Pointwise SameEquation) es rest v
-commas_moves n [] rest v h = record { it = []; after = v; whole = refl; same = tt; moved = h }
-commas_moves n (e ∷ es) rest v h =
-    let a = equation_moves (premise_mark n) e (commas_text (n + 1) es rest) h.0 h.2 in
-    let b = commas_moves (n + 1) es rest a.after a.moved in
-    record {
-      it = a.it ∷ b.it;
-      after = b.after;
-      whole = h.1 ∙ ap (λ (w : List Marked). sign Comma ∷ w) (a.whole ∙ ap (equation_text (premise_mark n) a.it) b.whole);
-      same = (a.same, b.same);
-      moved = b.moved;
-    }
+commas_moves : (n : ℕ) (es : List RawEq) (rest v : List Marked) → Moved (commas_text n es rest) v → Moves (commas_text n) (AllZip SameEquation) es rest v
+commas_moves n es rest v h = behind_moves Comma commas_text (λ n. equation_text (premise_mark n)) SameEquation (λ n v. refl) (λ n e es v. refl) (λ n. equation_moves (premise_mark n)) n es rest v h
 
-bars_moves : (n : ℕ) (es : List RawEq) (rest v : List Marked) → Moved (bars_text n es rest) v → Moves (bars_text n) (Pointwise SameEquation) es rest v
-bars_moves n [] rest v h = record { it = []; after = v; whole = refl; same = tt; moved = h }
-bars_moves n (e ∷ es) rest v h =
-    let a = equation_moves (conclusion_mark n) e (bars_text (n + 1) es rest) h.0 h.2 in
-    let b = bars_moves (n + 1) es rest a.after a.moved in
-    record {
-      it = a.it ∷ b.it;
-      after = b.after;
-      whole = h.1 ∙ ap (λ (w : List Marked). sign Bar ∷ w) (a.whole ∙ ap (equation_text (conclusion_mark n) a.it) b.whole);
-      same = (a.same, b.same);
-      moved = b.moved;
-    }
+bars_moves : (n : ℕ) (es : List RawEq) (rest v : List Marked) → Moved (bars_text n es rest) v → Moves (bars_text n) (AllZip SameEquation) es rest v
+bars_moves n es rest v h = behind_moves Bar bars_text (λ n. equation_text (conclusion_mark n)) SameEquation (λ n v. refl) (λ n e es v. refl) (λ n. equation_moves (conclusion_mark n)) n es rest v h
 
 -- The tokens begin with a text of a clause that is the same apart from places.
 record ClauseMoves (ps cs : List RawEq) (rest v : List Marked) : Type 0 where
@@ -287,8 +280,8 @@ record ClauseMoves (ps cs : List RawEq) (rest v : List Marked) : Type 0 where
   conclusions : List RawEq
   after : List Marked
   whole : v ≡ clause_text premises conclusions after
-  same_premises : Pointwise SameEquation premises ps
-  same_conclusions : Pointwise SameEquation conclusions cs
+  same_premises : AllZip SameEquation premises ps
+  same_conclusions : AllZip SameEquation conclusions cs
   moved : Moved rest after
 
 clause_moves : (ps cs : List RawEq) (rest v : List Marked) → Moved (clause_text ps cs rest) v → ClauseMoves ps cs rest v
@@ -349,34 +342,13 @@ bind_moves mark b rest v h =
       moved = c.moved;
     }
 
-more_binds_moves : (n : ℕ) (bs : List RawBind) (rest v : List Marked) → Moved (more_binds_text n bs rest) v → Moves (more_binds_text n) (Pointwise SameBind) bs rest v
-more_binds_moves n [] rest v h = record { it = []; after = v; whole = refl; same = tt; moved = h }
-more_binds_moves n (b ∷ bs) rest v h =
-    let a = bind_moves (variable_mark n) b (more_binds_text (n + 1) bs rest) h.0 h.2 in
-    let c = more_binds_moves (n + 1) bs rest a.after a.moved in
-    record {
-      it = a.it ∷ c.it;
-      after = c.after;
-      whole = h.1 ∙ ap (λ (w : List Marked). sign Comma ∷ w) (a.whole ∙ ap (bind_text (variable_mark n) a.it) c.whole);
-      same = (a.same, c.same);
-      moved = c.moved;
-    }
+more_binds_moves : (n : ℕ) (bs : List RawBind) (rest v : List Marked) → Moved (more_binds_text n bs rest) v → Moves (more_binds_text n) (AllZip SameBind) bs rest v
+more_binds_moves n bs rest v h = behind_moves Comma more_binds_text (λ n. bind_text (variable_mark n)) SameBind (λ n v. refl) (λ n b bs v. refl) (λ n. bind_moves (variable_mark n)) n bs rest v h
 
-binds_moves : (bs : List RawBind) (rest v : List Marked) → Moved (binds_text bs rest) v → Moves binds_text (Pointwise SameBind) bs rest v
-binds_moves [] rest v h = record { it = []; after = v; whole = refl; same = tt; moved = h }
-binds_moves (b ∷ bs) rest v h =
-    let a = bind_moves (variable_mark 0) b (more_binds_text 1 bs (sign RightPar ∷ rest)) h.0 h.2 in
-    let c = more_binds_moves 1 bs (sign RightPar ∷ rest) a.after a.moved in
-    let close = c.moved in
-    record {
-      it = a.it ∷ c.it;
-      after = close.0;
-      whole = h.1 ∙ ap (λ (w : List Marked). sign LeftPar ∷ w) (a.whole ∙ ap (bind_text (variable_mark 0) a.it) (c.whole ∙ ap (more_binds_text 1 c.it) close.1));
-      same = (a.same, c.same);
-      moved = close.2;
-    }
+binds_moves : (bs : List RawBind) (rest v : List Marked) → Moved (binds_text bs rest) v → Moves binds_text (AllZip SameBind) bs rest v
+binds_moves bs rest v h = enclosed_moves binds_text more_binds_text (bind_text (variable_mark 0)) SameBind (λ v. refl) (λ b bs v. refl) (bind_moves (variable_mark 0)) (more_binds_moves 1) bs rest v h
 
-goals_moves : (n : ℕ) (gs : List RawGoal) (rest v : List Marked) → Moved (goals_text n gs rest) v → Moves (goals_text n) (Pointwise SameGoal) gs rest v
+goals_moves : (n : ℕ) (gs : List RawGoal) (rest v : List Marked) → Moved (goals_text n gs rest) v → Moves (goals_text n) (AllZip SameGoal) gs rest v
 goals_moves n [] rest v h = record { it = []; after = v; whole = refl; same = tt; moved = h }
 goals_moves n (g ∷ gs) rest v h =
     let later : List Marked = goals_text (n + 1) gs rest in

@@ -1,10 +1,11 @@
 -- Printed forms that the checker computes.
-use Rattle.std.specs.Prelude.{◌≡◌, ℕ, List, [], ◌∷◌, true, false, codes}
+use Rattle.std.specs.Prelude.{◌≡◌, ℕ, List, [], ◌∷◌, ◌++◌, Bool, true, false, codes}
 use Rattle.spec_grammar.specs.declared.raw.RawName.{RawName}
 use Rattle.spec_grammar.specs.declared.raw.RawNames.{RawNames}
 use Rattle.spec_grammar.specs.declared.raw.RawSort.{RawSort}
 use Rattle.spec_grammar.specs.declared.raw.RawFun.{RawFun}
 use Rattle.spec_grammar.specs.declared.raw.RawEq.{RawEq}
+use Rattle.spec_grammar.specs.declared.raw.RawGuard.{RawGuard}
 use Rattle.spec_grammar.specs.declared.raw.RawRule.{RawRule}
 use Rattle.spec_grammar.specs.declared.raw.RawBind.{RawBind}
 use Rattle.spec_grammar.specs.declared.raw.RawGoal.{RawGoal}
@@ -38,7 +39,8 @@ of_nat text = record { name = name text; sort = name (codes "Nat") }
 
 -- a goal with this name
 abbrev pub goal : List ℕ → List RawBind → List RawEq → List RawEq → RawGoal
-goal text binds premises conclusions = record { head = name text; binds = binds; premises = premises; conclusions = conclusions }
+goal text binds premises conclusions =
+    record { head = name text; binds = binds; premises = premises; conclusions = conclusions }
 
 -- goals alone
 abbrev pub with_goals : List RawGoal → RawSpec
@@ -46,24 +48,64 @@ with_goals goals = record { sorts = []; funs = []; rules = []; goals = goals }
 
 -- `sort Nat = zero | succ(Nat)`
 abbrev pub nat_sort : RawSort
-nat_sort = record { head = name (codes "Nat"); constructors = names (codes "zero") [] ∷ names (codes "succ") (name (codes "Nat") ∷ []) ∷ [] }
+nat_sort =
+    let zero = names (codes "zero") [] in
+    let succ = names (codes "succ") (name (codes "Nat") ∷ []) in
+    record { head = name (codes "Nat"); constructors = zero ∷ succ ∷ [] }
 
 -- `fun plus(Nat, Nat) : Nat`
 abbrev pub plus_fun : RawFun
-plus_fun = record { head = names (codes "plus") (name (codes "Nat") ∷ name (codes "Nat") ∷ []); result = name (codes "Nat") }
+plus_fun =
+    let nat = name (codes "Nat") in
+    record { head = names (codes "plus") (nat ∷ nat ∷ []); result = nat }
+
+-- a test of x and y, wanted true or false
+abbrev pub guard : List ℕ → Bool → RawGuard
+guard text wanted = record { test = pair text (codes "x") (codes "y"); wanted = wanted }
 
 -- `rule f(x, y) = g(x) if le(x, y) unless eq(x, y)`
 abbrev pub guarded_rule : RawRule
-guarded_rule = record { left = pair (codes "f") (codes "x") (codes "y"); right = word (codes "g") 0 (some (leaf (codes "x")) none); guards = record { test = pair (codes "le") (codes "x") (codes "y"); wanted = true } ∷ record { test = pair (codes "eq") (codes "x") (codes "y"); wanted = false } ∷ [] }
+guarded_rule = record {
+  left = pair (codes "f") (codes "x") (codes "y");
+  right = word (codes "g") 0 (some (leaf (codes "x")) none);
+  guards = guard (codes "le") true ∷ guard (codes "eq") false ∷ [];
+}
 
 -- these three
 abbrev pub declarations : RawSpec
-declarations = record { sorts = nat_sort ∷ []; funs = plus_fun ∷ []; rules = guarded_rule ∷ []; goals = [] }
+declarations =
+    record { sorts = nat_sort ∷ []; funs = plus_fun ∷ []; rules = guarded_rule ∷ []; goals = [] }
+
+-- `a = b`, `c = d`, `e = f` and `h = i`
+abbrev pub a_is_b : RawEq
+a_is_b = equation (codes "a") (codes "b")
+
+abbrev pub c_is_d : RawEq
+c_is_d = equation (codes "c") (codes "d")
+
+abbrev pub e_is_f : RawEq
+e_is_f = equation (codes "e") (codes "f")
+
+abbrev pub h_is_i : RawEq
+h_is_i = equation (codes "h") (codes "i")
+
+-- a goal of two variables, with premises and conclusions
+abbrev pub whole_goal : RawGoal
+whole_goal = goal (codes "g") (of_nat (codes "x") ∷ of_nat (codes "y") ∷ [])
+    (a_is_b ∷ c_is_d ∷ []) (e_is_f ∷ h_is_i ∷ [])
 
 -- the header alone, a line of each kind, and the forms of a clause
 pub record PrintedExamples : Type 0 where
   pub header : printed (with_goals []) ≡ codes "spike 1\n"
-  pub lines : printed declarations ≡ codes "spike 1\nsort Nat = zero | succ(Nat)\nfun plus(Nat, Nat) : Nat\nrule f(x, y) = g(x) if le(x, y) unless eq(x, y)\n"
-  pub whole : printed (with_goals (goal (codes "g") (of_nat (codes "x") ∷ of_nat (codes "y") ∷ []) (equation (codes "a") (codes "b") ∷ equation (codes "c") (codes "d") ∷ []) (equation (codes "e") (codes "f") ∷ equation (codes "h") (codes "i") ∷ []) ∷ [])) ≡ codes "spike 1\ngoal g(x : Nat, y : Nat) : a = b, c = d => e = f | h = i\n"
-  pub without_conclusions : printed (with_goals (goal (codes "denial") [] (equation (codes "a") (codes "b") ∷ []) [] ∷ goal (codes "empty") [] [] [] ∷ [])) ≡ codes "spike 1\ngoal denial : a = b =>\ngoal empty : =>\n"
-  pub without_premises : printed (with_goals (goal (codes "plain") [] [] (equation (codes "a") (codes "b") ∷ equation (codes "c") (codes "d") ∷ []) ∷ [])) ≡ codes "spike 1\ngoal plain : a = b | c = d\n"
+  pub lines : printed declarations ≡ codes "spike 1\n"
+      ++ codes "sort Nat = zero | succ(Nat)\nfun plus(Nat, Nat) : Nat\n"
+      ++ codes "rule f(x, y) = g(x) if le(x, y) unless eq(x, y)\n"
+  pub whole : printed (with_goals (whole_goal ∷ []))
+      ≡ codes "spike 1\ngoal g(x : Nat, y : Nat) : a = b, c = d => e = f | h = i\n"
+  pub without_conclusions :
+      printed (with_goals (
+      goal (codes "denial") [] (a_is_b ∷ []) [] ∷ goal (codes "empty") [] [] [] ∷ []))
+      ≡ codes "spike 1\ngoal denial : a = b =>\ngoal empty : =>\n"
+  pub without_premises :
+      printed (with_goals (goal (codes "plain") [] [] (a_is_b ∷ c_is_d ∷ []) ∷ []))
+      ≡ codes "spike 1\ngoal plain : a = b | c = d\n"

@@ -27,7 +27,8 @@ spaced between (t ∷ ts) = codes " " ++ t ++ flat_map (λ u. between ++ u) ts
 abbrev mutual
   pub term_printed : RawTree → List ℕ
   term_printed (word name at none) = name
-  term_printed (word name at (some t ts)) = name ++ codes "(" ++ term_printed t ++ others_printed ts ++ codes ")"
+  term_printed (word name at (some t ts)) =
+      name ++ codes "(" ++ term_printed t ++ others_printed ts ++ codes ")"
 
   -- terms, each behind `, `
   pub others_printed : RawTrees → List ℕ
@@ -48,7 +49,8 @@ names_printed c = c.name ++ listed (map (λ (n : RawName). n.name) c.args)
 
 -- `sort NAME = CONSTRUCTOR | CONSTRUCTOR`
 abbrev pub sort_line : RawSort → List ℕ
-sort_line s = codes "sort " ++ s.head.name ++ codes " =" ++ spaced (codes " | ") (map names_printed s.constructors) ++ codes "\n"
+sort_line s = codes "sort " ++ s.head.name ++ codes " ="
+    ++ spaced (codes " | ") (map names_printed s.constructors) ++ codes "\n"
 
 -- `fun NAME(NAME, NAME) : NAME`
 abbrev pub fun_line : RawFun → List ℕ
@@ -60,7 +62,8 @@ guard_printed g = (if g.wanted then codes " if " else codes " unless ") ++ term_
 
 -- `rule LEFT = RIGHT if TEST unless TEST`
 abbrev pub rule_line : RawRule → List ℕ
-rule_line r = codes "rule " ++ sides_printed r.left r.right ++ flat_map guard_printed r.guards ++ codes "\n"
+rule_line r = codes "rule " ++ sides_printed r.left r.right
+    ++ flat_map guard_printed r.guards ++ codes "\n"
 
 -- `NAME : NAME`
 abbrev pub bind_printed : RawBind → List ℕ
@@ -73,12 +76,15 @@ arrow_printed _ _ = codes " =>"
 
 -- ` PREMISE, PREMISE => CONCLUSION | CONCLUSION`
 abbrev pub clause_printed : List RawEq → List RawEq → List ℕ
-clause_printed ps cs = spaced (codes ", ") (map equation_printed ps) ++ arrow_printed ps cs ++ spaced (codes " | ") (map equation_printed cs)
+clause_printed ps cs = spaced (codes ", ") (map equation_printed ps)
+    ++ arrow_printed ps cs ++ spaced (codes " | ") (map equation_printed cs)
 
 -- `goal NAME(NAME : NAME, NAME : NAME) : CLAUSE`
 abbrev pub goal_line : RawGoal → List ℕ
-goal_line g = codes "goal " ++ g.head.name ++ listed (map bind_printed g.binds) ++ codes " :" ++ clause_printed g.premises g.conclusions ++ codes "\n"
+goal_line g = codes "goal " ++ g.head.name ++ listed (map bind_printed g.binds) ++ codes " :"
+    ++ clause_printed g.premises g.conclusions ++ codes "\n"
 
 -- the header, the sorts, the functions, the rules and the goals
 abbrev pub printed : RawSpec → List ℕ
-printed raw = codes "spike 1\n" ++ flat_map sort_line raw.sorts ++ flat_map fun_line raw.funs ++ flat_map rule_line raw.rules ++ flat_map goal_line raw.goals
+printed raw = codes "spike 1\n" ++ flat_map sort_line raw.sorts ++ flat_map fun_line raw.funs
+    ++ flat_map rule_line raw.rules ++ flat_map goal_line raw.goals

@@ -7,4 +7,5 @@ use Rattle.spec_printing.specs.SamePlaces.{IsSameButPlaces}
 
 -- where any text derives the raw specification, this one derives the same apart from places
 abbrev pub ReadsBackAs : RawSpec → List ℕ → Type 0
-ReadsBackAs raw text = (bytes : List ℕ) → TextDerives IsSpecText bytes raw → (again : RawSpec) × TextDerives IsSpecText text again × IsSameButPlaces again raw
+ReadsBackAs raw text = (bytes : List ℕ) → TextDerives IsSpecText bytes raw
+    → (again : RawSpec) × TextDerives IsSpecText text again × IsSameButPlaces again raw

@@ -55,7 +55,8 @@ fn append_sort(sort: &RawSort, text: &mut Vec<u8>) -> Result<(), OutOfMemory>
 
 /// Appends ` CONSTRUCTOR | CONSTRUCTOR`.
 fn append_constructors(constructors: &[RawNames], text: &mut Vec<u8>) -> Result<(), OutOfMemory>
-    ensures { OnOk result (text.new.items ≡ text.old.items ++ spaced (codes " | ") (map names_printed constructors.now)) }
+    ensures { OnOk result (text.new.items ≡ text.old.items
+        ++ spaced (codes " | ") (map names_printed constructors.now)) }
 {
     let Some((first, others)) = front(constructors) else {
         return Ok(());
@@ -80,7 +81,8 @@ fn append_with_names(names: &RawNames, text: &mut Vec<u8>) -> Result<(), OutOfMe
 
 /// Appends `(NAME, NAME)`.
 fn append_names(names: &[RawName], text: &mut Vec<u8>) -> Result<(), OutOfMemory>
-    ensures { OnOk result (text.new.items ≡ text.old.items ++ listed (map (λ (n : RawName). n.name) names.now)) }
+    ensures { OnOk result (text.new.items ≡ text.old.items
+        ++ listed (map (λ (n : RawName). n.name) names.now)) }
 {
     let Some((first, others)) = front(names) else {
         return Ok(());
@@ -209,7 +211,8 @@ fn append_clause(
     conclusions: &[RawEq],
     text: &mut Vec<u8>,
 ) -> Result<(), OutOfMemory>
-    ensures { OnOk result (text.new.items ≡ text.old.items ++ clause_printed premises.now conclusions.now) }
+    ensures { OnOk result (text.new.items ≡ text.old.items
+        ++ clause_printed premises.now conclusions.now) }
 {
     append_equations(premises, b", ", text)?;
     append_arrow(premises, conclusions, text)?;
@@ -223,7 +226,8 @@ fn append_arrow(
     conclusions: &[RawEq],
     text: &mut Vec<u8>,
 ) -> Result<(), OutOfMemory>
-    ensures { OnOk result (text.new.items ≡ text.old.items ++ arrow_printed premises.now conclusions.now) }
+    ensures { OnOk result (text.new.items ≡ text.old.items
+        ++ arrow_printed premises.now conclusions.now) }
 {
     if !premises.is_empty() || conclusions.is_empty() {
         text.extend_from_slice(b" =>")?;
@@ -238,7 +242,8 @@ fn append_equations(
     between: &[u8],
     text: &mut Vec<u8>,
 ) -> Result<(), OutOfMemory>
-    ensures { OnOk result (text.new.items ≡ text.old.items ++ spaced between.now (map equation_printed equations.now)) }
+    ensures { OnOk result (text.new.items ≡ text.old.items
+        ++ spaced between.now (map equation_printed equations.now)) }
 {
     let Some((first, others)) = front(equations) else {
         return Ok(());
@@ -281,7 +286,8 @@ fn append_term(term: &RawTerm, text: &mut Vec<u8>) -> Result<(), OutOfMemory>
 /// Appends the terms, each after a comma and a space.
 #[cycle(append)]
 fn append_others(terms: &[RawTerm], text: &mut Vec<u8>) -> Result<(), OutOfMemory>
-    ensures { OnOk result (text.new.items ≡ text.old.items ++ others_printed (raw_trees terms.now)) }
+    ensures { OnOk result (text.new.items ≡ text.old.items
+        ++ others_printed (raw_trees terms.now)) }
 {
     let Some((first, others)) = front(terms) else {
         return Ok(());

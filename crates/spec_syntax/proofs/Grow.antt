@@ -37,42 +37,37 @@ pub opened_closes : (d : ℕ) (ts : List RawTree) (v : List Marked) → 0 < leng
 opened_closes d [] v h = absurd (omega arith)
 opened_closes d (t ∷ ts) v h = refl
 
+-- a text whose items stand one behind the other, with one more at the end
+items_grow : {X : Type 0} (text : ℕ → List X → List Marked → List Marked) (item : ℕ → X → List Marked → List Marked) → ((n : ℕ) (v : List Marked) → text n [] v ≡ v) → ((n : ℕ) (x : X) (xs : List X) (v : List Marked) → text n (x ∷ xs) v ≡ item n x (text (n + 1) xs v)) → (n : ℕ) (xs : List X) (x : X) (v : List Marked) → text n (xs ++ x ∷ []) v ≡ text n xs (item (n + length xs) x v)
+items_grow text item ends goes_on n [] x v = goes_on n x [] v ∙ ap (item n x) (ends (n + 1) v) ∙ ap (λ (k : ℕ). item k x v) (sym (add-zero n)) ∙ sym (ends n (item (n + 0) x v))
+items_grow text item ends goes_on n (y ∷ xs) x v =
+    let others = items_grow text item ends goes_on (n + 1) xs x v ∙ ap (λ (k : ℕ). text (n + 1) xs (item k x v)) (next_is n y xs) in
+    goes_on n y (xs ++ x ∷ []) v ∙ ap (item n y) others ∙ sym (goes_on n y xs (item (n + length (y ∷ xs)) x v))
+
 pub more_names_grow : (n : ℕ) (xs : List RawName) (x : RawName) (v : List Marked) → more_names_text n (xs ++ x ∷ []) v ≡ more_names_text n xs (sign Comma ∷ name_text (arity_mark (n + length xs)) x v)
-more_names_grow n [] x v = ap (λ (k : ℕ). sign Comma ∷ name_text (arity_mark k) x v) (sym (add-zero n))
-more_names_grow n (y ∷ xs) x v = ap (λ (w : List Marked). sign Comma ∷ name_text (arity_mark n) y w) (more_names_grow (n + 1) xs x v ∙ ap (λ (k : ℕ). more_names_text (n + 1) xs (sign Comma ∷ name_text (arity_mark k) x v)) (next_is n y xs))
-
-pub funs_grow : (n : ℕ) (xs : List RawFun) (x : RawFun) (v : List Marked) → funs_text n (xs ++ x ∷ []) v ≡ funs_text n xs ((Sign Fun, fun_mark (n + length xs)) ∷ con_text None x.head (sign Colon ∷ name_text None x.result v))
-funs_grow n [] x v = ap (λ (k : ℕ). (Sign Fun, fun_mark k) ∷ con_text None x.head (sign Colon ∷ name_text None x.result v)) (sym (add-zero n))
-funs_grow n (y ∷ xs) x v = ap (λ (w : List Marked). (Sign Fun, fun_mark n) ∷ con_text None y.head (sign Colon ∷ name_text None y.result w)) (funs_grow (n + 1) xs x v ∙ ap (λ (k : ℕ). funs_text (n + 1) xs ((Sign Fun, fun_mark k) ∷ con_text None x.head (sign Colon ∷ name_text None x.result v))) (next_is n y xs))
-
-pub guards_grow : (n : ℕ) (xs : List RawGuard) (x : RawGuard) (v : List Marked) → guards_text n (xs ++ x ∷ []) v ≡ guards_text n xs ((Sign (guard_key x.wanted), guard_mark (n + length xs)) ∷ term_text 0 None x.test v)
-guards_grow n [] x v = ap (λ (k : ℕ). (Sign (guard_key x.wanted), guard_mark k) ∷ term_text 0 None x.test v) (sym (add-zero n))
-guards_grow n (y ∷ xs) x v = ap (λ (w : List Marked). (Sign (guard_key y.wanted), guard_mark n) ∷ term_text 0 None y.test w) (guards_grow (n + 1) xs x v ∙ ap (λ (k : ℕ). guards_text (n + 1) xs ((Sign (guard_key x.wanted), guard_mark k) ∷ term_text 0 None x.test v)) (next_is n y xs))
-
-pub rules_grow : (n : ℕ) (xs : List RawRule) (x : RawRule) (v : List Marked) → rules_text n (xs ++ x ∷ []) v ≡ rules_text n xs ((Sign Rule, rule_mark (n + length xs)) ∷ sides_text None x.left x.right (guards_text 0 x.guards v))
-rules_grow n [] x v = ap (λ (k : ℕ). (Sign Rule, rule_mark k) ∷ sides_text None x.left x.right (guards_text 0 x.guards v)) (sym (add-zero n))
-rules_grow n (y ∷ xs) x v = ap (λ (w : List Marked). (Sign Rule, rule_mark n) ∷ sides_text None y.left y.right (guards_text 0 y.guards w)) (rules_grow (n + 1) xs x v ∙ ap (λ (k : ℕ). rules_text (n + 1) xs ((Sign Rule, rule_mark k) ∷ sides_text None x.left x.right (guards_text 0 x.guards v))) (next_is n y xs))
+more_names_grow n xs x v = items_grow more_names_text (λ k y w. sign Comma ∷ name_text (arity_mark k) y w) (λ k w. refl) (λ k y ys w. refl) n xs x v
 
 pub commas_grow : (n : ℕ) (xs : List RawEq) (x : RawEq) (v : List Marked) → commas_text n (xs ++ x ∷ []) v ≡ commas_text n xs (sign Comma ∷ sides_text (premise_mark (n + length xs)) x.left x.right v)
-commas_grow n [] x v = ap (λ (k : ℕ). sign Comma ∷ sides_text (premise_mark k) x.left x.right v) (sym (add-zero n))
-commas_grow n (y ∷ xs) x v = ap (λ (w : List Marked). sign Comma ∷ sides_text (premise_mark n) y.left y.right w) (commas_grow (n + 1) xs x v ∙ ap (λ (k : ℕ). commas_text (n + 1) xs (sign Comma ∷ sides_text (premise_mark k) x.left x.right v)) (next_is n y xs))
+commas_grow n xs x v = items_grow commas_text (λ k e w. sign Comma ∷ sides_text (premise_mark k) e.left e.right w) (λ k w. refl) (λ k e es w. refl) n xs x v
 
 pub bars_grow : (n : ℕ) (xs : List RawEq) (x : RawEq) (v : List Marked) → bars_text n (xs ++ x ∷ []) v ≡ bars_text n xs (sign Bar ∷ sides_text (conclusion_mark (n + length xs)) x.left x.right v)
-bars_grow n [] x v = ap (λ (k : ℕ). sign Bar ∷ sides_text (conclusion_mark k) x.left x.right v) (sym (add-zero n))
-bars_grow n (y ∷ xs) x v = ap (λ (w : List Marked). sign Bar ∷ sides_text (conclusion_mark n) y.left y.right w) (bars_grow (n + 1) xs x v ∙ ap (λ (k : ℕ). bars_text (n + 1) xs (sign Bar ∷ sides_text (conclusion_mark k) x.left x.right v)) (next_is n y xs))
+bars_grow n xs x v = items_grow bars_text (λ k e w. sign Bar ∷ sides_text (conclusion_mark k) e.left e.right w) (λ k w. refl) (λ k e es w. refl) n xs x v
 
 pub more_binds_grow : (n : ℕ) (xs : List RawBind) (x : RawBind) (v : List Marked) → more_binds_text n (xs ++ x ∷ []) v ≡ more_binds_text n xs (sign Comma ∷ bind_text (variable_mark (n + length xs)) x v)
-more_binds_grow n [] x v = ap (λ (k : ℕ). sign Comma ∷ bind_text (variable_mark k) x v) (sym (add-zero n))
-more_binds_grow n (y ∷ xs) x v = ap (λ (w : List Marked). sign Comma ∷ bind_text (variable_mark n) y w) (more_binds_grow (n + 1) xs x v ∙ ap (λ (k : ℕ). more_binds_text (n + 1) xs (sign Comma ∷ bind_text (variable_mark k) x v)) (next_is n y xs))
+more_binds_grow n xs x v = items_grow more_binds_text (λ k b w. sign Comma ∷ bind_text (variable_mark k) b w) (λ k w. refl) (λ k b bs w. refl) n xs x v
+
+-- the same of a list before which no item stands
+whole_grows : {X : Type 0} (text : ℕ → List X → List Marked → List Marked) (item : ℕ → X → List Marked → List Marked) → ((n : ℕ) (v : List Marked) → text n [] v ≡ v) → ((n : ℕ) (x : X) (xs : List X) (v : List Marked) → text n (x ∷ xs) v ≡ item n x (text (n + 1) xs v)) → (xs : List X) (x : X) (v : List Marked) → text 0 (xs ++ x ∷ []) v ≡ text 0 xs (item (length xs) x v)
+whole_grows text item ends goes_on xs x v = items_grow text item ends goes_on 0 xs x v ∙ ap (λ (k : ℕ). text 0 xs (item k x v)) (zero-add (length xs))
 
 pub first_funs_grow : (xs : List RawFun) (x : RawFun) (v : List Marked) → funs_text 0 (xs ++ x ∷ []) v ≡ funs_text 0 xs ((Sign Fun, fun_mark (length xs)) ∷ con_text None x.head (sign Colon ∷ name_text None x.result v))
-first_funs_grow xs x v = funs_grow 0 xs x v ∙ ap (λ (k : ℕ). funs_text 0 xs ((Sign Fun, fun_mark k) ∷ con_text None x.head (sign Colon ∷ name_text None x.result v))) (zero-add (length xs))
+first_funs_grow xs x v = whole_grows funs_text (λ k f w. (Sign Fun, fun_mark k) ∷ con_text None f.head (sign Colon ∷ name_text None f.result w)) (λ k w. refl) (λ k f fs w. refl) xs x v
 
 pub first_guards_grow : (xs : List RawGuard) (x : RawGuard) (v : List Marked) → guards_text 0 (xs ++ x ∷ []) v ≡ guards_text 0 xs ((Sign (guard_key x.wanted), guard_mark (length xs)) ∷ term_text 0 None x.test v)
-first_guards_grow xs x v = guards_grow 0 xs x v ∙ ap (λ (k : ℕ). guards_text 0 xs ((Sign (guard_key x.wanted), guard_mark k) ∷ term_text 0 None x.test v)) (zero-add (length xs))
+first_guards_grow xs x v = whole_grows guards_text (λ k g w. (Sign (guard_key g.wanted), guard_mark k) ∷ term_text 0 None g.test w) (λ k w. refl) (λ k g gs w. refl) xs x v
 
 pub first_rules_grow : (xs : List RawRule) (x : RawRule) (v : List Marked) → rules_text 0 (xs ++ x ∷ []) v ≡ rules_text 0 xs ((Sign Rule, rule_mark (length xs)) ∷ sides_text None x.left x.right (guards_text 0 x.guards v))
-first_rules_grow xs x v = rules_grow 0 xs x v ∙ ap (λ (k : ℕ). rules_text 0 xs ((Sign Rule, rule_mark k) ∷ sides_text None x.left x.right (guards_text 0 x.guards v))) (zero-add (length xs))
+first_rules_grow xs x v = whole_grows rules_text (λ k r w. (Sign Rule, rule_mark k) ∷ sides_text None r.left r.right (guards_text 0 r.guards w)) (λ k w. refl) (λ k r rs w. refl) xs x v
 
 -- names whose parenthesis isn't closed yet, before what stands behind them
 abbrev pub opened_names : List RawName → List Marked → List Marked

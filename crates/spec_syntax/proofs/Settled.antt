@@ -17,7 +17,7 @@ use Rattle.spec_grammar.proofs.Readings.{fault_stops, derived_or_fault, one_deri
 use Rattle.spec_grammar.proofs.Whole.{refused, derived_run}
 use Rattle.spec_syntax.specs.declared.fault.SyntaxFault.{SyntaxFault}
 use Rattle.spec_syntax.specs.declared.fault.SyntaxFault.TheVariants.{Text, Syntax, Limit, OutOfMemory}
-use Rattle.spec_syntax.specs.Faults.{IsAnswer, IsRefusal, HasFault, TellsFault}
+use Rattle.spec_syntax.specs.Faults.{IsAnswer, IsSyntaxFault, HasFault, TellsFault}
 use Rattle.spec_syntax.specs.Wholes.{place_left, StopsAt, Settles}
 
 -- a list of tokens falls apart as its items do
@@ -78,7 +78,7 @@ module _ {R : Type 0} (start : List Symbol) (IsText : R → List Marked → Type
   is_fault_told (Err (Limit at what)) h = stop_is_fault at (Some what) h
   is_fault_told (Err OutOfMemory) h = tt
 
-  pub is_exact : (result : Result R SyntaxFault) → Settles IsText start bytes result → (fault : SyntaxFault) → HasFault IsText bytes fault → IsRefusal fault result
+  pub is_exact : (result : Result R SyntaxFault) → Settles IsText start bytes result → (fault : SyntaxFault) → HasFault IsText bytes fault → IsSyntaxFault fault result
   is_exact (Ok x) h (Text at) f = tokens_or_fault bytes h.0 at h.1 f
   is_exact (Ok x) h (Syntax at) f = derived_or_fault start IsText agrees means one bytes x at None h f
   is_exact (Ok x) h (Limit at what) f = derived_or_fault start IsText agrees means one bytes x at (Some what) h f

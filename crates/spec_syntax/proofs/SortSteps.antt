@@ -1,19 +1,15 @@
 -- The symbols of sorts, and texts of sorts with one more constructor or sort.
-use Rattle.std.proofs.Common.{◌≡◌, ℕ, zero, suc, ◌+◌, ◌<◌, List, [], ◌∷◌, ◌++◌, ◌⊎◌, inl, inr, Option, Some, None, Bool, true, false, cond, nat_le, length, refl, ap, sym, ◌∙◌, add-zero, add-one, arith}
-use Rattle.std.proofs.lemmas.Bool.{leb-false}
+use Rattle.std.proofs.Common.{◌≡◌, ℕ, zero, suc, ◌+◌, ◌<◌, List, [], ◌∷◌, ◌++◌, ◌⊎◌, inl, inr, None, length, refl, ap, sym, ◌∙◌, add-zero, add-one, arith}
 use Rattle.spec_grammar.specs.declared.keys.Key.TheVariants.{Sort, Equals, Bar}
-use Rattle.spec_grammar.specs.declared.limits.LimitKind.{LimitKind}
-use Rattle.spec_grammar.specs.declared.limits.LimitKind.TheVariants as limit
 use Rattle.spec_grammar.specs.declared.raw.RawNames.{RawNames}
 use Rattle.spec_grammar.specs.declared.raw.RawSort.{RawSort}
 use Rattle.spec_grammar.specs.Items.{Item, Word, Sign}
 use Rattle.spec_grammar.specs.Grammar.{Marked, sign, name_text, con_text, constructors_text, AreSorts}
-use Rattle.spec_grammar.specs.Limits.{over, or_else, sort_mark, constructor_mark}
+use Rattle.spec_grammar.specs.Limits.{sort_mark, constructor_mark}
 use Rattle.spec_grammar.specs.Symbols.{Symbol, name, names, sorts, run}
 use Rattle.spec_syntax.specs.Reading.{Lacks}
 use Rattle.spec_syntax.specs.ReadingSorts.{begun_text, sort_text, sort_symbols}
 use Rattle.spec_syntax.proofs.Grow.{next_is}
-use Rattle.spec_grammar.proofs.Stacks.{limit_none}
 
 -- a bar goes on with a sort that has constructors
 pub bar_takes : (n k t : ℕ) (items next : List Item) (st : List Symbol) → 0 < k → items ≡ Sign Bar ∷ next → run (sorts n k t ∷ st) items ≡ run (name (constructor_mark k t) ∷ names ∷ sorts n (k + 1) (t + 1) ∷ st) next
@@ -39,18 +35,6 @@ sorts_end n k t (Word c a ∷ items) st h b = refl
 sorts_end n k t (Sign Sort ∷ items) st h b = absurd (h refl)
 sorts_end n k t (Sign Bar ∷ items) st h b = bar_skips n k t items st b
 sorts_end n k t (Sign _ ∷ items) st h b = refl
-
-few_over : (b : Bool) (t : ℕ) → nat_le 500 t ≡ b → cond {A = Option LimitKind} b (Some limit.Constructors) None ≡ None → t < 500
-few_over true t e h = absurd (limit_none h)
-few_over false t e h = let lt = leb-false 500 t e in omega (arith, lt)
-
-few_first : (b : Bool) (t : ℕ) → or_else (cond {A = Option LimitKind} b (Some limit.Constructors) None) (over t 500 limit.Constructors) ≡ None → t < 500
-few_first true t h = absurd (limit_none h)
-few_first false t h = few_over (nat_le 500 t) t refl h
-
--- a constructor that passes no limit
-pub few_constructors : (k t : ℕ) → constructor_mark k t ≡ None → t < 500
-few_constructors k t h = few_first (nat_le 64 k) t h
 
 constructors_grow : (k t : ℕ) (cs : List RawNames) (c : RawNames) (v : List Marked) → constructors_text k t (cs ++ c ∷ []) v ≡ constructors_text k t cs (sign Bar ∷ con_text (constructor_mark (k + length cs) (t + length cs)) c v)
 constructors_grow k t [] c v = ap (λ (j : ℕ). sign Bar ∷ con_text (constructor_mark j t) c v) (sym (add-zero k)) ∙ ap (λ (j : ℕ). sign Bar ∷ con_text (constructor_mark (k + 0) j) c v) (sym (add-zero t))

@@ -1,7 +1,8 @@
 -- What a reader answers, and when.
-use Rattle.std.specs.Prelude.{◌≡◌, ℕ, List, Some, None, Result, Ok, Err}
+use Rattle.std.specs.Prelude.{◌≡◌, ℕ, List, ◌++◌, Some, None, Result, Ok, Err, codes, decimal}
 use Rattle.spec_text.specs.Tokens.{IsTextFault}
 use Rattle.spec_grammar.specs.Grammar.{Marked}
+use Rattle.spec_grammar.specs.Limits.{limit_word}
 use Rattle.spec_grammar.specs.Derives.{TextHasFault}
 use Rattle.spec_syntax.specs.declared.fault.SyntaxFault.{SyntaxFault}
 use Rattle.spec_syntax.specs.declared.fault.SyntaxFault.TheVariants.{Text, Syntax, Limit, OutOfMemory}
@@ -13,10 +14,10 @@ IsAnswer r (Err OutOfMemory) = Unit {0}
 IsAnswer r (Err fault) = ⊥
 
 -- the answer is this fault, unless memory ran out
-abbrev pub IsRefusal : {R : Type 0} → SyntaxFault → Result R SyntaxFault → Type 0
-IsRefusal fault (Ok x) = ⊥
-IsRefusal fault (Err OutOfMemory) = Unit {0}
-IsRefusal fault (Err other) = other ≡ fault
+abbrev pub IsSyntaxFault : {R : Type 0} → SyntaxFault → Result R SyntaxFault → Type 0
+IsSyntaxFault fault (Ok x) = ⊥
+IsSyntaxFault fault (Err OutOfMemory) = Unit {0}
+IsSyntaxFault fault (Err other) = other ≡ fault
 
 -- the bytes have this fault as a text of such a kind; want of memory is no fault of theirs
 abbrev pub HasFault : {R : Type 0} → (R → List Marked → Type 0) → List ℕ → SyntaxFault → Type 0
@@ -29,3 +30,10 @@ HasFault IsText bytes OutOfMemory = ⊥
 abbrev pub TellsFault : {R : Type 0} → (R → List Marked → Type 0) → List ℕ → SyntaxFault → Type 0
 TellsFault IsText bytes OutOfMemory = Unit {0}
 TellsFault IsText bytes fault = HasFault IsText bytes fault
+
+-- what is printed of a fault
+abbrev pub fault_text : SyntaxFault → List ℕ
+fault_text (Text at) = codes "text at " ++ decimal at
+fault_text (Syntax at) = codes "syntax at " ++ decimal at
+fault_text (Limit at what) = codes "limit at " ++ decimal at ++ codes ": " ++ limit_word what
+fault_text OutOfMemory = codes "out of memory"

@@ -49,23 +49,33 @@ abbrev pub Stops : List Symbol → List Item → Stop → Type 0
 Stops ss items OutOfMemory = Unit {0}
 Stops ss items (Fault left why) = (st : List Symbol) → run (ss ++ st) items ≡ Some (left, why)
 
--- The tokens are the text of what was read, none of which passes a limit, and a rest. Whatever stands below, the first
--- symbols go to the others.
-abbrev pub ReadsTo : {X : Type 0} → (X → List Marked → List Marked) → (X → List Item) → List Symbol → (X → List Symbol) → List Item → Result X Stop → Type 0
+-- The tokens are the text of what was read, none of which passes a limit, and a rest. Whatever
+-- stands below, the first symbols go to the others.
+abbrev pub ReadsTo : {X : Type 0} → (X → List Marked → List Marked) → (X → List Item) → List Symbol
+    → (X → List Symbol) → List Item → Result X Stop → Type 0
 ReadsTo text rest ss left items (Ok x) =
-    (clean items ≡ text x (clean (rest x))) × ((st : List Symbol) → run (ss ++ st) items ≡ run (left x ++ st) (rest x)) × (length (rest x) ≤ length items)
+    (clean items ≡ text x (clean (rest x)))
+    × ((st : List Symbol) → run (ss ++ st) items ≡ run (left x ++ st) (rest x))
+    × (length (rest x) ≤ length items)
 ReadsTo text rest ss left items (Err stop) = Stops ss items stop
 
 -- the same where no symbols are left
-abbrev pub Reads : {X : Type 0} → (X → List Marked → List Marked) → (X → List Item) → List Symbol → List Item → Result X Stop → Type 0
+abbrev pub Reads : {X : Type 0} → (X → List Marked → List Marked) → (X → List Item) → List Symbol
+    → List Item → Result X Stop → Type 0
 Reads text rest ss items (Ok x) =
-    (clean items ≡ text x (clean (rest x))) × ((st : List Symbol) → run (ss ++ st) items ≡ run st (rest x)) × (length (rest x) ≤ length items)
+    (clean items ≡ text x (clean (rest x)))
+    × ((st : List Symbol) → run (ss ++ st) items ≡ run st (rest x))
+    × (length (rest x) ≤ length items)
 Reads text rest ss items (Err stop) = Stops ss items stop
 
--- The same of one more item of a list, whose symbol goes to another one; or there is none, and this holds of the tokens.
-abbrev pub ReadsItem : {X : Type 0} → (X → List Marked → List Marked) → (X → List Item) → Symbol → Symbol → (List Item → Type 0) → List Item → Result (Option X) Stop → Type 0
+-- The same of one more item of a list, whose symbol goes to another one; or there is none, and this
+-- holds of the tokens.
+abbrev pub ReadsItem : {X : Type 0} → (X → List Marked → List Marked) → (X → List Item) → Symbol
+    → Symbol → (List Item → Type 0) → List Item → Result (Option X) Stop → Type 0
 ReadsItem text rest s next ends items (Ok (Some x)) =
-    (clean items ≡ text x (clean (rest x))) × ((st : List Symbol) → run (s ∷ st) items ≡ run (next ∷ st) (rest x)) × (length (rest x) < length items)
+    (clean items ≡ text x (clean (rest x)))
+    × ((st : List Symbol) → run (s ∷ st) items ≡ run (next ∷ st) (rest x))
+    × (length (rest x) < length items)
 ReadsItem text rest s next ends items (Ok None) = ends items
 ReadsItem text rest s next ends items (Err stop) = Stops (s ∷ []) items stop
 
@@ -74,7 +84,8 @@ abbrev pub IsPassedOver : Symbol → List Item → Type 0
 IsPassedOver s items = (st : List Symbol) → run (s ∷ st) items ≡ run st items
 
 -- one more item, or the list's symbol stands for nothing
-abbrev pub ReadsNext : {X : Type 0} → (X → List Marked → List Marked) → (X → List Item) → Symbol → Symbol → List Item → Result (Option X) Stop → Type 0
+abbrev pub ReadsNext : {X : Type 0} → (X → List Marked → List Marked) → (X → List Item) → Symbol
+    → Symbol → List Item → Result (Option X) Stop → Type 0
 ReadsNext text rest s next items result = ReadsItem text rest s next (IsPassedOver s) items result
 
 -- the list begins with this one
@@ -87,46 +98,67 @@ others_of [] = []
 others_of (e ∷ es) = es
 
 -- the conclusions behind a first one
-abbrev pub ReadsBars : {X : Type 0} → RawEq → (X → List RawEq) → (X → List Item) → List Item → Result X Stop → Type 0
+abbrev pub ReadsBars : {X : Type 0} → RawEq → (X → List RawEq) → (X → List Item) → List Item
+    → Result X Stop → Type 0
 ReadsBars first made rest items (Ok x) =
-    BeginsWith first (made x) × (clean items ≡ bars_text 1 (others_of (made x)) (clean (rest x))) × ((st : List Symbol) → run (bars 1 ∷ st) items ≡ run st (rest x)) × (length (rest x) ≤ length items)
+    BeginsWith first (made x) × (clean items ≡ bars_text 1 (others_of (made x)) (clean (rest x)))
+    × ((st : List Symbol) → run (bars 1 ∷ st) items ≡ run st (rest x))
+    × (length (rest x) ≤ length items)
 ReadsBars first made rest items (Err stop) = Stops (bars 1 ∷ []) items stop
 
 -- the premises behind a first one, and the arrow behind them
-abbrev pub ReadsPremises : {X : Type 0} → RawEq → (X → List RawEq) → (X → List Item) → List Item → Result X Stop → Type 0
+abbrev pub ReadsPremises : {X : Type 0} → RawEq → (X → List RawEq) → (X → List Item) → List Item
+    → Result X Stop → Type 0
 ReadsPremises first made rest items (Ok x) =
-    BeginsWith first (made x) × (clean items ≡ commas_text 1 (others_of (made x)) (sign Arrow ∷ clean (rest x))) × ((st : List Symbol) → run (commas 1 ∷ st) items ≡ run (conclusions ∷ st) (rest x)) × (length (rest x) ≤ length items)
+    BeginsWith first (made x)
+    × (clean items ≡ commas_text 1 (others_of (made x)) (sign Arrow ∷ clean (rest x)))
+    × ((st : List Symbol) → run (commas 1 ∷ st) items ≡ run (conclusions ∷ st) (rest x))
+    × (length (rest x) ≤ length items)
 ReadsPremises first made rest items (Err stop) = Stops (commas 1 ∷ []) items stop
 
-abbrev pub ReadsClause : {X : Type 0} → (X → List RawEq) → (X → List RawEq) → (X → List Item) → List Item → Result X Stop → Type 0
+abbrev pub ReadsClause : {X : Type 0} → (X → List RawEq) → (X → List RawEq) → (X → List Item)
+    → List Item → Result X Stop → Type 0
 ReadsClause premises made rest items (Ok x) =
-    IsClause (premises x) (made x) (clean items) (clean (rest x)) × ((st : List Symbol) → run (clause ∷ st) items ≡ run st (rest x)) × (length (rest x) ≤ length items)
+    IsClause (premises x) (made x) (clean items) (clean (rest x))
+    × ((st : List Symbol) → run (clause ∷ st) items ≡ run st (rest x))
+    × (length (rest x) ≤ length items)
 ReadsClause premises made rest items (Err stop) = Stops (clause ∷ []) items stop
 
 -- the goal's text behind its first word, before what stands behind it
 abbrev pub IsGoalText : RawGoal → List Marked → List Marked → Type 0
 IsGoalText g text after =
-    (body : List Marked) × (text ≡ name_text None g.head (binds_text g.binds (sign Colon ∷ body))) × IsClause g.premises g.conclusions body after
+    (body : List Marked) × (text ≡ name_text None g.head (binds_text g.binds (sign Colon ∷ body)))
+    × IsClause g.premises g.conclusions body after
 
 abbrev pub goal_symbols : List Symbol → List Symbol
 goal_symbols st = name None ∷ binds ∷ key Colon ∷ clause ∷ st
 
-abbrev pub ReadsGoal : {X : Type 0} → (X → RawGoal) → (X → List Item) → List Item → Result X Stop → Type 0
+abbrev pub ReadsGoal : {X : Type 0} → (X → RawGoal) → (X → List Item) → List Item → Result X Stop
+    → Type 0
 ReadsGoal goal rest items (Ok x) =
-    IsGoalText (goal x) (clean items) (clean (rest x)) × ((st : List Symbol) → run (goal_symbols st) items ≡ run st (rest x)) × (length (rest x) ≤ length items)
+    IsGoalText (goal x) (clean items) (clean (rest x))
+    × ((st : List Symbol) → run (goal_symbols st) items ≡ run st (rest x))
+    × (length (rest x) ≤ length items)
 ReadsGoal goal rest items (Err stop) = Stops (goal_symbols []) items stop
 
 -- the tokens are one goal, with n goals before it
 abbrev pub IsOneGoal : ℕ → RawGoal → List Marked → List Marked → Type 0
-IsOneGoal n g text after = (inner : List Marked) × (text ≡ (Sign Goal, goal_mark n) ∷ inner) × IsGoalText g inner after
+IsOneGoal n g text after = (inner : List Marked) × (text ≡ (Sign Goal, goal_mark n) ∷ inner)
+    × IsGoalText g inner after
 
-abbrev pub ReadsNextGoal : {X : Type 0} → ℕ → (X → RawGoal) → (X → List Item) → List Item → Result (Option X) Stop → Type 0
+abbrev pub ReadsNextGoal : {X : Type 0} → ℕ → (X → RawGoal) → (X → List Item) → List Item
+    → Result (Option X) Stop → Type 0
 ReadsNextGoal n goal rest items (Ok (Some x)) =
-    IsOneGoal n (goal x) (clean items) (clean (rest x)) × ((st : List Symbol) → run (goals n ∷ st) items ≡ run (goals (n + 1) ∷ st) (rest x)) × (length (rest x) < length items)
+    IsOneGoal n (goal x) (clean items) (clean (rest x))
+    × ((st : List Symbol) → run (goals n ∷ st) items ≡ run (goals (n + 1) ∷ st) (rest x))
+    × (length (rest x) < length items)
 ReadsNextGoal n goal rest items (Ok None) = IsPassedOver (goals n) items
 ReadsNextGoal n goal rest items (Err stop) = Stops (goals n ∷ []) items stop
 
-abbrev pub ReadsGoals : {X : Type 0} → (X → List RawGoal) → (X → List Item) → List Item → Result X Stop → Type 0
+abbrev pub ReadsGoals : {X : Type 0} → (X → List RawGoal) → (X → List Item) → List Item
+    → Result X Stop → Type 0
 ReadsGoals made rest items (Ok x) =
-    AreGoals 0 (made x) (clean items) (clean (rest x)) × ((st : List Symbol) → run (goals 0 ∷ st) items ≡ run st (rest x)) × (length (rest x) ≤ length items)
+    AreGoals 0 (made x) (clean items) (clean (rest x))
+    × ((st : List Symbol) → run (goals 0 ∷ st) items ≡ run st (rest x))
+    × (length (rest x) ≤ length items)
 ReadsGoals made rest items (Err stop) = Stops (goals 0 ∷ []) items stop

@@ -1,6 +1,7 @@
 -- What a function returned that reads sorts, beside the stack of grammar symbols.
 use Rattle.std.specs.Prelude.{◌≡◌, ℕ, ◌+◌, ◌<◌, ◌≤◌, List, [], ◌∷◌, ◌++◌, Option, Some, None, Result, Ok, Err, length}
 use Rattle.spec_grammar.specs.declared.keys.Key.TheVariants.{Sort, Equals, Bar}
+use Rattle.spec_grammar.specs.declared.limits.TheConstants.{MAX_CONSTRUCTORS}
 use Rattle.spec_grammar.specs.declared.raw.RawNames.{RawNames}
 use Rattle.spec_grammar.specs.declared.raw.RawSort.{RawSort}
 use Rattle.spec_grammar.specs.Items.{Item, Sign}
@@ -21,16 +22,26 @@ abbrev pub first_constructor : ℕ → ℕ → List Symbol
 first_constructor n t = name (constructor_mark 0 t) ∷ names ∷ sorts n 1 (t + 1) ∷ []
 
 -- one more constructor behind a bar
-abbrev pub ReadsConstructor : {X : Type 0} → ℕ → ℕ → (X → RawNames) → (X → List Item) → List Item → Result (Option X) Stop → Type 0
+abbrev pub ReadsConstructor : {X : Type 0} → ℕ → ℕ → (X → RawNames) → (X → List Item) → List Item
+    → Result (Option X) Stop → Type 0
 ReadsConstructor k t made rest items (Ok (Some x)) =
-    (clean items ≡ sign Bar ∷ con_text (constructor_mark k t) (made x) (clean (rest x))) × ((n : ℕ) (st : List Symbol) → 0 < k → run (sorts n k t ∷ st) items ≡ run (sorts n (k + 1) (t + 1) ∷ st) (rest x)) × (length (rest x) < length items) × (t < 500)
+    (clean items ≡ sign Bar ∷ con_text (constructor_mark k t) (made x) (clean (rest x)))
+    × ((n : ℕ) (st : List Symbol) → 0 < k
+    → run (sorts n k t ∷ st) items ≡ run (sorts n (k + 1) (t + 1) ∷ st) (rest x))
+    × (length (rest x) < length items) × (t < MAX_CONSTRUCTORS)
 ReadsConstructor k t made rest items (Ok None) = Lacks Bar items
-ReadsConstructor k t made rest items (Err stop) = (n : ℕ) → 0 < k → Stops (sorts n k t ∷ []) items stop
+ReadsConstructor k t made rest items (Err stop) =
+    (n : ℕ) → 0 < k → Stops (sorts n k t ∷ []) items stop
 
 -- all constructors of a sort; no bar follows
-abbrev pub ReadsConstructors : {X : Type 0} → ℕ → (X → List RawNames) → (X → List Item) → List Item → Result X Stop → Type 0
+abbrev pub ReadsConstructors : {X : Type 0} → ℕ → (X → List RawNames) → (X → List Item) → List Item
+    → Result X Stop → Type 0
 ReadsConstructors t made rest items (Ok x) =
-    (0 < length (made x)) × (clean items ≡ begun_text t (made x) (clean (rest x))) × ((n : ℕ) (st : List Symbol) → run (first_constructor n t ++ st) items ≡ run (sorts n (length (made x)) (t + length (made x)) ∷ st) (rest x)) × (length (rest x) ≤ length items) × (t + length (made x) ≤ 500) × Lacks Bar (rest x)
+    let k = length (made x) in
+    (0 < k) × (clean items ≡ begun_text t (made x) (clean (rest x)))
+    × ((n : ℕ) (st : List Symbol)
+    → run (first_constructor n t ++ st) items ≡ run (sorts n k (t + k) ∷ st) (rest x))
+    × (length (rest x) ≤ length items) × (t + k ≤ MAX_CONSTRUCTORS) × Lacks Bar (rest x)
 ReadsConstructors t made rest items (Err stop) = (n : ℕ) → Stops (first_constructor n t) items stop
 
 -- a sort behind its first word
@@ -40,21 +51,32 @@ sort_symbols n t = name None ∷ key Equals ∷ first_constructor n t
 abbrev pub sort_text : ℕ → RawSort → List Marked → List Marked
 sort_text t s v = name_text None s.head (sign Equals ∷ begun_text t s.constructors v)
 
-abbrev pub ReadsSort : {X : Type 0} → ℕ → (X → RawSort) → (X → List Item) → List Item → Result X Stop → Type 0
+abbrev pub ReadsSort : {X : Type 0} → ℕ → (X → RawSort) → (X → List Item) → List Item
+    → Result X Stop → Type 0
 ReadsSort t made rest items (Ok x) =
     let k = length (made x).constructors in
-    (0 < k) × (clean items ≡ sort_text t (made x) (clean (rest x))) × ((n : ℕ) (st : List Symbol) → run (sort_symbols n t ++ st) items ≡ run (sorts n k (t + k) ∷ st) (rest x)) × (length (rest x) ≤ length items) × (t + k ≤ 500) × Lacks Bar (rest x)
+    (0 < k) × (clean items ≡ sort_text t (made x) (clean (rest x)))
+    × ((n : ℕ) (st : List Symbol)
+    → run (sort_symbols n t ++ st) items ≡ run (sorts n k (t + k) ∷ st) (rest x))
+    × (length (rest x) ≤ length items) × (t + k ≤ MAX_CONSTRUCTORS) × Lacks Bar (rest x)
 ReadsSort t made rest items (Err stop) = (n : ℕ) → Stops (sort_symbols n t) items stop
 
 -- one more sort, whatever was read of the last one
-abbrev pub ReadsNextSort : {X : Type 0} → ℕ → ℕ → (X → RawSort) → (X → List Item) → List Item → Result (Option X) Stop → Type 0
+abbrev pub ReadsNextSort : {X : Type 0} → ℕ → ℕ → (X → RawSort) → (X → List Item) → List Item
+    → Result (Option X) Stop → Type 0
 ReadsNextSort n t made rest items (Ok (Some x)) =
     let k = length (made x).constructors in
-    (0 < k) × (clean items ≡ (Sign Sort, sort_mark n) ∷ sort_text t (made x) (clean (rest x))) × ((j : ℕ) (st : List Symbol) → run (sorts n j t ∷ st) items ≡ run (sorts (n + 1) k (t + k) ∷ st) (rest x)) × (length (rest x) < length items) × (t + k ≤ 500) × Lacks Bar (rest x)
+    (0 < k) × (clean items ≡ (Sign Sort, sort_mark n) ∷ sort_text t (made x) (clean (rest x)))
+    × ((j : ℕ) (st : List Symbol)
+    → run (sorts n j t ∷ st) items ≡ run (sorts (n + 1) k (t + k) ∷ st) (rest x))
+    × (length (rest x) < length items) × (t + k ≤ MAX_CONSTRUCTORS) × Lacks Bar (rest x)
 ReadsNextSort n t made rest items (Ok None) = Lacks Sort items
 ReadsNextSort n t made rest items (Err stop) = (j : ℕ) → Stops (sorts n j t ∷ []) items stop
 
-abbrev pub ReadsSorts : {X : Type 0} → (X → List RawSort) → (X → List Item) → List Item → Result X Stop → Type 0
+abbrev pub ReadsSorts : {X : Type 0} → (X → List RawSort) → (X → List Item) → List Item
+    → Result X Stop → Type 0
 ReadsSorts made rest items (Ok x) =
-    AreSorts 0 0 (made x) (clean items) (clean (rest x)) × ((st : List Symbol) → run (sorts 0 0 0 ∷ st) items ≡ run st (rest x)) × (length (rest x) ≤ length items)
+    AreSorts 0 0 (made x) (clean items) (clean (rest x))
+    × ((st : List Symbol) → run (sorts 0 0 0 ∷ st) items ≡ run st (rest x))
+    × (length (rest x) ≤ length items)
 ReadsSorts made rest items (Err stop) = Stops (sorts 0 0 0 ∷ []) items stop

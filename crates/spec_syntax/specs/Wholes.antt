@@ -34,16 +34,20 @@ ReadsEnd items (Ok u) = items ≡ []
 ReadsEnd items (Err stop) = IsStopOf [] items stop
 
 -- all the tokens are a text of what was read, or the symbols stop
-abbrev pub ReadsWhole : {R : Type 0} → (R → List Marked → Type 0) → List Symbol → List Item → Result R Stop → Type 0
+abbrev pub ReadsWhole : {R : Type 0} → (R → List Marked → Type 0) → List Symbol → List Item
+    → Result R Stop → Type 0
 ReadsWhole IsText start items (Ok r) = IsText r (clean items)
 ReadsWhole IsText start items (Err stop) = IsStopOf start items stop
 
 -- the same of the text's bytes, where a fault is told with its place
 abbrev pub StopsAt : List Symbol → List ℕ → ℕ → Option LimitKind → Type 0
 StopsAt start bytes at why =
-    (tokens : List Token) × (left : ℕ) × AreTokens bytes tokens × (run start (items_of bytes tokens) ≡ Some (left, why)) × (at ≡ place_left tokens left (length bytes))
+    (tokens : List Token) × (left : ℕ) × AreTokens bytes tokens
+    × (run start (items_of bytes tokens) ≡ Some (left, why))
+    × (at ≡ place_left tokens left (length bytes))
 
-abbrev pub Settles : {R : Type 0} → (R → List Marked → Type 0) → List Symbol → List ℕ → Result R SyntaxFault → Type 0
+abbrev pub Settles : {R : Type 0} → (R → List Marked → Type 0) → List Symbol → List ℕ
+    → Result R SyntaxFault → Type 0
 Settles IsText start bytes (Ok r) = TextDerives IsText bytes r
 Settles IsText start bytes (Err (Text at)) = IsTextFault bytes at
 Settles IsText start bytes (Err (Syntax at)) = StopsAt start bytes at None

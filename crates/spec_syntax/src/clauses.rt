@@ -9,13 +9,9 @@ ghost use Rattle.spec_syntax.specs.Reading.{Lacks, BeginsPremises, LacksPremises
 
 use crate::stop::Stop;
 use crate::words::{Source, over};
-use spec_grammar::{Key, LimitKind, RawEq};
+use spec_grammar::{Key, LimitKind, MAX_CONCLUSIONS, MAX_PREMISES, RawEq};
 use spec_text::Token;
 use term_core::Seq;
-
-const PREMISES: usize = 8;
-
-const CONCLUSIONS: usize = 4;
 
 /// The two lists of a goal.
 #[derive(Drop)]
@@ -27,7 +23,9 @@ pub(crate) struct Clause {
 impl<'a> Source<'a> {
     /// A clause: premises and conclusions with an arrow between them, or conclusions only.
     pub(crate) fn clause<'t>(&self, tokens: &'t [Token]) -> Result<(Clause, &'t [Token]), Stop>
-        ensures { ReadsClause (λ x. x.0.premises) (λ x. x.0.conclusions) (λ x. items_of self.now.bytes.now x.1.now) (items_of self.now.bytes.now tokens.now) result }
+        ensures { ReadsClause (λ x. x.0.premises) (λ x. x.0.conclusions)
+            (λ x. items_of self.now.bytes.now x.1.now) (items_of self.now.bytes.now tokens.now)
+            result }
     {
         if let Some(next) = self.after_key(tokens, Key::Arrow) {
             let premises = Seq::new(self.alloc);
@@ -65,7 +63,8 @@ impl<'a> Source<'a> {
 
     /// Whether a comma or an arrow comes next.
     fn begins_premises(&self, tokens: &[Token]) -> bool
-        ensures { MatchBool result (BeginsPremises (items_of self.now.bytes.now tokens.now)) (LacksPremises (items_of self.now.bytes.now tokens.now)) }
+        ensures { MatchBool result (BeginsPremises (items_of self.now.bytes.now tokens.now))
+            (LacksPremises (items_of self.now.bytes.now tokens.now)) }
     {
         self.after_key(tokens, Key::Comma).is_some() || self.after_key(tokens, Key::Arrow).is_some()
     }
@@ -76,7 +75,8 @@ impl<'a> Source<'a> {
         first: RawEq,
         tokens: &'t [Token],
     ) -> Result<(Seq<RawEq>, &'t [Token]), Stop>
-        ensures { ReadsPremises first (λ x. x.0) (λ x. items_of self.now.bytes.now x.1.now) (items_of self.now.bytes.now tokens.now) result }
+        ensures { ReadsPremises first (λ x. x.0) (λ x. items_of self.now.bytes.now x.1.now)
+            (items_of self.now.bytes.now tokens.now) result }
     {
         let mut made = Seq::new(self.alloc);
         made.push(first)?;
@@ -93,7 +93,9 @@ impl<'a> Source<'a> {
     #[tactic(auto, unfolding(spec_grammar::specs::Symbols::run))]
     fn expect_arrow<'t>(&self, tokens: &'t [Token], n: usize) -> Result<&'t [Token], Stop>
         requires { Lacks Comma (items_of self.now.bytes.now tokens.now) }
-        ensures { ReadsTo (λ x v. sign Arrow ∷ v) (λ x. items_of self.now.bytes.now x.now) (commas_symbol n ∷ []) (λ x. conclusions_symbol ∷ []) (items_of self.now.bytes.now tokens.now) result }
+        ensures { ReadsTo (λ x v. sign Arrow ∷ v) (λ x. items_of self.now.bytes.now x.now)
+            (commas_symbol n ∷ []) (λ x. conclusions_symbol ∷ [])
+            (items_of self.now.bytes.now tokens.now) result }
     {
         self.expect(tokens, Key::Arrow)
     }
@@ -105,19 +107,22 @@ impl<'a> Source<'a> {
         tokens: &'t [Token],
         n: usize,
     ) -> Result<Option<(RawEq, &'t [Token])>, Stop>
-        ensures { ReadsItem (λ x v. sign Comma ∷ sides_text (premise_mark n) x.0.left x.0.right v) (λ x. items_of self.now.bytes.now x.1.now) (commas_symbol n) (commas_symbol (n + 1)) (Lacks Comma) (items_of self.now.bytes.now tokens.now) result }
+        ensures { ReadsItem (λ x v. sign Comma ∷ sides_text (premise_mark n) x.0.left x.0.right v)
+            (λ x. items_of self.now.bytes.now x.1.now) (commas_symbol n) (commas_symbol (n + 1))
+            (Lacks Comma) (items_of self.now.bytes.now tokens.now) result }
     {
         let Some(next) = self.after_key(tokens, Key::Comma) else {
             return Ok(None);
         };
-        let (premise, rest) = self.equation(next, over(n, PREMISES, LimitKind::Premises))?;
+        let (premise, rest) = self.equation(next, over(n, MAX_PREMISES, LimitKind::Premises))?;
         Ok(Some((premise, rest)))
     }
 
     /// The conclusions behind an arrow, if there are any.
     #[tactic(auto, unfolding(spec_grammar::specs::Symbols::run))]
     fn conclusions<'t>(&self, tokens: &'t [Token]) -> Result<(Seq<RawEq>, &'t [Token]), Stop>
-        ensures { Reads (λ x. conclusions_text x.0) (λ x. items_of self.now.bytes.now x.1.now) (conclusions_symbol ∷ []) (items_of self.now.bytes.now tokens.now) result }
+        ensures { Reads (λ x. conclusions_text x.0) (λ x. items_of self.now.bytes.now x.1.now)
+            (conclusions_symbol ∷ []) (items_of self.now.bytes.now tokens.now) result }
     {
         if !self.begins_word(tokens) {
             return Ok((Seq::new(self.alloc), tokens));
@@ -132,7 +137,8 @@ impl<'a> Source<'a> {
         first: RawEq,
         tokens: &'t [Token],
     ) -> Result<(Seq<RawEq>, &'t [Token]), Stop>
-        ensures { ReadsBars first (λ x. x.0) (λ x. items_of self.now.bytes.now x.1.now) (items_of self.now.bytes.now tokens.now) result }
+        ensures { ReadsBars first (λ x. x.0) (λ x. items_of self.now.bytes.now x.1.now)
+            (items_of self.now.bytes.now tokens.now) result }
     {
         let mut made = Seq::new(self.alloc);
         made.push(first)?;
@@ -151,12 +157,15 @@ impl<'a> Source<'a> {
         tokens: &'t [Token],
         n: usize,
     ) -> Result<Option<(RawEq, &'t [Token])>, Stop>
-        ensures { ReadsNext (λ x v. sign Bar ∷ sides_text (conclusion_mark n) x.0.left x.0.right v) (λ x. items_of self.now.bytes.now x.1.now) (bars_symbol n) (bars_symbol (n + 1)) (items_of self.now.bytes.now tokens.now) result }
+        ensures { ReadsNext (λ x v. sign Bar ∷ sides_text (conclusion_mark n) x.0.left x.0.right v)
+            (λ x. items_of self.now.bytes.now x.1.now) (bars_symbol n) (bars_symbol (n + 1))
+            (items_of self.now.bytes.now tokens.now) result }
     {
         let Some(next) = self.after_key(tokens, Key::Bar) else {
             return Ok(None);
         };
-        let (conclusion, rest) = self.equation(next, over(n, CONCLUSIONS, LimitKind::Conclusions))?;
+        let over = over(n, MAX_CONCLUSIONS, LimitKind::Conclusions);
+        let (conclusion, rest) = self.equation(next, over)?;
         Ok(Some((conclusion, rest)))
     }
 }

@@ -8,30 +8,25 @@ ghost use Rattle.spec_syntax.specs.Reading.{Reads, ReadsNext};
 
 use crate::stop::Stop;
 use crate::words::{Source, over};
-use spec_grammar::{Key, LimitKind, RawFun, RawGuard, RawName, RawNames, RawRule};
+use spec_grammar::{
+    Key, LimitKind, MAX_ARGUMENTS, MAX_FUNCTIONS, MAX_GUARDS, MAX_RULES, RawFun, RawGuard, RawName,
+    RawNames, RawRule,
+};
 use spec_text::Token;
 use term_core::Seq;
-
-/// The most names in parentheses.
-const ARGUMENTS: usize = 8;
-
-const FUNCTIONS: usize = 500;
-
-const RULES: usize = 1000;
-
-const GUARDS: usize = 8;
 
 impl<'a> Source<'a> {
     /// The names in parentheses, if there are any.
     #[tactic(auto, unfolding(spec_grammar::specs::Symbols::run))]
     fn names<'t>(&self, tokens: &'t [Token]) -> Result<(Seq<RawName>, &'t [Token]), Stop>
-        ensures { Reads (λ x. names_text x.0) (λ x. items_of self.now.bytes.now x.1.now) (names_symbol ∷ []) (items_of self.now.bytes.now tokens.now) result }
+        ensures { Reads (λ x. names_text x.0) (λ x. items_of self.now.bytes.now x.1.now)
+            (names_symbol ∷ []) (items_of self.now.bytes.now tokens.now) result }
     {
         let mut made = Seq::new(self.alloc);
         let Some(opened) = self.after_key(tokens, Key::LeftPar) else {
             return Ok((made, tokens));
         };
-        let (first, mut rest) = self.name(opened, over(0, ARGUMENTS, LimitKind::Arity))?;
+        let (first, mut rest) = self.name(opened, over(0, MAX_ARGUMENTS, LimitKind::Arity))?;
         made.push(first)?;
         while let Some((name, after)) = self.next_name(rest, made.len())? {
             made.push(name)?;
@@ -48,12 +43,14 @@ impl<'a> Source<'a> {
         tokens: &'t [Token],
         n: usize,
     ) -> Result<Option<(RawName, &'t [Token])>, Stop>
-        ensures { ReadsNext (λ x v. sign Comma ∷ name_text (arity_mark n) x.0 v) (λ x. items_of self.now.bytes.now x.1.now) (more_names_symbol n) (more_names_symbol (n + 1)) (items_of self.now.bytes.now tokens.now) result }
+        ensures { ReadsNext (λ x v. sign Comma ∷ name_text (arity_mark n) x.0 v)
+            (λ x. items_of self.now.bytes.now x.1.now) (more_names_symbol n)
+            (more_names_symbol (n + 1)) (items_of self.now.bytes.now tokens.now) result }
     {
         let Some(next) = self.after_key(tokens, Key::Comma) else {
             return Ok(None);
         };
-        let (name, rest) = self.name(next, over(n, ARGUMENTS, LimitKind::Arity))?;
+        let (name, rest) = self.name(next, over(n, MAX_ARGUMENTS, LimitKind::Arity))?;
         Ok(Some((name, rest)))
     }
 
@@ -63,7 +60,8 @@ impl<'a> Source<'a> {
         tokens: &'t [Token],
         over: Option<LimitKind>,
     ) -> Result<(RawNames, &'t [Token]), Stop>
-        ensures reads { Reads (λ x. con_text over x.0) (λ x. items_of self.now.bytes.now x.1.now) (name_symbol over ∷ names_symbol ∷ []) (items_of self.now.bytes.now tokens.now) result }
+        ensures reads { Reads (λ x. con_text over x.0) (λ x. items_of self.now.bytes.now x.1.now)
+            (name_symbol over ∷ names_symbol ∷ []) (items_of self.now.bytes.now tokens.now) result }
         ensures within { OnOk result (over ≡ None) }
     {
         let (RawName { name, at }, rest) = self.name(tokens, over)?;
@@ -77,7 +75,8 @@ impl<'a> Source<'a> {
         &self,
         tokens: &'t [Token],
     ) -> Result<(Seq<RawFun>, &'t [Token]), Stop>
-        ensures { Reads (λ x. funs_text 0 x.0) (λ x. items_of self.now.bytes.now x.1.now) (funs_symbol 0 ∷ []) (items_of self.now.bytes.now tokens.now) result }
+        ensures { Reads (λ x. funs_text 0 x.0) (λ x. items_of self.now.bytes.now x.1.now)
+            (funs_symbol 0 ∷ []) (items_of self.now.bytes.now tokens.now) result }
     {
         let mut made = Seq::new(self.alloc);
         let mut rest = tokens;
@@ -95,19 +94,26 @@ impl<'a> Source<'a> {
         tokens: &'t [Token],
         n: usize,
     ) -> Result<Option<(RawFun, &'t [Token])>, Stop>
-        ensures { ReadsNext (λ x v. (Sign Fun, fun_mark n) ∷ con_text None x.0.head (sign Colon ∷ name_text None x.0.result v)) (λ x. items_of self.now.bytes.now x.1.now) (funs_symbol n) (funs_symbol (n + 1)) (items_of self.now.bytes.now tokens.now) result }
+        ensures { ReadsNext
+            (λ x v. (Sign Fun, fun_mark n)
+            ∷ con_text None x.0.head (sign Colon ∷ name_text None x.0.result v))
+            (λ x. items_of self.now.bytes.now x.1.now)
+            (funs_symbol n) (funs_symbol (n + 1)) (items_of self.now.bytes.now tokens.now) result }
     {
         let Some(next) = self.after_key(tokens, Key::Fun) else {
             return Ok(None);
         };
-        self.within(tokens, over(n, FUNCTIONS, LimitKind::Functions))?;
+        self.within(tokens, over(n, MAX_FUNCTIONS, LimitKind::Functions))?;
         let (function, rest) = self.function(next)?;
         Ok(Some((function, rest)))
     }
 
     /// A function behind its first word.
     fn function<'t>(&self, tokens: &'t [Token]) -> Result<(RawFun, &'t [Token]), Stop>
-        ensures { Reads (λ x v. con_text None x.0.head (sign Colon ∷ name_text None x.0.result v)) (λ x. items_of self.now.bytes.now x.1.now) (name_symbol None ∷ names_symbol ∷ key_symbol Colon ∷ name_symbol None ∷ []) (items_of self.now.bytes.now tokens.now) result }
+        ensures { Reads (λ x v. con_text None x.0.head (sign Colon ∷ name_text None x.0.result v))
+            (λ x. items_of self.now.bytes.now x.1.now)
+            (name_symbol None ∷ names_symbol ∷ key_symbol Colon ∷ name_symbol None ∷ [])
+            (items_of self.now.bytes.now tokens.now) result }
     {
         let (head, rest) = self.head(tokens, None)?;
         let rest = self.expect(rest, Key::Colon)?;
@@ -124,7 +130,8 @@ impl<'a> Source<'a> {
     /// The rules.
     #[tactic(auto, unfolding(spec_grammar::specs::Symbols::run))]
     pub(crate) fn rules<'t>(&self, tokens: &'t [Token]) -> Result<(Seq<RawRule>, &'t [Token]), Stop>
-        ensures { Reads (λ x. rules_text 0 x.0) (λ x. items_of self.now.bytes.now x.1.now) (rules_symbol 0 ∷ []) (items_of self.now.bytes.now tokens.now) result }
+        ensures { Reads (λ x. rules_text 0 x.0) (λ x. items_of self.now.bytes.now x.1.now)
+            (rules_symbol 0 ∷ []) (items_of self.now.bytes.now tokens.now) result }
     {
         let mut made = Seq::new(self.alloc);
         let mut rest = tokens;
@@ -142,19 +149,25 @@ impl<'a> Source<'a> {
         tokens: &'t [Token],
         n: usize,
     ) -> Result<Option<(RawRule, &'t [Token])>, Stop>
-        ensures { ReadsNext (λ x v. (Sign Rule, rule_mark n) ∷ sides_text None x.0.left x.0.right (guards_text 0 x.0.guards v)) (λ x. items_of self.now.bytes.now x.1.now) (rules_symbol n) (rules_symbol (n + 1)) (items_of self.now.bytes.now tokens.now) result }
+        ensures { ReadsNext
+            (λ x v. (Sign Rule, rule_mark n)
+            ∷ sides_text None x.0.left x.0.right (guards_text 0 x.0.guards v))
+            (λ x. items_of self.now.bytes.now x.1.now) (rules_symbol n) (rules_symbol (n + 1))
+            (items_of self.now.bytes.now tokens.now) result }
     {
         let Some(next) = self.after_key(tokens, Key::Rule) else {
             return Ok(None);
         };
-        self.within(tokens, over(n, RULES, LimitKind::Rules))?;
+        self.within(tokens, over(n, MAX_RULES, LimitKind::Rules))?;
         let (rule, rest) = self.rule(next)?;
         Ok(Some((rule, rest)))
     }
 
     /// A rule behind its first word.
     fn rule<'t>(&self, tokens: &'t [Token]) -> Result<(RawRule, &'t [Token]), Stop>
-        ensures { Reads (λ x v. sides_text None x.0.left x.0.right (guards_text 0 x.0.guards v)) (λ x. items_of self.now.bytes.now x.1.now) (sides_then None (guards_symbol 0 ∷ [])) (items_of self.now.bytes.now tokens.now) result }
+        ensures { Reads (λ x v. sides_text None x.0.left x.0.right (guards_text 0 x.0.guards v))
+            (λ x. items_of self.now.bytes.now x.1.now) (sides_then None (guards_symbol 0 ∷ []))
+            (items_of self.now.bytes.now tokens.now) result }
     {
         let (sides, rest) = self.equation(tokens, None)?;
         let (guards, rest) = self.guards(rest)?;
@@ -169,7 +182,8 @@ impl<'a> Source<'a> {
     /// The guards of a rule.
     #[tactic(auto, unfolding(spec_grammar::specs::Symbols::run))]
     fn guards<'t>(&self, tokens: &'t [Token]) -> Result<(Seq<RawGuard>, &'t [Token]), Stop>
-        ensures { Reads (λ x. guards_text 0 x.0) (λ x. items_of self.now.bytes.now x.1.now) (guards_symbol 0 ∷ []) (items_of self.now.bytes.now tokens.now) result }
+        ensures { Reads (λ x. guards_text 0 x.0) (λ x. items_of self.now.bytes.now x.1.now)
+            (guards_symbol 0 ∷ []) (items_of self.now.bytes.now tokens.now) result }
     {
         let mut made = Seq::new(self.alloc);
         let mut rest = tokens;
@@ -187,15 +201,18 @@ impl<'a> Source<'a> {
         tokens: &'t [Token],
         n: usize,
     ) -> Result<Option<(RawGuard, &'t [Token])>, Stop>
-        ensures { ReadsNext (λ x v. (Sign (guard_key x.0.wanted), guard_mark n) ∷ term_text 0 None x.0.test v) (λ x. items_of self.now.bytes.now x.1.now) (guards_symbol n) (guards_symbol (n + 1)) (items_of self.now.bytes.now tokens.now) result }
+        ensures { ReadsNext
+            (λ x v. (Sign (guard_key x.0.wanted), guard_mark n) ∷ term_text 0 None x.0.test v)
+            (λ x. items_of self.now.bytes.now x.1.now) (guards_symbol n) (guards_symbol (n + 1))
+            (items_of self.now.bytes.now tokens.now) result }
     {
         if let Some(next) = self.after_key(tokens, Key::If) {
-            self.within(tokens, over(n, GUARDS, LimitKind::Guards))?;
+            self.within(tokens, over(n, MAX_GUARDS, LimitKind::Guards))?;
             let (test, rest) = self.term(next, 0, None)?;
             return Ok(Some((RawGuard { test, wanted: true }, rest)));
         }
         if let Some(next) = self.after_key(tokens, Key::Unless) {
-            self.within(tokens, over(n, GUARDS, LimitKind::Guards))?;
+            self.within(tokens, over(n, MAX_GUARDS, LimitKind::Guards))?;
             let (test, rest) = self.term(next, 0, None)?;
             return Ok(Some((
                 RawGuard {

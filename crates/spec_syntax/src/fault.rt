@@ -3,6 +3,8 @@ ghost use Rattle.spec_syntax.specs.Scanned.{fault_of_scan};
 
 use spec_grammar::LimitKind;
 use spec_text::ScanError;
+use std::error::Error;
+use std::fmt;
 
 /// Why a text isn't read. Places are in bytes from 0.
 #[derive(Clone, Copy, Debug, PartialEq, Eq)]
@@ -15,6 +17,24 @@ pub enum SyntaxFault {
     Limit { at: usize, what: LimitKind },
     OutOfMemory,
 }
+
+impl fmt::Display for SyntaxFault {
+    ghost use Rattle.std.specs.Prelude.{Some};
+    ghost use Rattle.spec_syntax.specs.Faults.{fault_text};
+
+    ghost output = { λ fault. Some (fault_text fault) };
+
+    fn fmt<W: fmt::Write>(&self, f: &mut fmt::Formatter<W>) -> fmt::Result {
+        match self {
+            SyntaxFault::Text { at } => write!(f, "text at {at}"),
+            SyntaxFault::Syntax { at } => write!(f, "syntax at {at}"),
+            SyntaxFault::Limit { at, what } => write!(f, "limit at {at}: {what}"),
+            SyntaxFault::OutOfMemory => f.write_str("out of memory"),
+        }
+    }
+}
+
+impl Error for SyntaxFault {}
 
 impl From<ScanError> for SyntaxFault {
     ghost from_gives = { λ error fault. fault ≡ fault_of_scan error };

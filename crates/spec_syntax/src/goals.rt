@@ -9,19 +9,15 @@ ghost use Rattle.spec_syntax.specs.Reading.{Reads, ReadsNext, ReadsGoal, ReadsNe
 use crate::clauses::Clause;
 use crate::stop::Stop;
 use crate::words::{Source, over};
-use spec_grammar::{Key, LimitKind, RawBind, RawGoal};
+use spec_grammar::{Key, LimitKind, MAX_GOALS, MAX_VARIABLES, RawBind, RawGoal};
 use spec_text::Token;
 use term_core::Seq;
-
-const GOALS: usize = 200;
-
-/// The most bindings of a goal.
-const VARIABLES: usize = 16;
 
 impl<'a> Source<'a> {
     /// The goals.
     pub(crate) fn goals<'t>(&self, tokens: &'t [Token]) -> Result<(Seq<RawGoal>, &'t [Token]), Stop>
-        ensures { ReadsGoals (λ x. x.0) (λ x. items_of self.now.bytes.now x.1.now) (items_of self.now.bytes.now tokens.now) result }
+        ensures { ReadsGoals (λ x. x.0) (λ x. items_of self.now.bytes.now x.1.now)
+            (items_of self.now.bytes.now tokens.now) result }
     {
         let mut made = Seq::new(self.alloc);
         let mut rest = tokens;
@@ -39,19 +35,21 @@ impl<'a> Source<'a> {
         tokens: &'t [Token],
         n: usize,
     ) -> Result<Option<(RawGoal, &'t [Token])>, Stop>
-        ensures { ReadsNextGoal n (λ x. x.0) (λ x. items_of self.now.bytes.now x.1.now) (items_of self.now.bytes.now tokens.now) result }
+        ensures { ReadsNextGoal n (λ x. x.0) (λ x. items_of self.now.bytes.now x.1.now)
+            (items_of self.now.bytes.now tokens.now) result }
     {
         let Some(next) = self.after_key(tokens, Key::Goal) else {
             return Ok(None);
         };
-        self.within(tokens, over(n, GOALS, LimitKind::Goals))?;
+        self.within(tokens, over(n, MAX_GOALS, LimitKind::Goals))?;
         let (goal, rest) = self.goal(next)?;
         Ok(Some((goal, rest)))
     }
 
     /// A goal behind its first word.
     fn goal<'t>(&self, tokens: &'t [Token]) -> Result<(RawGoal, &'t [Token]), Stop>
-        ensures { ReadsGoal (λ x. x.0) (λ x. items_of self.now.bytes.now x.1.now) (items_of self.now.bytes.now tokens.now) result }
+        ensures { ReadsGoal (λ x. x.0) (λ x. items_of self.now.bytes.now x.1.now)
+            (items_of self.now.bytes.now tokens.now) result }
     {
         let (head, rest) = self.name(tokens, None)?;
         let (binds, rest) = self.binds(rest)?;
@@ -73,13 +71,14 @@ impl<'a> Source<'a> {
     /// The bindings in parentheses, if there are any.
     #[tactic(auto, unfolding(spec_grammar::specs::Symbols::run))]
     fn binds<'t>(&self, tokens: &'t [Token]) -> Result<(Seq<RawBind>, &'t [Token]), Stop>
-        ensures { Reads (λ x. binds_text x.0) (λ x. items_of self.now.bytes.now x.1.now) (binds_symbol ∷ []) (items_of self.now.bytes.now tokens.now) result }
+        ensures { Reads (λ x. binds_text x.0) (λ x. items_of self.now.bytes.now x.1.now)
+            (binds_symbol ∷ []) (items_of self.now.bytes.now tokens.now) result }
     {
         let mut made = Seq::new(self.alloc);
         let Some(opened) = self.after_key(tokens, Key::LeftPar) else {
             return Ok((made, tokens));
         };
-        let (first, mut rest) = self.bind(opened, over(0, VARIABLES, LimitKind::Variables))?;
+        let (first, mut rest) = self.bind(opened, over(0, MAX_VARIABLES, LimitKind::Variables))?;
         made.push(first)?;
         while let Some((bind, after)) = self.next_bind(rest, made.len())? {
             made.push(bind)?;
@@ -96,12 +95,14 @@ impl<'a> Source<'a> {
         tokens: &'t [Token],
         n: usize,
     ) -> Result<Option<(RawBind, &'t [Token])>, Stop>
-        ensures { ReadsNext (λ x v. sign Comma ∷ bind_text (variable_mark n) x.0 v) (λ x. items_of self.now.bytes.now x.1.now) (more_binds_symbol n) (more_binds_symbol (n + 1)) (items_of self.now.bytes.now tokens.now) result }
+        ensures { ReadsNext (λ x v. sign Comma ∷ bind_text (variable_mark n) x.0 v)
+            (λ x. items_of self.now.bytes.now x.1.now) (more_binds_symbol n)
+            (more_binds_symbol (n + 1)) (items_of self.now.bytes.now tokens.now) result }
     {
         let Some(next) = self.after_key(tokens, Key::Comma) else {
             return Ok(None);
         };
-        let (bind, rest) = self.bind(next, over(n, VARIABLES, LimitKind::Variables))?;
+        let (bind, rest) = self.bind(next, over(n, MAX_VARIABLES, LimitKind::Variables))?;
         Ok(Some((bind, rest)))
     }
 
@@ -111,7 +112,8 @@ impl<'a> Source<'a> {
         tokens: &'t [Token],
         over: Option<LimitKind>,
     ) -> Result<(RawBind, &'t [Token]), Stop>
-        ensures { Reads (λ x. bind_text over x.0) (λ x. items_of self.now.bytes.now x.1.now) (bind_then over []) (items_of self.now.bytes.now tokens.now) result }
+        ensures { Reads (λ x. bind_text over x.0) (λ x. items_of self.now.bytes.now x.1.now)
+            (bind_then over []) (items_of self.now.bytes.now tokens.now) result }
     {
         let (name, rest) = self.name(tokens, over)?;
         let rest = self.expect(rest, Key::Colon)?;

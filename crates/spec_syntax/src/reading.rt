@@ -6,7 +6,7 @@ ghost use Rattle.spec_grammar.specs.RawTree.{RawTree};
 ghost use Rattle.spec_grammar.specs.Sizes.{words, HasFewWords};
 ghost use Rattle.spec_grammar.specs.Symbols.{spec_symbols, term_symbols};
 ghost use Rattle.spec_grammar.specs.declared.raw.RawSpec.{RawSpec};
-ghost use Rattle.spec_syntax.specs.Faults.{IsAnswer, IsRefusal, HasFault, TellsFault};
+ghost use Rattle.spec_syntax.specs.Faults.{IsAnswer, IsSyntaxFault, HasFault, TellsFault};
 ghost use Rattle.spec_syntax.specs.Wholes.{ReadsWhole, ReadsEnd, Settles, place_left, fault_of_stop};
 ghost use Rattle.spec_syntax.specs.declared.fault.SyntaxFault.{SyntaxFault};
 
@@ -25,7 +25,8 @@ pub fn read(alloc: Global, bytes: &[u8]) -> Result<RawSpec, SyntaxFault>
     ensures derived { IfOk result (TextDerives IsSpecText bytes.now) }
     ensures only { (raw : RawSpec) → TextDerives IsSpecText bytes.now raw → IsAnswer raw result }
     ensures fault { IfErr result (TellsFault IsSpecText bytes.now) }
-    ensures exact { (fault : SyntaxFault) → HasFault IsSpecText bytes.now fault → IsRefusal fault result }
+    ensures exact { (fault : SyntaxFault) → HasFault IsSpecText bytes.now fault
+        → IsSyntaxFault fault result }
     ensures few_words { IfOk result (HasFewWords (length bytes.now)) }
 {
     read_spec(alloc, bytes)
@@ -37,7 +38,8 @@ pub fn read_term(alloc: Global, bytes: &[u8]) -> Result<RawTerm, SyntaxFault>
     ensures derived { IfOk result (TextDerives IsTermText bytes.now) }
     ensures only { (term : RawTree) → TextDerives IsTermText bytes.now term → IsAnswer term result }
     ensures fault { IfErr result (TellsFault IsTermText bytes.now) }
-    ensures exact { (fault : SyntaxFault) → HasFault IsTermText bytes.now fault → IsRefusal fault result }
+    ensures exact { (fault : SyntaxFault) → HasFault IsTermText bytes.now fault
+        → IsSyntaxFault fault result }
     ensures few_words { IfOk result (λ term. words term ≤ length bytes.now) }
 {
     read_one_term(alloc, bytes)
@@ -68,7 +70,8 @@ fn read_one_term(alloc: Global, bytes: &[u8]) -> Result<RawTerm, SyntaxFault>
 impl<'a> Source<'a> {
     /// The specification of all the tokens.
     fn spec(&self, tokens: &[Token]) -> Result<RawSpec, Stop>
-        ensures { ReadsWhole IsSpecText spec_symbols (items_of self.now.bytes.now tokens.now) result }
+        ensures { ReadsWhole IsSpecText spec_symbols (items_of self.now.bytes.now tokens.now)
+            result }
     {
         let rest = self.expect(tokens, Key::Spike)?;
         let rest = self.expect(rest, Key::One)?;
@@ -87,7 +90,8 @@ impl<'a> Source<'a> {
 
     /// The term of all the tokens.
     fn whole_term(&self, tokens: &[Token]) -> Result<RawTerm, Stop>
-        ensures { ReadsWhole IsTermText term_symbols (items_of self.now.bytes.now tokens.now) result }
+        ensures { ReadsWhole IsTermText term_symbols (items_of self.now.bytes.now tokens.now)
+            result }
     {
         let (term, rest) = self.term(tokens, 0, None)?;
         self.expect_end(rest)?;

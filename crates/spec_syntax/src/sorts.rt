@@ -9,31 +9,27 @@ ghost use Rattle.spec_syntax.specs.ReadingSorts.{ReadsConstructor, ReadsConstruc
 
 use crate::stop::Stop;
 use crate::words::{Source, over};
-use spec_grammar::{Key, LimitKind, RawNames, RawSort};
+use spec_grammar::{
+    Key, LimitKind, MAX_CONSTRUCTORS, MAX_SORT_CONSTRUCTORS, MAX_SORTS, RawNames, RawSort,
+};
 use spec_text::Token;
 use term_core::Seq;
-
-const SORTS: usize = 200;
-
-/// The most constructors of one sort, and of all sorts.
-const CONSTRUCTORS_OF_ONE: usize = 64;
-
-const CONSTRUCTORS: usize = 500;
 
 /// The limit that a constructor passes with `k` before it in its sort and `total` before it in all.
 fn constructor_over(k: usize, total: usize) -> Option<LimitKind>
     ensures { result ≡ constructor_mark k total }
 {
-    match over(k, CONSTRUCTORS_OF_ONE, LimitKind::Constructors) {
+    match over(k, MAX_SORT_CONSTRUCTORS, LimitKind::Constructors) {
         Some(why) => Some(why),
-        None => over(total, CONSTRUCTORS, LimitKind::Constructors),
+        None => over(total, MAX_CONSTRUCTORS, LimitKind::Constructors),
     }
 }
 
 impl<'a> Source<'a> {
     /// The sorts.
     pub(crate) fn sorts<'t>(&self, tokens: &'t [Token]) -> Result<(Seq<RawSort>, &'t [Token]), Stop>
-        ensures { ReadsSorts (λ x. x.0) (λ x. items_of self.now.bytes.now x.1.now) (items_of self.now.bytes.now tokens.now) result }
+        ensures { ReadsSorts (λ x. x.0) (λ x. items_of self.now.bytes.now x.1.now)
+            (items_of self.now.bytes.now tokens.now) result }
     {
         let mut made = Seq::new(self.alloc);
         let mut total = 0;
@@ -54,21 +50,23 @@ impl<'a> Source<'a> {
         n: usize,
         total: usize,
     ) -> Result<Option<(RawSort, &'t [Token])>, Stop>
-        requires { total ≤ 500 }
-        ensures { ReadsNextSort n total (λ x. x.0) (λ x. items_of self.now.bytes.now x.1.now) (items_of self.now.bytes.now tokens.now) result }
+        requires { total ≤ MAX_CONSTRUCTORS }
+        ensures { ReadsNextSort n total (λ x. x.0) (λ x. items_of self.now.bytes.now x.1.now)
+            (items_of self.now.bytes.now tokens.now) result }
     {
         let Some(next) = self.after_key(tokens, Key::Sort) else {
             return Ok(None);
         };
-        self.within(tokens, over(n, SORTS, LimitKind::Sorts))?;
+        self.within(tokens, over(n, MAX_SORTS, LimitKind::Sorts))?;
         let (sort, rest) = self.sort(next, total)?;
         Ok(Some((sort, rest)))
     }
 
     /// A sort behind its first word, with `total` constructors before it.
     fn sort<'t>(&self, tokens: &'t [Token], total: usize) -> Result<(RawSort, &'t [Token]), Stop>
-        requires { total ≤ 500 }
-        ensures { ReadsSort total (λ x. x.0) (λ x. items_of self.now.bytes.now x.1.now) (items_of self.now.bytes.now tokens.now) result }
+        requires { total ≤ MAX_CONSTRUCTORS }
+        ensures { ReadsSort total (λ x. x.0) (λ x. items_of self.now.bytes.now x.1.now)
+            (items_of self.now.bytes.now tokens.now) result }
     {
         let (head, rest) = self.name(tokens, None)?;
         let rest = self.expect(rest, Key::Equals)?;
@@ -82,8 +80,9 @@ impl<'a> Source<'a> {
         tokens: &'t [Token],
         total: usize,
     ) -> Result<(Seq<RawNames>, &'t [Token]), Stop>
-        requires { total ≤ 500 }
-        ensures { ReadsConstructors total (λ x. x.0) (λ x. items_of self.now.bytes.now x.1.now) (items_of self.now.bytes.now tokens.now) result }
+        requires { total ≤ MAX_CONSTRUCTORS }
+        ensures { ReadsConstructors total (λ x. x.0) (λ x. items_of self.now.bytes.now x.1.now)
+            (items_of self.now.bytes.now tokens.now) result }
     {
         let mut made = Seq::new(self.alloc);
         let (first, mut rest) = self.head(tokens, constructor_over(0, total))?;
@@ -103,8 +102,10 @@ impl<'a> Source<'a> {
         k: usize,
         total: usize,
     ) -> Result<Option<(RawNames, &'t [Token])>, Stop>
-        requires { k + total ≤ 500 }
-        ensures { ReadsConstructor k (total + k) (λ x. x.0) (λ x. items_of self.now.bytes.now x.1.now) (items_of self.now.bytes.now tokens.now) result }
+        requires { k + total ≤ MAX_CONSTRUCTORS }
+        ensures { ReadsConstructor k (total + k) (λ x. x.0)
+            (λ x. items_of self.now.bytes.now x.1.now) (items_of self.now.bytes.now tokens.now)
+            result }
     {
         let Some(next) = self.after_key(tokens, Key::Bar) else {
             return Ok(None);

@@ -9,22 +9,16 @@ ghost use Rattle.spec_syntax.specs.Reading.{Reads, ReadsNext};
 
 use crate::stop::Stop;
 use crate::words::{Source, over};
-use spec_grammar::{Key, LimitKind, RawEq, RawTerm, RawTerms};
+use spec_grammar::{Key, LimitKind, MAX_ARGUMENTS, MAX_DEPTH, RawEq, RawTerm, RawTerms};
 use spec_text::Token;
-
-/// The most arguments of a word.
-const ARGUMENTS: usize = 8;
-
-/// The most words above a word of a term.
-const WORDS_ABOVE: usize = 64;
 
 /// The limit that an argument passes, by its number from 0 and the number of words above it.
 fn argument_over(depth: usize, n: usize) -> Option<LimitKind>
     ensures { result ≡ term_mark depth n }
 {
-    match over(n, ARGUMENTS, LimitKind::Arity) {
+    match over(n, MAX_ARGUMENTS, LimitKind::Arity) {
         Some(why) => Some(why),
-        None => over(depth, WORDS_ABOVE, LimitKind::Nesting),
+        None => over(depth, MAX_DEPTH, LimitKind::Nesting),
     }
 }
 
@@ -37,8 +31,9 @@ impl<'a> Source<'a> {
         depth: usize,
         over: Option<LimitKind>,
     ) -> Result<(RawTerm, &'t [Token]), Stop>
-        requires { over ≡ None → depth < 64 }
-        ensures { Reads (λ x. term_text depth over x.0) (λ x. items_of self.now.bytes.now x.1.now) (term_then depth over []) (items_of self.now.bytes.now tokens.now) result }
+        requires { over ≡ None → depth < MAX_DEPTH }
+        ensures { Reads (λ x. term_text depth over x.0) (λ x. items_of self.now.bytes.now x.1.now)
+            (term_then depth over []) (items_of self.now.bytes.now tokens.now) result }
     {
         let (word, rest) = self.name(tokens, over)?;
         let (args, rest) = self.args(rest, depth)?;
@@ -49,8 +44,10 @@ impl<'a> Source<'a> {
     #[cycle(term)]
     #[tactic(auto, unfolding(spec_grammar::specs::Symbols::run))]
     fn args<'t>(&self, tokens: &'t [Token], depth: usize) -> Result<(RawTerms, &'t [Token]), Stop>
-        requires { depth < 64 }
-        ensures { Reads (λ x. args_text depth (raw_trees x.0)) (λ x. items_of self.now.bytes.now x.1.now) (args_symbol depth ∷ []) (items_of self.now.bytes.now tokens.now) result }
+        requires { depth < MAX_DEPTH }
+        ensures { Reads (λ x. args_text depth (raw_trees x.0))
+            (λ x. items_of self.now.bytes.now x.1.now) (args_symbol depth ∷ [])
+            (items_of self.now.bytes.now tokens.now) result }
     {
         let mut made = RawTerms::new(self.alloc);
         let Some(opened) = self.after_key(tokens, Key::LeftPar) else {
@@ -75,8 +72,10 @@ impl<'a> Source<'a> {
         depth: usize,
         n: usize,
     ) -> Result<Option<(RawTerm, &'t [Token])>, Stop>
-        requires { depth ≤ 64 }
-        ensures { ReadsNext (λ x v. sign Comma ∷ term_text depth (term_mark depth n) x.0 v) (λ x. items_of self.now.bytes.now x.1.now) (more_symbol depth n) (more_symbol depth (n + 1)) (items_of self.now.bytes.now tokens.now) result }
+        requires { depth ≤ MAX_DEPTH }
+        ensures { ReadsNext (λ x v. sign Comma ∷ term_text depth (term_mark depth n) x.0 v)
+            (λ x. items_of self.now.bytes.now x.1.now) (more_symbol depth n)
+            (more_symbol depth (n + 1)) (items_of self.now.bytes.now tokens.now) result }
     {
         let Some(next) = self.after_key(tokens, Key::Comma) else {
             return Ok(None);
@@ -91,7 +90,9 @@ impl<'a> Source<'a> {
         tokens: &'t [Token],
         over: Option<LimitKind>,
     ) -> Result<(RawEq, &'t [Token]), Stop>
-        ensures { Reads (λ x. sides_text over x.0.left x.0.right) (λ x. items_of self.now.bytes.now x.1.now) (sides_then over []) (items_of self.now.bytes.now tokens.now) result }
+        ensures { Reads (λ x. sides_text over x.0.left x.0.right)
+            (λ x. items_of self.now.bytes.now x.1.now) (sides_then over [])
+            (items_of self.now.bytes.now tokens.now) result }
     {
         let (left, rest) = self.term(tokens, 0, over)?;
         let rest = self.expect(rest, Key::Equals)?;

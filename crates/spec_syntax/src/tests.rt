@@ -10,9 +10,9 @@ fn repeated(alloc: Global, text: &str, count: usize) -> Result<String, AllocErro
     Ok(all)
 }
 
-/// Each limit: what stands before a repeated text, the text, what stands behind it, how often it may
-/// stand, and the place of the first item too many. A place is the bytes before the repeated text,
-/// those of the repeats before the last one, and those before the item in it.
+/// Each limit: what stands before a repeated text, the text, what stands behind it, how often it
+/// may stand, and the place of the first item too many. A place is the bytes before the repeated
+/// text, those of the repeats before the last one, and those before the item in it.
 const LIMITS: [(&str, &str, &str, usize, usize, LimitKind); 14] = [
     // the first byte of the name: 13 before it
     ("spike 1\nsort ", "a", " = c\n", 64, 13, LimitKind::Name),
@@ -185,8 +185,8 @@ fn nesting_is_kept(rt: HostRuntime) -> Result<(), Fail> {
     Ok(())
 }
 
-/// Texts with their first fault. Places are counted by hand: the line `spike 1` has 8 bytes with its
-/// newline.
+/// Texts with their first fault. Places are counted by hand: the line `spike 1` has 8 bytes with
+/// its newline.
 const FAULTS: [(&[u8], SyntaxFault); 13] = [
     (b"", SyntaxFault::Syntax { at: 0 }),
     (b"spike 3\n", SyntaxFault::Syntax { at: 6 }),

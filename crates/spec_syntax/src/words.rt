@@ -7,13 +7,10 @@ ghost use Rattle.spec_grammar.specs.Symbols.{key as key_symbol, name as name_sym
 ghost use Rattle.spec_syntax.specs.Reading.{Lacks, BeginsWord, LacksWord, IsPassed, Reads};
 
 use crate::stop::Stop;
-use spec_grammar::{Key, LimitKind, RawName};
+use spec_grammar::{Key, LimitKind, MAX_NAME_BYTES, RawName};
 use spec_text::{Token, TokenKind};
 use std::alloc::Global;
 use term_core::{Name, front};
-
-/// The most bytes of a name.
-const NAME_BYTES: usize = 64;
 
 /// The bytes of a text, and the memory that what is read of it takes.
 #[derive(Clone, Copy)]
@@ -95,7 +92,9 @@ impl<'a> Source<'a> {
 
     /// What follows the key, where it stands at the front.
     pub(crate) fn after_key<'t>(&self, tokens: &'t [Token], key: Key) -> Option<&'t [Token]>
-        ensures { MatchOption result (Lacks key (items_of self.now.bytes.now tokens.now)) (λ rest. items_of self.now.bytes.now tokens.now ≡ Sign key ∷ items_of self.now.bytes.now rest.now) }
+        ensures { MatchOption result (Lacks key (items_of self.now.bytes.now tokens.now))
+            (λ rest. items_of self.now.bytes.now tokens.now
+            ≡ Sign key ∷ items_of self.now.bytes.now rest.now) }
     {
         let (token, rest) = front(tokens)?;
         let found = key_of(token.kind, self.text(*token))?;
@@ -104,7 +103,8 @@ impl<'a> Source<'a> {
 
     /// Whether a name comes next.
     pub(crate) fn begins_word(&self, tokens: &[Token]) -> bool
-        ensures { MatchBool result (BeginsWord (items_of self.now.bytes.now tokens.now)) (LacksWord (items_of self.now.bytes.now tokens.now)) }
+        ensures { MatchBool result (BeginsWord (items_of self.now.bytes.now tokens.now))
+            (LacksWord (items_of self.now.bytes.now tokens.now)) }
     {
         match front(tokens) {
             Some((token, _)) => key_of(token.kind, self.text(*token)).is_none(),
@@ -114,7 +114,8 @@ impl<'a> Source<'a> {
 
     /// Stops where the item at the front is one too many.
     pub(crate) fn within(&self, tokens: &[Token], over: Option<LimitKind>) -> Result<(), Stop>
-        ensures { MatchResult result (λ _. over ≡ None) (λ stop. IsPassed over (length (items_of self.now.bytes.now tokens.now)) stop) }
+        ensures { MatchResult result (λ _. over ≡ None)
+            (λ stop. IsPassed over (length (items_of self.now.bytes.now tokens.now)) stop) }
     {
         match over {
             Some(why) => Err(self.fault(tokens, Some(why))),
@@ -125,7 +126,8 @@ impl<'a> Source<'a> {
     /// Passes the key, which has to come next.
     #[tactic(auto, unfolding(spec_grammar::specs::Symbols::run))]
     pub(crate) fn expect<'t>(&self, tokens: &'t [Token], key: Key) -> Result<&'t [Token], Stop>
-        ensures { Reads (λ _ v. sign_text key ∷ v) (λ rest. items_of self.now.bytes.now rest.now) (key_symbol key ∷ []) (items_of self.now.bytes.now tokens.now) result }
+        ensures { Reads (λ _ v. sign_text key ∷ v) (λ rest. items_of self.now.bytes.now rest.now)
+            (key_symbol key ∷ []) (items_of self.now.bytes.now tokens.now) result }
     {
         match self.after_key(tokens, key) {
             Some(rest) => Ok(rest),
@@ -140,7 +142,8 @@ impl<'a> Source<'a> {
         tokens: &'t [Token],
         over: Option<LimitKind>,
     ) -> Result<(RawName, &'t [Token]), Stop>
-        ensures reads { Reads (λ x. name_text over x.0) (λ x. items_of self.now.bytes.now x.1.now) (name_symbol over ∷ []) (items_of self.now.bytes.now tokens.now) result }
+        ensures reads { Reads (λ x. name_text over x.0) (λ x. items_of self.now.bytes.now x.1.now)
+            (name_symbol over ∷ []) (items_of self.now.bytes.now tokens.now) result }
         ensures within { OnOk result (over ≡ None) }
     {
         let Some((token, rest)) = front(tokens) else {
@@ -150,7 +153,7 @@ impl<'a> Source<'a> {
         if key_of(token.kind, text).is_some() {
             return Err(self.fault(tokens, None));
         }
-        if text.len() > NAME_BYTES {
+        if text.len() > MAX_NAME_BYTES {
             return Err(self.fault(tokens, Some(LimitKind::Name)));
         }
         self.within(tokens, over)?;

@@ -14,8 +14,10 @@ IsComment cs = AllByRecursion (λ c. c ≢ 10) cs
 pub data IsGap : List ℕ → Type 0 where
   nothing : IsGap []
   blank : {cs : List ℕ} (c : ℕ) → IsTrue (is_blank c) → IsGap cs → IsGap (c ∷ cs)
-  comment : {cs : List ℕ} (text : List ℕ) → IsComment text → IsGap cs → IsGap (35 ∷ (text ++ (10 ∷ cs)))
+  comment : {cs : List ℕ} (text : List ℕ) → IsComment text → IsGap cs
+      → IsGap (35 ∷ (text ++ (10 ∷ cs)))
 
 -- What may stand behind the last token: a gap, and a comment up to the end of the text.
 abbrev pub IsLastGap : List ℕ → Type 0
-IsLastGap cs = IsGap cs ⊎ ((gap : List ℕ) × (text : List ℕ) × (cs ≡ gap ++ (35 ∷ text)) × IsGap gap × IsComment text)
+IsLastGap cs = IsGap cs ⊎ ((gap : List ℕ) × (text : List ℕ)
+    × (cs ≡ gap ++ (35 ∷ text)) × IsGap gap × IsComment text)

@@ -15,4 +15,5 @@ SpansHold = (bs : List ℕ) (ts : List Token) → AreTokens bs ts → HaveSpans 
 
 -- what is written as sound pieces and blanks has the tokens of the pieces
 abbrev pub WrittenScans : Type 0
-WrittenScans = (ws : List Written) (tail : List ℕ) → AllSound ws → AllBlank tail → AreTokens (written ws tail) (placed 0 ws)
+WrittenScans = (ws : List Written) (tail : List ℕ) → AllSound ws → AllBlank tail
+    → AreTokens (written ws tail) (placed 0 ws)

@@ -24,7 +24,8 @@ IsLexeme cs = IsNumeral 10 cs ⊎ ((kind : TokenKind) × IsSpelling kind cs)
 
 -- with more of what follows, the text is no lexeme
 abbrev pub IsLongest : List ℕ → List ℕ → Type 0
-IsLongest text rest = (more others : List ℕ) → rest ≡ more ++ others → IsLexeme (text ++ more) → more ≡ []
+IsLongest text rest = (more others : List ℕ) → rest ≡ more ++ others
+    → IsLexeme (text ++ more) → more ≡ []
 
 -- the character begins no token, and no gap
 abbrev pub BeginsNothing : ℕ → Type 0
@@ -32,4 +33,5 @@ BeginsNothing c = (IsTrue (is_blank c) → ⊥) × (c ≢ 35) × ((cs : List ℕ
 
 -- more than six digits begin the characters
 abbrev pub IsLongNumber : List ℕ → Type 0
-IsLongNumber cs = (digits : List ℕ) × (rest : List ℕ) × (cs ≡ digits ++ rest) × AllDigits 10 digits × (6 < length digits)
+IsLongNumber cs = (digits : List ℕ) × (rest : List ℕ)
+    × (cs ≡ digits ++ rest) × AllDigits 10 digits × (6 < length digits)

@@ -1,5 +1,5 @@
 -- The tokens of a text, and the place of its first fault.
-use Rattle.std.specs.Prelude.{◌≡◌, ◌⊎◌, ℕ, ◌+◌, List, [], ◌∷◌, ◌++◌, Result, Ok, Err}
+use Rattle.std.specs.Prelude.{◌≡◌, ◌⊎◌, ℕ, ◌+◌, List, [], ◌∷◌, ◌++◌, Result, Ok, Err, codes, decimal}
 use Rattle.std.specs.Str.{chars, IsUtf8, IsValidUpTo}
 use Rattle.spec_text.specs.Names.{size}
 use Rattle.spec_text.specs.Gaps.{IsGap, IsLastGap}
@@ -23,11 +23,13 @@ pub record IsFirst (total : ℕ) (cs : List ℕ) (t : Token) (after : List ℕ) 
 -- these are the first tokens of the characters, and what follows them
 abbrev pub Scans : ℕ → List ℕ → List Token → List ℕ → Type 0
 Scans total cs [] rest = cs ≡ rest
-Scans total cs (t ∷ ts) rest = (after : List ℕ) × IsFirst total cs t after × Scans total after ts rest
+Scans total cs (t ∷ ts) rest =
+    (after : List ℕ) × IsFirst total cs t after × Scans total after ts rest
 
 -- the bytes are text, and these are all its tokens
 abbrev pub AreTokens : List ℕ → List Token → Type 0
-AreTokens bs ts = IsUtf8 bs × ((rest : List ℕ) × Scans (size (chars bs)) (chars bs) ts rest × IsLastGap rest)
+AreTokens bs ts =
+    IsUtf8 bs × ((rest : List ℕ) × Scans (size (chars bs)) (chars bs) ts rest × IsLastGap rest)
 
 -- Behind some tokens of the characters and a gap, at this place, a character begins nothing or a
 -- number is too long.
@@ -41,7 +43,8 @@ pub record HasFault (cs : List ℕ) (at : ℕ) : Type 0 where
   pub faulty : BeginsNothing c ⊎ IsLongNumber (c ∷ others)
   pub place : at + size (c ∷ others) ≡ size cs
 
--- the bytes are text up to this place and no further, or they are text and have their first fault there
+-- the bytes are text up to this place and no further, or they are text and have their first fault
+-- there
 abbrev pub IsTextFault : List ℕ → ℕ → Type 0
 IsTextFault bs at = IsValidUpTo bs at ⊎ (IsUtf8 bs × HasFault (chars bs) at)
 
@@ -61,3 +64,8 @@ IsFault at (Err (errors.Text place)) = place ≡ at
 abbrev pub TellsFault : List ℕ → ScanError → Type 0
 TellsFault bs errors.OutOfMemory = Unit {0}
 TellsFault bs (errors.Text at) = IsTextFault bs at
+
+-- what is printed of an error
+abbrev pub error_text : ScanError → List ℕ
+error_text (errors.Text at) = codes "text at " ++ decimal at
+error_text errors.OutOfMemory = codes "out of memory"

@@ -44,7 +44,8 @@ written (w ∷ ws) tail = w.gap ++ (w.text ++ written ws tail)
 -- the tokens of the pieces, which are written from this place on
 abbrev pub placed : ℕ → List Written → List Token
 placed n [] = []
-placed n (w ∷ ws) = record { kind = w.kind; at = n + length w.gap; len = length w.text } ∷ placed (n + length w.gap + length w.text) ws
+placed n (w ∷ ws) = record { kind = w.kind; at = n + length w.gap; len = length w.text }
+    ∷ placed (n + length w.gap + length w.text) ws
 
 -- blanks, and no comment
 abbrev pub AllBlank : List ℕ → Type 0

@@ -130,7 +130,8 @@ fn scan_text(alloc: Global, text: &str) -> Result<Vec<Token>, ScanError>
 }
 
 fn scan_all(alloc: Global, bytes: &[u8]) -> Result<Vec<Token>, ScanError>
-    ensures { MatchResult result (λ ts. AreTokens bytes.now ts.items) (λ e. TellsFault bytes.now e) }
+    ensures { MatchResult result
+        (λ ts. AreTokens bytes.now ts.items) (λ e. TellsFault bytes.now e) }
 {
     match str::from_utf8(bytes) {
         Ok(text) => scan_text(alloc, text),

@@ -2,6 +2,8 @@ ghost use Rattle.std.specs.Prelude.{◌≡◌};
 ghost use Rattle.spec_text.specs.declared.tokens.ScanError.TheVariants.{OutOfMemory};
 
 use std::alloc::{AllocError, AllocFailed};
+use std::error::Error;
+use std::fmt;
 
 /// What a token is.
 #[derive(Clone, Copy, Debug, PartialEq, Eq)]
@@ -31,6 +33,22 @@ pub enum ScanError {
     Text { at: usize },
     OutOfMemory,
 }
+
+impl fmt::Display for ScanError {
+    ghost use Rattle.std.specs.Prelude.{Some};
+    ghost use Rattle.spec_text.specs.Tokens.{error_text};
+
+    ghost output = { λ error. Some (error_text error) };
+
+    fn fmt<W: fmt::Write>(&self, f: &mut fmt::Formatter<W>) -> fmt::Result {
+        match self {
+            ScanError::Text { at } => write!(f, "text at {at}"),
+            ScanError::OutOfMemory => f.write_str("out of memory"),
+        }
+    }
+}
+
+impl Error for ScanError {}
 
 impl From<AllocError> for ScanError {
     ghost from_gives = { λ _ e. e ≡ OutOfMemory };

@@ -6,7 +6,8 @@ use Rattle.spec_grammar.specs.Items.{items_of}
 use Rattle.spec_grammar.specs.Limits.{constructor_mark}
 use Rattle.spec_grammar.specs.Symbols.{name, names, sorts, run}
 use Rattle.spec_syntax.specs.ReadingSorts.{begun_text, first_constructor}
-use Rattle.spec_syntax.proofs.SortSteps.{begun_grows, few_constructors}
+use Rattle.spec_syntax.proofs.SortSteps.{begun_grows}
+use Rattle.spec_grammar.proofs.KeepsLimits.{constructor_none}
 use Rattle.spec_syntax.proofs.Steps.{stop_at}
 use Rattle.spec_syntax.proofs.words.Source.constructors.Goals as goal
 
@@ -25,7 +26,7 @@ loop-made-init c =
     let made : c.push.new.self ≡ first ∷ [] = c.in_ok-push.ensures.pushed ∙ ap (λ cs. cs ++ first ∷ []) c.new-made.ensures in
     let h = rw c.constructor_over.ensures at c.in_ok-first.ensures.reads in
     let free : constructor_mark 0 t ≡ None = rw c.constructor_over.ensures at c.in_ok-first.ensures.within in
-    let few = few_constructors 0 t free in
+    let few = (constructor_none 0 t free).1 in
     rw made (record {
       some = omega arith;
       few = omega (arith, few);

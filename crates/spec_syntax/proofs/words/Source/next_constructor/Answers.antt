@@ -7,7 +7,8 @@ use Rattle.spec_grammar.specs.declared.keys.Key.TheVariants.{Bar}
 use Rattle.spec_grammar.specs.Items.{items_of}
 use Rattle.spec_grammar.specs.Limits.{constructor_mark}
 use Rattle.spec_grammar.specs.Symbols.{name, names, sorts}
-use Rattle.spec_syntax.proofs.SortSteps.{bar_takes, few_constructors}
+use Rattle.spec_syntax.proofs.SortSteps.{bar_takes}
+use Rattle.spec_grammar.proofs.KeepsLimits.{constructor_none}
 use Rattle.spec_syntax.proofs.Steps.{stop_at}
 use Rattle.spec_syntax.proofs.words.Source.next_constructor.Goals as goal
 
@@ -34,5 +35,5 @@ returns c =
       ap clean c.in-Some.ensures ∙ ap (λ (w : List Marked). sign Bar ∷ w) h.0,
       λ n st some. bar_takes n k t items next st some c.in-Some.ensures ∙ h.1 (sorts n (k + 1) (t + 1) ∷ st),
       omega (arith, ap length c.in-Some.ensures, h.2),
-      few_constructors k t free,
+      (constructor_none k t free).1,
     )
