@@ -1,7 +1,7 @@
 -- What holds of declarations in which no test finds a fault.
 use Rattle.std.proofs.Common.{◌≡◌, ℕ, suc, ◌+◌, ◌<◌, ◌≤◌, ◌^◌, List, [], ◌∷◌, ◌++◌, Option, None, Some, refl, ap, sym, ◌∙◌, subst, arith, length, position, append_assoc, length-append}
 use Rattle.std.specs.Prelude.{slice_get, map, unwrap_or, codes}
-use Rattle.std.specs.List.{AllByRecursion, flat_map}
+use Rattle.std.specs.List.{AllByRecursion, flat_map, AllZip}
 use Rattle.std.specs.Str.{bytes_eq}
 use Rattle.std.proofs.lemmas.List.{append-nil, map-append, length-map}
 use Rattle.std.proofs.lemmas.Option.{slice_get_within}
@@ -15,7 +15,6 @@ use Rattle.spec_grammar.specs.declared.raw.RawSort.{RawSort}
 use Rattle.spec_grammar.specs.declared.raw.RawFun.{RawFun}
 use Rattle.spec_grammar.specs.declared.raw.RawSpec.{RawSpec}
 use Rattle.sort_check.specs.Counted.{HasFewDeclarations}
-use Rattle.sort_check.specs.Pairwise.{Pairwise}
 use Rattle.sort_check.specs.Signatures.{sort_names, SortStands, ConstructorStands, ConstructorsStand, FunctionStands, SignatureStands}
 use Rattle.sort_check.specs.DeclarationTests.{sorts_tests, sort_test, constructors_tests, all_constructors_tests, functions_tests, sort_number, constructor_of, constructors_of, function_of, all_sorts, all_constructors, boolean_names, constructor_names, sig_of}
 use Rattle.sort_check.proofs.Names.{new_not, place_is, no_place}
@@ -50,7 +49,7 @@ module _ (sorts : List (List ℕ)) where
   pub sort_within : (n : RawName) → Clean (sort_test sorts n) → (sort_number sorts n).0 < length sorts
   sort_within n c = slice_get_within sorts (sort_number sorts n).0 n.name (sort_stands n c)
 
-  pub args_stand : (ns : List RawName) → Clean (each (sort_test sorts) ns) → Pairwise (SortStands sorts) ns (map (sort_number sorts) ns)
+  pub args_stand : (ns : List RawName) → Clean (each (sort_test sorts) ns) → AllZip (SortStands sorts) ns (map (sort_number sorts) ns)
   args_stand [] c = tt
   args_stand (n ∷ ns) c = (sort_stands n c.0, args_stand ns c.1)
 
@@ -59,7 +58,7 @@ module _ (sorts : List (List ℕ)) where
   args_within (n ∷ ns) c = (sort_within n c.0, args_within ns c.1)
 
   -- the constructors of one sort
-  constructors_stand : (taken : List (List ℕ)) (n : ℕ) (cs : List RawNames) → Clean (constructors_tests sorts taken cs) → Pairwise (ConstructorStands sorts n) cs (map (constructor_of sorts n) cs)
+  constructors_stand : (taken : List (List ℕ)) (n : ℕ) (cs : List RawNames) → Clean (constructors_tests sorts taken cs) → AllZip (ConstructorStands sorts n) cs (map (constructor_of sorts n) cs)
   constructors_stand taken n [] h = tt
   constructors_stand taken n (c ∷ cs) h = ((refl, args_stand c.args h.0.1, refl), constructors_stand (taken ++ c.name ∷ []) n cs h.1)
 
@@ -112,7 +111,7 @@ module _ (sorts : List (List ℕ)) where
       omega (arith, all_count (suc n) ss)
 
   -- the functions
-  pub functions_stand : (taken : List (List ℕ)) (fs : List RawFun) → Clean (functions_tests sorts taken fs) → Pairwise (FunctionStands sorts) fs (map (function_of sorts) fs)
+  pub functions_stand : (taken : List (List ℕ)) (fs : List RawFun) → Clean (functions_tests sorts taken fs) → AllZip (FunctionStands sorts) fs (map (function_of sorts) fs)
   functions_stand taken [] h = tt
   functions_stand taken (f ∷ fs) h = ((refl, args_stand f.head.args h.0.0.1, sort_stands f.result h.0.1), functions_stand (taken ++ f.head.name ∷ []) fs h.1)
 

@@ -11,7 +11,8 @@ use Rattle.spec_core.specs.declared.records.SymInfo.{SymInfo}
 use Rattle.spec_core.specs.Declarations.{bool_symbol}
 use Rattle.spec_core.specs.Sig.{Sig, info_of, names_of, IsConstructor}
 use Rattle.spec_core.specs.Sorts.{Sorted, SortedAll}
-use Rattle.spec_core.specs.WellSorted.{Numbered, NumberedAll, IsPattern, ArePatterns}
+use Rattle.term_core.specs.Variables.{Numbered, NumberedAll}
+use Rattle.spec_core.specs.WellSorted.{IsPattern, ArePatterns}
 use Rattle.spec_core.specs.Findings.{Clean}
 use Rattle.spec_core.proofs.Names.{position-map}
 use Rattle.spec_grammar.specs.RawTree.{RawTree, RawTrees, word, none as no_raws, some as more_raws}
@@ -29,7 +30,7 @@ use Rattle.sort_check.specs.declared.faults.Part.{Part}
 use Rattle.sort_check.specs.declared.faults.Part.TheVariants.{Left, Right, Goal, Ground}
 use Rattle.sort_check.proofs.Names.{place_is, no_place}
 use Rattle.sort_check.proofs.Places.{same_number}
-use Rattle.sort_check.proofs.Growth.{Extends, Keeps, extends_self, extends_both, variable_extends, given_names, named_stays, variable_keeps, word_has, extends_all, keeps_all}
+use Rattle.sort_check.proofs.Growth.{KeepsNames, Keeps, extends_self, extends_both, variable_extends, given_names, named_stays, variable_keeps, word_has, extends_all, keeps_all}
 use Rattle.sort_check.proofs.Walks.{added_last}
 use Rattle.term_core.proofs.Numbers.{same_or_not, below_or_last}
 
@@ -85,7 +86,7 @@ module _ (sig : Sig) (part : Part) (ctx : List SortId) where
     pub pattern : part ≡ Left → ArePatterns sig ts
 
   module _ (final : List Entry) (has : HasSorts final ctx) where
-    variable_facts : (es : List Entry) (wrong : SortKind) (name : List ℕ) (at : ℕ) (o : Option ℕ) (p : Option SortId) → entry_named es name ≡ o → Clean (variable_tests part es wrong at p o) → Extends (with_variable es name at p o) final → Keeps (with_variable es name at p o) final → (n : ℕ) → entry_named final name ≡ Some n → ((s : SortId) → p ≡ Some s → slice_get ctx n ≡ Some s) × Numbered (length es) (var n) (length (with_variable es name at p o))
+    variable_facts : (es : List Entry) (wrong : SortKind) (name : List ℕ) (at : ℕ) (o : Option ℕ) (p : Option SortId) → entry_named es name ≡ o → Clean (variable_tests part es wrong at p o) → KeepsNames (with_variable es name at p o) final → Keeps (with_variable es name at p o) final → (n : ℕ) → entry_named final name ≡ Some n → ((s : SortId) → p ≡ Some s → slice_get ctx n ≡ Some s) × Numbered (length es) (var n) (length (with_variable es name at p o))
     variable_facts es wrong name at (Some m) p e c x k n f =
         let q = position-Some (λ (v : Entry). bytes_eq name v.name) es m (record { name = []; at = 0; sort = None }) e in
         let stays : entry_named final name ≡ Some m = named_stays es final name m (extends_both es (with_variable es name at p (Some m)) final (variable_extends es name at p (Some m)) x) e in
@@ -118,11 +119,11 @@ module _ (sig : Sig) (part : Part) (ctx : List SortId) where
 
     mutual
       -- of a term whose variables stay in the final ones
-      pub facts : (es : List Entry) (wrong : SortKind) (r : RawTree) (place : Option SortId) (t : Tree) → Clean (term_tests sig part es wrong r place) → Extends (entries_after sig es r place) final → Keeps (entries_after sig es r place) final → IsOver sig final r t → Facts es r place t
+      pub facts : (es : List Entry) (wrong : SortKind) (r : RawTree) (place : Option SortId) (t : Tree) → Clean (term_tests sig part es wrong r place) → KeepsNames (entries_after sig es r place) final → Keeps (entries_after sig es r place) final → IsOver sig final r t → Facts es r place t
       facts es wrong (word name at no_raws) place (var n) c x k h =
           let A = λ (o : Option ℕ). after_word sig es name at place (λ f. es) o in
           let c1 : Clean (variable_tests part es wrong at place (entry_named es name)) = subst (λ o. Clean (word_tests sig part es wrong name at no_raws place (λ f. terms_tests sig part es no_raws (info_at sig f).args) o)) h.1 c in
-          let x1 : Extends (with_variable es name at place (entry_named es name)) final = subst (λ o. Extends (A o) final) h.1 x in
+          let x1 : KeepsNames (with_variable es name at place (entry_named es name)) final = subst (λ o. KeepsNames (A o) final) h.1 x in
           let k1 : Keeps (with_variable es name at place (entry_named es name)) final = subst (λ o. Keeps (A o) final) h.1 k in
           let v = variable_facts es wrong name at (entry_named es name) place refl c1 x1 k1 n h.2 in
           record {
@@ -135,7 +136,7 @@ module _ (sig : Sig) (part : Part) (ctx : List SortId) where
       facts es wrong (word name at args) place (app g ts) c x k h =
           let A = λ (o : Option ℕ). after_word sig es name at place (λ f. entries_after_all sig es args (info_at sig f).args) o in
           let c1 = subst (λ o. Clean (word_tests sig part es wrong name at args place (λ f. terms_tests sig part es args (info_at sig f).args) o)) h.0 c in
-          let x1 : Extends (entries_after_all sig es args (info_at sig g).args) final = subst (λ o. Extends (A o) final) h.0 x in
+          let x1 : KeepsNames (entries_after_all sig es args (info_at sig g).args) final = subst (λ o. KeepsNames (A o) final) h.0 x in
           let k1 : Keeps (entries_after_all sig es args (info_at sig g).args) final = subst (λ o. Keeps (A o) final) h.0 k in
           let n : count args ≡ length (info_at sig g).args = same_number (count args) (length (info_at sig g).args) c1.0.1.0 in
           let a = all_facts es args (info_at sig g).args ts n c1.1 x1 k1 h.1 in
@@ -150,7 +151,7 @@ module _ (sig : Sig) (part : Part) (ctx : List SortId) where
             pattern = λ e. (constructor_if g at part e c1.0.0, a.pattern e);
           }
 
-      pub all_facts : (es : List Entry) (rs : RawTrees) (ss : List SortId) (ts : Trees) → count rs ≡ length ss → Clean (terms_tests sig part es rs ss) → Extends (entries_after_all sig es rs ss) final → Keeps (entries_after_all sig es rs ss) final → AreOver sig final rs ts → AllFacts es rs ss ts
+      pub all_facts : (es : List Entry) (rs : RawTrees) (ss : List SortId) (ts : Trees) → count rs ≡ length ss → Clean (terms_tests sig part es rs ss) → KeepsNames (entries_after_all sig es rs ss) final → Keeps (entries_after_all sig es rs ss) final → AreOver sig final rs ts → AllFacts es rs ss ts
       all_facts es no_raws [] none n c x k h = record { sorted = tt; numbered = refl; pattern = λ _. tt }
       all_facts es no_raws (s ∷ ss) none n c x k h = absurd (omega arith)
       all_facts es no_raws ss (some t ts) n c x k h = absurd h
@@ -220,7 +221,7 @@ module _ (sig : Sig) where
   pub right_facts : (ctx : List SortId) (es : List Entry) (wrong : SortKind) (r : RawTree) (place : Option SortId) (t : Tree) → HasSorts es ctx → AreSorted es → Clean (term_tests sig Right es wrong r place) → IsOver sig es r t → Facts sig Right ctx es r place t
   right_facts ctx es wrong r place t has a c h =
       let same = sym (right_same es wrong r place a c) in
-      facts sig Right ctx es has es wrong r place t c (subst (λ xs. Extends xs es) same (extends_self es)) (subst (λ xs. Keeps xs es) same (λ n s e. e)) h
+      facts sig Right ctx es has es wrong r place t c (subst (λ xs. KeepsNames xs es) same (extends_self es)) (subst (λ xs. Keeps xs es) same (λ n s e. e)) h
 
   -- the names of the variables, by first occurrence
   variable_name : (es : List Entry) (name : List ℕ) (at : ℕ) (place : Option SortId) (o : Option ℕ) → entry_names (with_variable es name at place o) ≡ with_name (entry_names es) name o

@@ -1,6 +1,6 @@
 -- Each sort that a variable of a goal is found to have is one that it gets.
 use Rattle.std.proofs.Common.{◌≡◌, ◌<◌, ℕ, zero, suc, List, [], ◌∷◌, ◌++◌, Option, Some, None, option_map, inl, inr, refl, ap, sym, ◌∙◌, subst, arith, length, position, map, get_or-set_other, get_or-set_same}
-use Rattle.std.specs.List.{AllByRecursion}
+use Rattle.std.specs.List.{AllByRecursion, Contains}
 use Rattle.std.specs.Prelude.{slice_get, unwrap_or}
 use Rattle.std.specs.Str.{bytes_eq}
 use Rattle.std.proofs.lemmas.List.{length-map, map-set}
@@ -19,7 +19,7 @@ use Rattle.spec_grammar.specs.declared.raw.RawGoal.{RawGoal}
 use Rattle.sort_check.specs.Entries.{entry_named, entry_names, known_sorts, sort_at, sort_so_far, given, with_variable}
 use Rattle.sort_check.specs.Words.{symbol_named, info_at, after_word, entries_after, entries_after_all, other_tests, word_tests, term_tests, terms_tests}
 use Rattle.sort_check.specs.GoalTests.{own_sort, wanted, in_turn, left_by, sides_tests, after_sides, opposed_tests, opposite_tests, after_opposed, after_opposite, opposed_by, bound as bound_entry}
-use Rattle.sort_check.specs.Inference.{IsIn, IsVariable, IsSymbol, HasResult, IsTaken, IsAnyTaken, IsEquation, Gets, bound, left_argument, right_argument, left_side, right_side}
+use Rattle.sort_check.specs.Inference.{IsBareVariable, IsSymbol, HasResult, IsTaken, IsAnyTaken, IsEquation, Gets, bound, left_argument, right_argument, left_side, right_side}
 use Rattle.sort_check.specs.Over.{variables_of}
 use Rattle.sort_check.specs.declared.entries.Entry.{Entry}
 use Rattle.sort_check.specs.declared.faults.SortKind.{SortKind}
@@ -30,6 +30,7 @@ use Rattle.sort_check.proofs.Names.{place_is, no_place}
 use Rattle.sort_check.proofs.Growth.{given_names}
 use Rattle.sort_check.proofs.Facts.{info_known}
 use Rattle.term_core.proofs.Numbers.{same_or_not}
+use Rattle.term_core.proofs.Members.{In}
 
 -- what holds of the names and sorts of variables
 module _ (P : List ℕ → SortId → Type 0) where
@@ -69,17 +70,17 @@ module _ (P : List ℕ → SortId → Type 0) where
     symbol_is : (name : List ℕ) (f : ℕ) → symbol_named sig name ≡ Some f → IsSymbol sig name (info_at sig f)
     symbol_is name f k = (f, place_is name (names_of sig) f k, info_known sig name f k)
 
-    other_holds : (part : Part) (es : List Entry) (wrong : SortKind) (name : List ℕ) (at : ℕ) (args : RawTrees) (place : Option SortId) → symbol_named sig name ≡ None → Clean (other_tests part es wrong name at args place) → Holds es → ((x : List ℕ) (s : SortId) → IsVariable sig x (word name at args) → place ≡ Some s → P x s) → Holds (with_variable es name at place (entry_named es name))
+    other_holds : (part : Part) (es : List Entry) (wrong : SortKind) (name : List ℕ) (at : ℕ) (args : RawTrees) (place : Option SortId) → symbol_named sig name ≡ None → Clean (other_tests part es wrong name at args place) → Holds es → ((x : List ℕ) (s : SortId) → IsBareVariable sig x (word name at args) → place ≡ Some s → P x s) → Holds (with_variable es name at place (entry_named es name))
     other_holds part es wrong name at no_raws place k c h g = variable_holds es name at place (entry_named es name) refl h (λ s e. g name s (refl, refl, no_place name (names_of sig) k) e)
     other_holds part es wrong name at (more_raws t ts) place k c h g = absurd (c tt)
 
-    word_holds : (part : Part) (es : List Entry) (wrong : SortKind) (name : List ℕ) (at : ℕ) (args : RawTrees) (place : Option SortId) (o : Option ℕ) → symbol_named sig name ≡ o → Clean (word_tests sig part es wrong name at args place (λ f. terms_tests sig part es args (info_at sig f).args) o) → Holds es → ((x : List ℕ) (s : SortId) → IsVariable sig x (word name at args) → place ≡ Some s → P x s) → ((f : ℕ) → o ≡ Some f → Clean (terms_tests sig part es args (info_at sig f).args) → Holds (entries_after_all sig es args (info_at sig f).args)) → Holds (after_word sig es name at place (λ f. entries_after_all sig es args (info_at sig f).args) o)
+    word_holds : (part : Part) (es : List Entry) (wrong : SortKind) (name : List ℕ) (at : ℕ) (args : RawTrees) (place : Option SortId) (o : Option ℕ) → symbol_named sig name ≡ o → Clean (word_tests sig part es wrong name at args place (λ f. terms_tests sig part es args (info_at sig f).args) o) → Holds es → ((x : List ℕ) (s : SortId) → IsBareVariable sig x (word name at args) → place ≡ Some s → P x s) → ((f : ℕ) → o ≡ Some f → Clean (terms_tests sig part es args (info_at sig f).args) → Holds (entries_after_all sig es args (info_at sig f).args)) → Holds (after_word sig es name at place (λ f. entries_after_all sig es args (info_at sig f).args) o)
     word_holds part es wrong name at args place (Some f) k c h v r = r f refl c.1
     word_holds part es wrong name at args place None k c h v r = other_holds part es wrong name at args place k c h v
 
     mutual
       -- after a term in which each variable at a place has the property with the place's sort
-      pub holds_after : (part : Part) (es : List Entry) (wrong : SortKind) (r : RawTree) (place : Option SortId) → Clean (term_tests sig part es wrong r place) → Holds es → ((x : List ℕ) (s : SortId) → IsVariable sig x r → place ≡ Some s → P x s) → ((x : List ℕ) (s : SortId) → IsTaken sig x s r → P x s) → Holds (entries_after sig es r place)
+      pub holds_after : (part : Part) (es : List Entry) (wrong : SortKind) (r : RawTree) (place : Option SortId) → Clean (term_tests sig part es wrong r place) → Holds es → ((x : List ℕ) (s : SortId) → IsBareVariable sig x r → place ≡ Some s → P x s) → ((x : List ℕ) (s : SortId) → IsTaken sig x s r → P x s) → Holds (entries_after sig es r place)
       holds_after part es wrong (word name at args) place c h v t = word_holds part es wrong name at args place (symbol_named sig name) refl c h v (λ f k d. holds_after_all part es args (info_at sig f).args d h (λ x s a. t x s (info_at sig f, symbol_is name f k, a)))
 
       pub holds_after_all : (part : Part) (es : List Entry) (rs : RawTrees) (ss : List SortId) → Clean (terms_tests sig part es rs ss) → Holds es → ((x : List ℕ) (s : SortId) → IsAnyTaken sig x s rs ss → P x s) → Holds (entries_after_all sig es rs ss)
@@ -99,7 +100,7 @@ module _ (sig : Sig) (raw : RawGoal) where
       by None k e = absurd (let z : None ≡ Some s = e in cc)
       by (Some f) k e = let z : Some (info_at sig f).result ≡ Some s = e in let q : (info_at sig f).result ≡ s = cc in (info_at sig f, (f, place_is name (names_of sig) f k, info_known sig name f k), q)
 
-  own_no_variable : (r : RawTree) (u : SortId) (x : List ℕ) → own_sort sig r ≡ Some u → IsVariable sig x r → ⊥
+  own_no_variable : (r : RawTree) (u : SortId) (x : List ℕ) → own_sort sig r ≡ Some u → IsBareVariable sig x r → ⊥
   own_no_variable (word name at args) u x e v = by (symbol_named sig name) refl e
     where
       by : (o : Option ℕ) → symbol_named sig name ≡ o → option_map (λ f. (info_at sig f).result) o ≡ Some u → ⊥
@@ -107,7 +108,7 @@ module _ (sig : Sig) (raw : RawGoal) where
       by (Some f) k e = Rattle.sort_check.proofs.Names.new_not name (names_of sig) f v.2 (place_is name (names_of sig) f k)
 
   -- the sides of equations
-  pub sides_hold : (es : List Entry) (eqs : List RawEq) → ((e : RawEq) → IsIn e eqs → IsEquation sig raw e) → Clean (in_turn (sides_tests sig) (after_sides sig) es eqs) → Holds Got es → Holds Got (left_by (after_sides sig) es eqs)
+  pub sides_hold : (es : List Entry) (eqs : List RawEq) → ((e : RawEq) → In e eqs → IsEquation sig raw e) → Clean (in_turn (sides_tests sig) (after_sides sig) es eqs) → Holds Got es → Holds Got (left_by (after_sides sig) es eqs)
   sides_hold es [] i c h = h
   sides_hold es (e ∷ eqs) i c h =
       let here = i e (inl refl) in
@@ -117,13 +118,13 @@ module _ (sig : Sig) (raw : RawGoal) where
       let second = holds_after Got sig Goal mid WrongSort e.right place c.0.1 first (λ x s v q. absurd (wanted_no_variable (own_sort sig e.left) (own_sort sig e.right) s x refl q v)) (λ x s t. right_argument e here t) in
       sides_hold (after_sides sig es e) eqs (λ d j. i d (inr j)) c.1 second
     where
-      wanted_no_variable : (a b : Option SortId) (s : SortId) (x : List ℕ) → own_sort sig e.right ≡ b → wanted a b ≡ Some s → IsVariable sig x e.right → ⊥
+      wanted_no_variable : (a b : Option SortId) (s : SortId) (x : List ℕ) → own_sort sig e.right ≡ b → wanted a b ≡ Some s → IsBareVariable sig x e.right → ⊥
       wanted_no_variable (Some u) (Some w) s x q k v = own_no_variable e.right w x q v
       wanted_no_variable (Some u) None s x q k v = let z : None ≡ Some s = k in cc
       wanted_no_variable None b s x q k v = let z : None ≡ Some s = k in cc
 
   -- the equations of a variable and a term
-  pub opposites_hold : (es : List Entry) (eqs : List RawEq) → ((e : RawEq) → IsIn e eqs → IsEquation sig raw e) → Clean (in_turn (opposite_tests sig) (after_opposite sig) es eqs) → Holds Got es → Holds Got (opposed_by sig es eqs)
+  pub opposites_hold : (es : List Entry) (eqs : List RawEq) → ((e : RawEq) → In e eqs → IsEquation sig raw e) → Clean (in_turn (opposite_tests sig) (after_opposite sig) es eqs) → Holds Got es → Holds Got (opposed_by sig es eqs)
   opposites_hold es [] i c h = h
   opposites_hold es (e ∷ eqs) i c h = opposites_hold (after_opposite sig es e) eqs (λ d j. i d (inr j)) c.1 (by (own_sort sig e.left) (own_sort sig e.right) refl refl c.0)
     where
@@ -134,7 +135,7 @@ module _ (sig : Sig) (raw : RawGoal) where
       by None None q r d = h
 
   -- bindings
-  pub binds_hold : (bs : List RawBind) → ((b : RawBind) → IsIn b bs → IsIn b raw.binds) → Holds Got (map (bound_entry sig) bs)
+  pub binds_hold : (bs : List RawBind) → ((b : RawBind) → In b bs → Contains raw.binds b) → Holds Got (map (bound_entry sig) bs)
   binds_hold [] i n s x k e = absurd (let z : None ≡ Some s = k in cc)
   binds_hold (b ∷ bs) i zero s x k e = by (position (bytes_eq b.sort.name) sig.sorts) refl k
     where

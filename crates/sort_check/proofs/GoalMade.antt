@@ -1,6 +1,6 @@
 -- The goal that the parts make, where nothing is found.
 use Rattle.std.proofs.Common.{◌≡◌, ◌≤◌, ℕ, List, [], ◌∷◌, ◌++◌, Option, Some, None, inl, inr, refl, ap, sym, ◌∙◌, subst, arith, length, map}
-use Rattle.std.specs.List.{AllByRecursion}
+use Rattle.std.specs.List.{AllByRecursion, AllZip}
 use Rattle.std.specs.Prelude.{slice_get, unwrap_or, option_map}
 use Rattle.std.specs.Str.{bytes_eq}
 use Rattle.std.proofs.lemmas.List.{length-map}
@@ -24,14 +24,13 @@ use Rattle.sort_check.specs.Words.{info_at}
 use Rattle.sort_check.specs.Terms.{EquationStands}
 use Rattle.sort_check.specs.GoalTests.{bound as bound_entry, bind_names, number_of, own_sort, in_turn, left_by, sides_tests, after_sides, opposed_by, inferred, rounds, pairs_in, sorts_tests, binds_tests, equations_of, clause_tests}
 use Rattle.sort_check.specs.Goals.{goal_names, GoalStands}
-use Rattle.sort_check.specs.Inference.{IsIn, IsTaken, IsAnyTaken, IsVariable, Gets, bound, left_argument, right_argument, left_side, right_side, as_right, as_left}
+use Rattle.sort_check.specs.Inference.{IsTaken, IsAnyTaken, IsBareVariable, Gets, bound, left_argument, right_argument, left_side, right_side, as_right, as_left}
 use Rattle.sort_check.specs.Over.{IsOver, IsEquationOver, variables_of}
-use Rattle.sort_check.specs.Pairwise.{Pairwise}
 use Rattle.sort_check.specs.Parts.{root_name, AreFound}
 use Rattle.sort_check.specs.declared.entries.Entry.{Entry}
 use Rattle.sort_check.specs.declared.entries.Pair.{Pair}
 use Rattle.sort_check.proofs.Names.{place_is, no_place}
-use Rattle.sort_check.proofs.Growth.{Extends, extends_both}
+use Rattle.sort_check.proofs.Growth.{KeepsNames, extends_both}
 use Rattle.sort_check.proofs.ClauseLists.{all_extend}
 use Rattle.sort_check.proofs.Facts.{over_stands}
 use Rattle.sort_check.proofs.SortedVariables.{names_are, variables_long}
@@ -42,9 +41,10 @@ use Rattle.sort_check.proofs.GoalSorts.{HasOneSort, all_found, all_keep, equatio
 use Rattle.sort_check.proofs.GoalGets.{Holds, Got, binds_hold, sides_hold, opposites_hold, all_get}
 use Rattle.sort_check.proofs.GoalNames.{bind_entry_names, walked_names, opposed_names, fresh_sides, binds_fresh, bound_first}
 use Rattle.term_core.proofs.Items.{all_at}
+use Rattle.term_core.proofs.Members.{In, contained_in}
 
 -- pairs of two lists, one behind the other, taken apart
-pairs_split : {X Y : Type 0} (R : X → Y → Type 0) (xs us : List X) (ys vs : List Y) → length ys ≡ length xs → Pairwise R (xs ++ us) (ys ++ vs) → Pairwise R xs ys × Pairwise R us vs
+pairs_split : {X Y : Type 0} (R : X → Y → Type 0) (xs us : List X) (ys vs : List Y) → length ys ≡ length xs → AllZip R (xs ++ us) (ys ++ vs) → AllZip R xs ys × AllZip R us vs
 pairs_split R [] us [] vs l p = (tt, p)
 pairs_split R (x ∷ xs) us [] vs l p = absurd (omega arith)
 pairs_split R [] us (y ∷ ys) vs l p = absurd (omega arith)
@@ -58,7 +58,7 @@ all_map : {X : Type 0} (P Q : X → Type 0) → ((x : X) → P x → Q x) → (x
 all_map P Q f [] a = tt
 all_map P Q f (x ∷ xs) a = (f x a.0, all_map P Q f xs a.1)
 
-equations_stand : (sig : Sig) (es : List Entry) (raws : List RawEq) (ts : List Equation) → Pairwise (IsEquationOver sig es) raws ts → Pairwise (EquationStands sig (entry_names es)) raws ts
+equations_stand : (sig : Sig) (es : List Entry) (raws : List RawEq) (ts : List Equation) → AllZip (IsEquationOver sig es) raws ts → AllZip (EquationStands sig (entry_names es)) raws ts
 equations_stand sig es [] [] p = tt
 equations_stand sig es (r ∷ rs) [] p = absurd p
 equations_stand sig es [] (t ∷ ts) p = absurd p
@@ -107,14 +107,14 @@ module _ (sig : Sig) (declared : IsDeclared sig) where
     abbrev known : List (Option SortId)
     known = inferred sig opposed eqs
 
-    module _ (ps cs : List Equation) (bound_clean : Clean (binds_tests sig raw.binds)) (sides : Clean (in_turn (sides_tests sig) (after_sides sig) binds eqs)) (over : Pairwise (IsEquationOver sig walked) eqs (ps ++ cs)) (long : length ps ≡ length raw.premises) (sorts : Clean (sorts_tests sig walked eqs)) (few : length walked ≤ 16) where
+    module _ (ps cs : List Equation) (bound_clean : Clean (binds_tests sig raw.binds)) (sides : Clean (in_turn (sides_tests sig) (after_sides sig) binds eqs)) (over : AllZip (IsEquationOver sig walked) eqs (ps ++ cs)) (long : length ps ≡ length raw.premises) (sorts : Clean (sorts_tests sig walked eqs)) (few : length walked ≤ 16) where
       found_walked : AllByRecursion (AreFound sig walked) eqs
       found_walked = all_found sig walked eqs (ps ++ cs) over
 
       found : AllByRecursion (AreFound sig opposed) eqs
       found = found_more sig walked opposed (opposed_extends sig walked eqs) eqs found_walked
 
-      over_opposed : Pairwise (IsEquationOver sig opposed) eqs (ps ++ cs)
+      over_opposed : AllZip (IsEquationOver sig opposed) eqs (ps ++ cs)
       over_opposed = equations_more sig walked opposed (opposed_extends sig walked eqs) eqs (ps ++ cs) over
 
       same_names : entry_names opposed ≡ entry_names walked
@@ -137,28 +137,28 @@ module _ (sig : Sig) (declared : IsDeclared sig) where
 
       -- each sort that is known at the end is one that its variable gets
       holds : Holds (Got sig raw) opposed
-      holds = opposites_hold sig raw walked eqs (λ e i. i) sorts.0 (sides_hold sig raw binds eqs (λ e i. i) sides (binds_hold sig raw raw.binds (λ b i. i)))
+      holds = opposites_hold sig raw walked eqs (contained_in eqs) sorts.0 (sides_hold sig raw binds eqs (contained_in eqs) sides (binds_hold sig raw raw.binds (contained_in raw.binds)))
 
       -- a side that is a variable has its name at its number
-      abbrev IsNamed : RawTree → Type 0
-      IsNamed r = own_sort sig r ≡ None → IsVariable sig (root_name r) r × (slice_get (entry_names opposed) (number_of opposed r) ≡ Some (root_name r))
+      abbrev IsAtItsNumber : RawTree → Type 0
+      IsAtItsNumber r = own_sort sig r ≡ None → IsBareVariable sig (root_name r) r × (slice_get (entry_names opposed) (number_of opposed r) ≡ Some (root_name r))
 
-      side_named : (r : RawTree) (t : Tree) → IsOver sig opposed r t → IsNamed r
+      side_named : (r : RawTree) (t : Tree) → IsOver sig opposed r t → IsAtItsNumber r
       side_named (word name at args) (var m) h o =
           let at_number : slice_get (entry_names opposed) m ≡ Some name = place_is name (entry_names opposed) m (position-map (bytes_eq name) (λ (e : Entry). e.name) opposed ∙ h.2) in
           ((refl, h.0, no_place name (names_of sig) h.1), ap (λ q. slice_get (entry_names opposed) (unwrap_or q 0)) h.2 ∙ at_number)
       side_named (word name at args) (app f ts) h o = absurd (let z : Some (info_at sig f).result ≡ None = ap (λ x. option_map (λ g. (info_at sig g).result) x) (sym h.0) ∙ o in cc)
 
-      sides_named : (ds : List RawEq) (ts : List Equation) → Pairwise (IsEquationOver sig opposed) ds ts → (e : RawEq) → IsIn e ds → IsNamed e.left × IsNamed e.right
+      sides_named : (ds : List RawEq) (ts : List Equation) → AllZip (IsEquationOver sig opposed) ds ts → (e : RawEq) → In e ds → IsAtItsNumber e.left × IsAtItsNumber e.right
       sides_named [] ts p e i = absurd i
       sides_named (d ∷ ds) [] p e i = absurd p
-      sides_named (d ∷ ds) (t ∷ ts) p e (inl is) = subst (λ (x : RawEq). IsNamed x.left × IsNamed x.right) (sym is) (side_named d.left t.left p.0.0, side_named d.right t.right p.0.1)
+      sides_named (d ∷ ds) (t ∷ ts) p e (inl is) = subst (λ (x : RawEq). IsAtItsNumber x.left × IsAtItsNumber x.right) (sym is) (side_named d.left t.left p.0.0, side_named d.right t.right p.0.1)
       sides_named (d ∷ ds) (t ∷ ts) p e (inr i) = sides_named ds ts p.1 e i
 
       abbrev Known : ℕ → SortId → Type 0
       Known n s = (x : List ℕ) → slice_get (entry_names opposed) n ≡ Some x → Gets sig raw x s
 
-      to_right : (p : Pair) (s : SortId) → IsIn p (pairs_in sig opposed eqs) → Known p.left s → Known p.right s
+      to_right : (p : Pair) (s : SortId) → In p (pairs_in sig opposed eqs) → Known p.left s → Known p.right s
       to_right p s i h x k =
           let d = pair_from sig opposed eqs p i in
           let n = sides_named eqs (ps ++ cs) over_opposed d.0 d.1 in
@@ -166,9 +166,9 @@ module _ (sig : Sig) (declared : IsDeclared sig) where
           let r = n.1 d.3 in
           let z : Some (root_name d.0.right) ≡ Some x = sym r.1 ∙ ap (λ m. slice_get (entry_names opposed) m) (sym d.5) ∙ k in
           let q : root_name d.0.right ≡ x = cc in
-          subst (λ y. Gets sig raw y s) q (as_left d.0 d.1 l.0 r.0 (h (root_name d.0.left) (ap (λ m. slice_get (entry_names opposed) m) d.4 ∙ l.1)))
+          subst (λ y. Gets sig raw y s) q (as_left d.0 (contained_in eqs d.0 d.1) l.0 r.0 (h (root_name d.0.left) (ap (λ m. slice_get (entry_names opposed) m) d.4 ∙ l.1)))
 
-      to_left : (p : Pair) (s : SortId) → IsIn p (pairs_in sig opposed eqs) → Known p.right s → Known p.left s
+      to_left : (p : Pair) (s : SortId) → In p (pairs_in sig opposed eqs) → Known p.right s → Known p.left s
       to_left p s i h x k =
           let d = pair_from sig opposed eqs p i in
           let n = sides_named eqs (ps ++ cs) over_opposed d.0 d.1 in
@@ -176,7 +176,7 @@ module _ (sig : Sig) (declared : IsDeclared sig) where
           let r = n.1 d.3 in
           let z : Some (root_name d.0.left) ≡ Some x = sym l.1 ∙ ap (λ m. slice_get (entry_names opposed) m) (sym d.4) ∙ k in
           let q : root_name d.0.left ≡ x = cc in
-          subst (λ y. Gets sig raw y s) q (as_right d.0 d.1 l.0 r.0 (h (root_name d.0.right) (ap (λ m. slice_get (entry_names opposed) m) d.5 ∙ r.1)))
+          subst (λ y. Gets sig raw y s) q (as_right d.0 (contained_in eqs d.0 d.1) l.0 r.0 (h (root_name d.0.right) (ap (λ m. slice_get (entry_names opposed) m) d.5 ∙ r.1)))
 
       known_gets : (n : ℕ) (s : SortId) (x : List ℕ) → sort_at known n ≡ Some s → slice_get (entry_names opposed) n ≡ Some x → Gets sig raw x s
       known_gets n s x k e = rounds_known Known (pairs_in sig opposed eqs) to_right to_left (rounds opposed) (known_sorts opposed) (pairs_within sig opposed eqs found) (λ m u h y j. holds m u y h j) n s k x e
@@ -185,7 +185,7 @@ module _ (sig : Sig) (declared : IsDeclared sig) where
       kept : (n : ℕ) (s : SortId) → sort_so_far binds n ≡ Some s → sort_at known n ≡ Some s
       kept n s h = rounds_keep (rounds opposed) (known_sorts opposed) (pairs_in sig opposed eqs) n s (opposed_keeps sig walked eqs n s (all_keep sig binds eqs n s h))
 
-      extended : Extends binds opposed
+      extended : KeepsNames binds opposed
       extended = extends_both binds walked opposed (all_extend sig binds eqs) (opposed_extends sig walked eqs)
 
       all_got : AllByRecursion (λ (v : VarInfo). Gets sig raw v.name v.sort) vars
@@ -204,8 +204,8 @@ module _ (sig : Sig) (declared : IsDeclared sig) where
             names = subst (λ ns. AreNewNames (names_of sig) ns) (sym (vars_names ∙ names)) (fresh_sides sig (bind_names raw.binds) eqs (binds_fresh sig raw.binds bound_clean.0));
             bound = bound_first sig [] raw.binds opposed known extended.0 bound_clean.0 same_long (extended.1 ∙ ap (λ ns. ns ++ extended.0) (bind_entry_names sig raw.binds)) kept;
             sorts = all_got;
-            premises = subst (λ ns. Pairwise (EquationStands sig ns) raw.premises ps) (sym vars_names) apart.0;
-            conclusions = subst (λ ns. Pairwise (EquationStands sig ns) raw.conclusions cs) (sym vars_names) apart.1;
+            premises = subst (λ ns. AllZip (EquationStands sig ns) raw.premises ps) (sym vars_names) apart.0;
+            conclusions = subst (λ ns. AllZip (EquationStands sig ns) raw.conclusions cs) (sym vars_names) apart.1;
             sorted = record {
               premises = all_at (HasOneSort sig (sorts_of vars)) ps both.0;
               conclusions = all_at (HasOneSort sig (sorts_of vars)) cs both.1;

@@ -1,6 +1,6 @@
 -- The names of a goal's variables.
 use Rattle.std.proofs.Common.{◌≡◌, ℕ, suc, List, [], ◌∷◌, ◌++◌, Option, Some, None, option_map, refl, ap, sym, ◌∙◌, subst, arith, length, position, map, take, append_assoc}
-use Rattle.std.specs.List.{AllByRecursion}
+use Rattle.std.specs.List.{AllByRecursion, AllZip}
 use Rattle.std.specs.Prelude.{slice_get, unwrap_or}
 use Rattle.std.specs.Str.{bytes_eq}
 use Rattle.std.proofs.lemmas.List.{append-nil, map-append}
@@ -18,7 +18,6 @@ use Rattle.sort_check.specs.Occurrence.{with_name, after_word as names_after_wor
 use Rattle.sort_check.specs.GoalTests.{bind_names, bind_tests, bound, own_sort, wanted, in_turn, left_by, sides_tests, after_sides, after_opposed, after_opposite, opposed_by}
 use Rattle.sort_check.specs.Goals.{VariableStands}
 use Rattle.sort_check.specs.Over.{variable_of, variables_of}
-use Rattle.sort_check.specs.Pairwise.{Pairwise}
 use Rattle.sort_check.specs.Parts.{IsFound, AreFound}
 use Rattle.sort_check.specs.declared.entries.Entry.{Entry}
 use Rattle.sort_check.specs.declared.faults.SortKind.TheVariants.{WrongSort}
@@ -106,7 +105,7 @@ module _ (sig : Sig) where
       by (Some m) e = (m, refl, place_is b.sort.name sig.sorts m e)
       by None e = absurd (c.1 (no_place b.sort.name sig.sorts e))
 
-  pub bound_first : (before bs : List RawBind) (es : List Entry) (known : List (Option SortId)) (more : List (List ℕ)) → Clean (each_after (bind_tests sig) before bs) → length known ≡ length es → entry_names es ≡ bind_names bs ++ more → ((n : ℕ) (s : SortId) → sort_so_far (map (bound sig) bs) n ≡ Some s → sort_at known n ≡ Some s) → Pairwise (VariableStands sig) bs (take (length bs) (variables_of es known))
+  pub bound_first : (before bs : List RawBind) (es : List Entry) (known : List (Option SortId)) (more : List (List ℕ)) → Clean (each_after (bind_tests sig) before bs) → length known ≡ length es → entry_names es ≡ bind_names bs ++ more → ((n : ℕ) (s : SortId) → sort_so_far (map (bound sig) bs) n ≡ Some s → sort_at known n ≡ Some s) → AllZip (VariableStands sig) bs (take (length bs) (variables_of es known))
   bound_first before [] es known more c l e k = tt
   bound_first before (b ∷ bs) [] known more c l e k = absurd (let z : [] ≡ b.name.name ∷ (bind_names bs ++ more) = e in cc)
   bound_first before (b ∷ bs) (x ∷ es) [] more c l e k = absurd (omega arith)

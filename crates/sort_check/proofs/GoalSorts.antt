@@ -1,12 +1,13 @@
 -- Both sides of each equation of a goal have one sort where nothing is found.
 use Rattle.std.proofs.Common.{◌≡◌, ◌<◌, ℕ, List, [], ◌∷◌, Option, Some, None, option_map, inl, inr, refl, ap, sym, ◌∙◌, subst, arith, length}
-use Rattle.std.specs.List.{AllByRecursion}
+use Rattle.std.specs.List.{AllByRecursion, AllZip}
 use Rattle.std.specs.Prelude.{unwrap_or}
 use Rattle.std.specs.Str.{bytes_eq}
 use Rattle.std.proofs.lemmas.List.{length-map}
 use Rattle.std.proofs.lemmas.List.Quantifiers.{position-Some}
 use Rattle.term_core.specs.Tree.{Tree, var, app}
 use Rattle.term_core.specs.declared.ids.SortId.{SortId}
+use Rattle.term_core.proofs.Members.{In}
 use Rattle.spec_core.specs.declared.records.Equation.{Equation}
 use Rattle.spec_core.specs.Sig.{Sig}
 use Rattle.spec_core.specs.Sorts.{Sorted}
@@ -17,14 +18,12 @@ use Rattle.spec_grammar.specs.declared.raw.RawEq.{RawEq}
 use Rattle.sort_check.specs.Entries.{entry_named, known_sorts, sort_at}
 use Rattle.sort_check.specs.Words.{info_at, entries_after}
 use Rattle.sort_check.specs.GoalTests.{own_sort, wanted, number_of, in_turn, left_by, sides_tests, after_sides, opposed_tests, opposite_tests, after_opposed, after_opposite, opposed_by, rounds, inferred, sorts_tests, pairs_in}
-use Rattle.sort_check.specs.Inference.{IsIn}
 use Rattle.sort_check.specs.Over.{IsOver, IsEquationOver, variables_of}
-use Rattle.sort_check.specs.Pairwise.{Pairwise}
 use Rattle.sort_check.specs.Parts.{root_name, AreFound}
 use Rattle.sort_check.specs.declared.entries.Entry.{Entry}
 use Rattle.sort_check.specs.declared.faults.SortKind.TheVariants.{WrongSort}
 use Rattle.sort_check.specs.declared.faults.Part.TheVariants.{Goal}
-use Rattle.sort_check.proofs.Growth.{Extends, Keeps, extends_self, extends_both, extends, keeps}
+use Rattle.sort_check.proofs.Growth.{KeepsNames, Keeps, extends_self, extends_both, extends, keeps}
 use Rattle.sort_check.proofs.Facts.{HasSorts, facts}
 use Rattle.sort_check.proofs.SortedVariables.{sorts_are, clean_sorted}
 use Rattle.sort_check.proofs.Sides.{after_keeps, equations_more}
@@ -42,7 +41,7 @@ module _ (sig : Sig) (es : List Entry) where
   var_of (word name at args) (app f ts) h o = absurd (let z : Some (info_at sig f).result ≡ None = ap (λ x. option_map (λ g. (info_at sig g).result) x) (sym h.0) ∙ o in cc)
 
   -- where equations stand for others, their variables are found
-  pub all_found : (eqs : List RawEq) (ts : List Equation) → Pairwise (IsEquationOver sig es) eqs ts → AllByRecursion (AreFound sig es) eqs
+  pub all_found : (eqs : List RawEq) (ts : List Equation) → AllZip (IsEquationOver sig es) eqs ts → AllByRecursion (AreFound sig es) eqs
   all_found [] [] p = tt
   all_found (e ∷ eqs) [] p = absurd p
   all_found [] (t ∷ ts) p = absurd p
@@ -73,7 +72,7 @@ module _ (sig : Sig) where
     PairSorts e t = own_sort sig e.left ≡ None → own_sort sig e.right ≡ None → HasOneSort t
 
     module _ (final : List Entry) (has : HasSorts final ctx) where
-      own_sorts : (es : List Entry) (eqs : List RawEq) (ts : List Equation) → Clean (in_turn (sides_tests sig) (after_sides sig) es eqs) → Extends (left_by (after_sides sig) es eqs) final → Keeps (left_by (after_sides sig) es eqs) final → Pairwise (IsEquationOver sig final) eqs ts → Pairwise OwnSorts eqs ts
+      own_sorts : (es : List Entry) (eqs : List RawEq) (ts : List Equation) → Clean (in_turn (sides_tests sig) (after_sides sig) es eqs) → KeepsNames (left_by (after_sides sig) es eqs) final → Keeps (left_by (after_sides sig) es eqs) final → AllZip (IsEquationOver sig final) eqs ts → AllZip OwnSorts eqs ts
       own_sorts es [] [] c x k p = tt
       own_sorts es (e ∷ eqs) [] c x k p = absurd p
       own_sorts es [] (t ∷ ts) c x k p = absurd p
@@ -89,7 +88,7 @@ module _ (sig : Sig) where
           let r = facts sig Goal ctx final has mid WrongSort e.right place t.right c.0.1 x1 k1 p.0.1 in
           (record { left = l.own; own = r.own; right = r.sorted }, own_sorts end eqs ts c.1 x k p.1)
 
-      opposite_sorts : (es : List Entry) (eqs : List RawEq) (ts : List Equation) → Clean (in_turn (opposite_tests sig) (after_opposite sig) es eqs) → Extends (opposed_by sig es eqs) final → Keeps (opposed_by sig es eqs) final → Pairwise (IsEquationOver sig final) eqs ts → Pairwise OppositeSorts eqs ts
+      opposite_sorts : (es : List Entry) (eqs : List RawEq) (ts : List Equation) → Clean (in_turn (opposite_tests sig) (after_opposite sig) es eqs) → KeepsNames (opposed_by sig es eqs) final → Keeps (opposed_by sig es eqs) final → AllZip (IsEquationOver sig final) eqs ts → AllZip OppositeSorts eqs ts
       opposite_sorts es [] [] c x k p = tt
       opposite_sorts es (e ∷ eqs) [] c x k p = absurd p
       opposite_sorts es [] (t ∷ ts) c x k p = absurd p
@@ -99,7 +98,7 @@ module _ (sig : Sig) where
           let k1 : Keeps end final = λ n s h. k n s (opposed_keeps sig end eqs n s h) in
           (by (own_sort sig e.left) (own_sort sig e.right) refl refl c.0 x1 k1, opposite_sorts end eqs ts c.1 x k p.1)
         where
-          by : (a b : Option SortId) → own_sort sig e.left ≡ a → own_sort sig e.right ≡ b → Clean (opposed_tests sig es e a b) → Extends (after_opposed sig es e a b) final → Keeps (after_opposed sig es e a b) final → OppositeSorts e t
+          by : (a b : Option SortId) → own_sort sig e.left ≡ a → own_sort sig e.right ≡ b → Clean (opposed_tests sig es e a b) → KeepsNames (after_opposed sig es e a b) final → Keeps (after_opposed sig es e a b) final → OppositeSorts e t
           by (Some u) None q r d x k =
               let f = facts sig Goal ctx final has es WrongSort e.right (Some u) t.right d x k p.0.1 in
               record { right = λ s i o. f.sorted s (sym q ∙ i); left = λ s o i. absurd (let z : Some u ≡ None = sym q ∙ o in cc) }
@@ -118,7 +117,7 @@ module _ (sig : Sig) where
         by None (Some s) q r = (s, opposite.left s q r, own.own s r)
         by None None q r = pair q r
 
-    all_one_sort : (eqs : List RawEq) (ts : List Equation) → Pairwise OwnSorts eqs ts → Pairwise OppositeSorts eqs ts → Pairwise PairSorts eqs ts → AllByRecursion HasOneSort ts
+    all_one_sort : (eqs : List RawEq) (ts : List Equation) → AllZip OwnSorts eqs ts → AllZip OppositeSorts eqs ts → AllZip PairSorts eqs ts → AllByRecursion HasOneSort ts
     all_one_sort [] [] a b c = tt
     all_one_sort (e ∷ eqs) [] a b c = absurd a
     all_one_sort [] (t ∷ ts) a b c = absurd a
@@ -148,7 +147,7 @@ module _ (sig : Sig) where
       pub all_known : (n : ℕ) → n < length opposed → (s : SortId) × (sort_at known n ≡ Some s)
       all_known = clean_sorted opposed known known_long sorts.1.1
 
-      pair_sorts : (ds : List RawEq) (ts : List Equation) → ((e : RawEq) → IsIn e ds → IsIn e eqs) → Pairwise (IsEquationOver sig opposed) ds ts → Pairwise (PairSorts sorts_in) ds ts
+      pair_sorts : (ds : List RawEq) (ts : List Equation) → ((e : RawEq) → In e ds → In e eqs) → AllZip (IsEquationOver sig opposed) ds ts → AllZip (PairSorts sorts_in) ds ts
       pair_sorts [] [] i p = tt
       pair_sorts (e ∷ ds) [] i p = absurd p
       pair_sorts [] (t ∷ ts) i p = absurd p
@@ -164,10 +163,10 @@ module _ (sig : Sig) where
         pair_sorts ds ts (λ d j. i d (inr j)) p.1,
       )
 
-      pub equations_sorted : (ts : List Equation) → Pairwise (IsEquationOver sig walked) eqs ts → AllByRecursion (HasOneSort sorts_in) ts
+      pub equations_sorted : (ts : List Equation) → AllZip (IsEquationOver sig walked) eqs ts → AllByRecursion (HasOneSort sorts_in) ts
       equations_sorted ts p =
           let over = equations_more sig walked opposed (opposed_extends sig walked eqs) eqs ts p in
-          let self : Extends opposed opposed = extends_self opposed in
+          let self : KeepsNames opposed opposed = extends_self opposed in
           let own = own_sorts sorts_in opposed has_sorts es eqs ts clean (opposed_extends sig walked eqs) (opposed_keeps sig walked eqs) over in
           let opposite = opposite_sorts sorts_in opposed has_sorts walked eqs ts sorts.0 self (λ n s h. h) over in
           all_one_sort sorts_in eqs ts own opposite (pair_sorts eqs ts (λ e i. i) over)

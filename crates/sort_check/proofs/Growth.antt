@@ -16,13 +16,13 @@ use Rattle.sort_check.proofs.Places.{position_stays}
 use Rattle.term_core.proofs.Numbers.{same_or_not}
 
 -- the names of the second are those of the first and others behind them
-abbrev pub Extends : List Entry → List Entry → Type 0
-Extends es fs = (more : List (List ℕ)) × (entry_names fs ≡ entry_names es ++ more)
+abbrev pub KeepsNames : List Entry → List Entry → Type 0
+KeepsNames es fs = (more : List (List ℕ)) × (entry_names fs ≡ entry_names es ++ more)
 
-pub extends_self : (es : List Entry) → Extends es es
+pub extends_self : (es : List Entry) → KeepsNames es es
 extends_self es = ([], sym (append-nil (entry_names es)))
 
-pub extends_both : (es fs gs : List Entry) → Extends es fs → Extends fs gs → Extends es gs
+pub extends_both : (es fs gs : List Entry) → KeepsNames es fs → KeepsNames fs gs → KeepsNames es gs
 extends_both es fs gs a b = (a.0 ++ b.0, b.1 ∙ ap (λ ns. ns ++ b.0) a.1 ∙ append_assoc (entry_names es) a.0 b.0)
 
 -- the sorts that the first knows are those that the second knows of these variables
@@ -34,7 +34,7 @@ given_names es n place (Some s) = refl
 given_names es n None None = refl
 given_names es n (Some s) None = map-set_same (λ (e : Entry). e.name) es n _ _ refl
 
-pub variable_extends : (es : List Entry) (name : List ℕ) (at : ℕ) (place : Option SortId) (o : Option ℕ) → Extends es (with_variable es name at place o)
+pub variable_extends : (es : List Entry) (name : List ℕ) (at : ℕ) (place : Option SortId) (o : Option ℕ) → KeepsNames es (with_variable es name at place o)
 variable_extends es name at place (Some n) = ([], given_names es n place (sort_so_far es n) ∙ sym (append-nil (entry_names es)))
 variable_extends es name at place None = (name ∷ [], map-append (λ (e : Entry). e.name) es (record { name = name; at = at; sort = place } ∷ []))
 
@@ -59,7 +59,7 @@ variable_keeps es name at place (Some n) = given_keeps es n place (sort_so_far e
 variable_keeps es name at place None = append_keeps es (record { name = name; at = at; sort = place })
 
 -- a variable keeps its number
-pub named_stays : (es fs : List Entry) (name : List ℕ) (n : ℕ) → Extends es fs → entry_named es name ≡ Some n → entry_named fs name ≡ Some n
+pub named_stays : (es fs : List Entry) (name : List ℕ) (n : ℕ) → KeepsNames es fs → entry_named es name ≡ Some n → entry_named fs name ≡ Some n
 named_stays es fs name n x e =
     let f : (gs : List Entry) → position (bytes_eq name) (entry_names gs) ≡ entry_named gs name = λ gs. position-map (bytes_eq name) (λ (e : Entry). e.name) gs in
     sym (f fs) ∙ ap (λ ns. position (bytes_eq name) ns) x.1 ∙ position_stays (bytes_eq name) (entry_names es) x.0 n (f es ∙ e)
@@ -71,10 +71,10 @@ module _ (sig : Sig) where
   word_has P es name at place after h v None = v
 
   mutual
-    pub extends : (es : List Entry) (r : RawTree) (place : Option SortId) → Extends es (entries_after sig es r place)
-    extends es (word name at args) place = word_has (λ fs. Extends es fs) es name at place (λ f. entries_after_all sig es args (info_at sig f).args) (λ f. extends_all es args (info_at sig f).args) (variable_extends es name at place (entry_named es name)) (symbol_named sig name)
+    pub extends : (es : List Entry) (r : RawTree) (place : Option SortId) → KeepsNames es (entries_after sig es r place)
+    extends es (word name at args) place = word_has (λ fs. KeepsNames es fs) es name at place (λ f. entries_after_all sig es args (info_at sig f).args) (λ f. extends_all es args (info_at sig f).args) (variable_extends es name at place (entry_named es name)) (symbol_named sig name)
 
-    pub extends_all : (es : List Entry) (rs : RawTrees) (ss : List SortId) → Extends es (entries_after_all sig es rs ss)
+    pub extends_all : (es : List Entry) (rs : RawTrees) (ss : List SortId) → KeepsNames es (entries_after_all sig es rs ss)
     extends_all es no_raws ss = extends_self es
     extends_all es (more_raws r rs) [] = extends_self es
     extends_all es (more_raws r rs) (s ∷ ss) = extends_both es (entries_after sig es r (Some s)) (entries_after_all sig (entries_after sig es r (Some s)) rs ss) (extends es r (Some s)) (extends_all (entries_after sig es r (Some s)) rs ss)
@@ -90,11 +90,11 @@ module _ (sig : Sig) where
 
   -- a term over the variables is one over more of them
   mutual
-    pub over_more : (es fs : List Entry) (r : RawTree) (t : Tree) → Extends es fs → IsOver sig es r t → IsOver sig fs r t
+    pub over_more : (es fs : List Entry) (r : RawTree) (t : Tree) → KeepsNames es fs → IsOver sig es r t → IsOver sig fs r t
     over_more es fs (word name at args) (var n) x h = (h.0, h.1, named_stays es fs name n x h.2)
     over_more es fs (word name at args) (app f ts) x h = (h.0, over_more_all es fs args ts x h.1)
 
-    pub over_more_all : (es fs : List Entry) (rs : RawTrees) (ts : Trees) → Extends es fs → AreOver sig es rs ts → AreOver sig fs rs ts
+    pub over_more_all : (es fs : List Entry) (rs : RawTrees) (ts : Trees) → KeepsNames es fs → AreOver sig es rs ts → AreOver sig fs rs ts
     over_more_all es fs no_raws none x h = tt
     over_more_all es fs (more_raws r rs) (some t ts) x h = (over_more es fs r t x h.0, over_more_all es fs rs ts x h.1)
     over_more_all es fs no_raws (some t ts) x h = absurd h

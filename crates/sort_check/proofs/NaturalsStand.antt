@@ -14,7 +14,7 @@ use Rattle.sort_check.specs.Inference.{bound, left_argument}
 use Rattle.sort_check.specs.Signatures.{SignatureStands}
 use Rattle.sort_check.specs.Rules.{RuleStands}
 use Rattle.sort_check.specs.Goals.{GoalStands}
-use Rattle.sort_check.specs.StandsFor.{StandsFor}
+use Rattle.sort_check.specs.StandsFor.{IsNumbered, StandsFor}
 use Rattle.sort_check.specs.DeclarationTests.{declarations_tests, values_sig}
 use Rattle.sort_check.specs.RuleTests.{rule_tests}
 use Rattle.sort_check.specs.GoalTests.{goal_tests}
@@ -71,7 +71,7 @@ same_goal_stands = record {
   variables = refl;
   names = search rules;
   bound = ((refl, refl), ((refl, refl), tt));
-  sorts = (bound (binds (codes "x")) (inl refl) refl refl, (bound (binds (codes "y")) (inr (inl refl)) refl refl, tt));
+  sorts = (bound (binds (codes "x")) (0, omega arith, refl) refl refl, (bound (binds (codes "y")) (1, omega arith, refl) refl refl, tt));
   premises = tt;
   conclusions = (((refl, ((refl, x_new, refl), ((refl, y_new, refl), tt))), (refl, ((refl, x_new, refl), ((refl, x_new, refl), tt)))), tt);
   sorted = well_sorted.goals 0 same_goal refl;
@@ -83,14 +83,14 @@ unit_goal_stands = record {
   variables = refl;
   names = search rules;
   bound = tt;
-  sorts = (left_argument zero_adds_nothing (inl refl) (declares (nat ∷ nat ∷ []), (4, refl, refl), inl ((refl, refl, x_new), refl)), tt);
+  sorts = (left_argument zero_adds_nothing (0, omega arith, refl) (declares (nat ∷ nat ∷ []), (4, refl, refl), inl ((refl, refl, x_new), refl)), tt);
   premises = tt;
   conclusions = (((refl, ((refl, x_new, refl), ((refl, tt), tt))), (refl, x_new, refl)), tt);
   sorted = well_sorted.goals 1 unit_goal refl;
 }
 
-pub naturals_stand : StandsFor raw_naturals naturals
-naturals_stand = record {
+naturals_are_numbered : IsNumbered raw_naturals naturals
+naturals_are_numbered = record {
   signature = signature_stands;
   declared = declared;
   rules = (zero_rule_stands, (succ_rule_stands, tt));
@@ -157,8 +157,11 @@ goals_clean = (
   ),
 )
 
-pub naturals_have_no_fault : HasNoFault raw_naturals
+naturals_have_no_fault : HasNoFault raw_naturals
 naturals_have_no_fault = (declarations_clean raw_naturals.rules raw_naturals.goals, (rules_clean, goals_clean))
+
+pub naturals_stand : StandsFor raw_naturals naturals
+naturals_stand = record { clean = naturals_have_no_fault; numbered = naturals_are_numbered }
 
 pub loose_first : HasFirstFault (naturals_with (loose_rule ∷ []) []) 5 NotOnTheLeft
 loose_first = inr (

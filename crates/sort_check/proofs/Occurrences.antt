@@ -7,7 +7,7 @@ use Rattle.std.proofs.lemmas.Option.{slice_get_within, get_or_from_slice_get}
 use Rattle.term_core.specs.Tree.{Tree, Trees, var, app, none, some}
 use Rattle.spec_core.specs.Sig.{Sig, names_of}
 use Rattle.spec_core.specs.Declarations.{IsNewName, AreNewNames}
-use Rattle.spec_core.specs.WellSorted.{Numbered, NumberedAll}
+use Rattle.term_core.specs.Variables.{Numbered, NumberedAll}
 use Rattle.spec_grammar.specs.RawTree.{RawTree, RawTrees, word, none as no_raws, some as more_raws, raw_trees}
 use Rattle.sort_check.specs.Terms.{TermStands, TermsStand}
 use Rattle.sort_check.specs.Occurrence.{with_name, after_word, names_after, names_after_all}

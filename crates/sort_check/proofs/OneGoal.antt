@@ -1,5 +1,6 @@
 -- A raw goal stands for at most one goal: each variable has the one sort that it gets.
 use Rattle.std.proofs.Common.{◌≡◌, ℕ, suc, ◌⊎◌, inl, inr, List, [], ◌∷◌, ◌++◌, Some, refl, ap, sym, ◌∙◌, subst, length, take}
+use Rattle.std.specs.List.{AllZip}
 use Rattle.std.specs.Prelude.{slice_get}
 use Rattle.term_core.specs.Tree.{Tree, Trees, var, app, none, some}
 use Rattle.term_core.specs.declared.ids.SortId.{SortId}
@@ -16,10 +17,9 @@ use Rattle.spec_grammar.specs.RawTree.{RawTree, RawTrees, word, none as no_raws,
 use Rattle.spec_grammar.specs.declared.raw.RawBind.{RawBind}
 use Rattle.spec_grammar.specs.declared.raw.RawEq.{RawEq}
 use Rattle.spec_grammar.specs.declared.raw.RawGoal.{RawGoal}
-use Rattle.sort_check.specs.Pairwise.{Pairwise}
 use Rattle.sort_check.specs.Signatures.{SortStands}
 use Rattle.sort_check.specs.Terms.{TermStands, TermsStand, EquationStands}
-use Rattle.sort_check.specs.Inference.{IsIn, IsVariable, IsTaken, IsAnyTaken, HasResult, IsEquation, Gets, bound, left_argument, right_argument, left_side, right_side, as_right, as_left}
+use Rattle.sort_check.specs.Inference.{IsBareVariable, IsTaken, IsAnyTaken, HasResult, IsEquation, Gets, bound, left_argument, right_argument, left_side, right_side, as_right, as_left}
 use Rattle.sort_check.specs.Goals.{VariableStands, GoalStands}
 use Rattle.sort_check.proofs.Names.{new_not, one_place, only_distinct, symbols_distinct, sorts_distinct}
 use Rattle.sort_check.proofs.Pairs.{pairs_one, pairs_with}
@@ -27,21 +27,22 @@ use Rattle.sort_check.proofs.OneTerm.{one_equation}
 use Rattle.sort_check.proofs.OneSignature.{one_sort}
 use Rattle.sort_check.proofs.OneRule.{same_vars, name_of_place}
 use Rattle.term_core.proofs.Items.{all_at}
+use Rattle.term_core.proofs.Members.{In, in_contained}
 
-in_either : {A : Type 0} (x : A) (xs ys : List A) → IsIn x (xs ++ ys) → IsIn x xs ⊎ IsIn x ys
+in_either : {A : Type 0} (x : A) (xs ys : List A) → In x (xs ++ ys) → In x xs ⊎ In x ys
 in_either x [] ys h = inr h
 in_either x (y ∷ xs) ys (inl e) = inl (inl e)
 in_either x (y ∷ xs) ys (inr h) = elim (in_either x xs ys h) [ inl a ↦ inl (inr a) | inr b ↦ inr b ]
 
 -- the partner of one of the first list
-partner : {X Y : Type 0} (R : X → Y → Type 0) (xs : List X) (ys : List Y) (x : X) → IsIn x xs → Pairwise R xs ys → (y : Y) × R x y
+partner : {X Y : Type 0} (R : X → Y → Type 0) (xs : List X) (ys : List Y) (x : X) → In x xs → AllZip R xs ys → (y : Y) × R x y
 partner R [] ys x h p = absurd h
 partner R (z ∷ xs) [] x h p = absurd p
 partner R (z ∷ xs) (y ∷ ys) x (inl e) p = (y, subst (λ a. R a y) (sym e) p.0)
 partner R (z ∷ xs) (y ∷ ys) x (inr h) p = partner R xs ys x h p.1
 
 -- a binding's variable stands among the first ones
-bound_at : (sig : Sig) (binds : List RawBind) (vars : List VarInfo) (b : RawBind) → IsIn b binds → Pairwise (VariableStands sig) binds (take (length binds) vars) → (n : ℕ) × (s : SortId) × (slice_get (variable_names vars) n ≡ Some b.name.name) × (slice_get (sorts_of vars) n ≡ Some s) × SortStands sig.sorts b.sort s
+bound_at : (sig : Sig) (binds : List RawBind) (vars : List VarInfo) (b : RawBind) → In b binds → AllZip (VariableStands sig) binds (take (length binds) vars) → (n : ℕ) × (s : SortId) × (slice_get (variable_names vars) n ≡ Some b.name.name) × (slice_get (sorts_of vars) n ≡ Some s) × SortStands sig.sorts b.sort s
 bound_at sig [] vars b h p = absurd h
 bound_at sig (a ∷ binds) [] b h p = absurd p
 bound_at sig (a ∷ binds) (v ∷ vars) b (inl e) p =
@@ -58,11 +59,11 @@ module _ (sig : Sig) (distinct : AreNewNames [] (names_of sig)) (names : List (L
   has_at : (x : List ℕ) (s : SortId) (n : ℕ) → slice_get names n ≡ Some x → slice_get ctx n ≡ Some s → Has x s
   has_at x s n here is m there = ap (λ k. slice_get ctx k) (one_place [] names m n x different there here) ∙ is
 
-  variable_has : (x : List ℕ) (s : SortId) (raw : RawTree) (t : Tree) → IsVariable sig x raw → TermStands sig names raw t → Sorted sig ctx t s → Has x s
+  variable_has : (x : List ℕ) (s : SortId) (raw : RawTree) (t : Tree) → IsBareVariable sig x raw → TermStands sig names raw t → Sorted sig ctx t s → Has x s
   variable_has x s (word name at raws) (var n) v p is = has_at x s n (p.2 ∙ ap (λ m. Some m) v.0) is
   variable_has x s (word name at raws) (app f ts) v p is = absurd (new_not name (names_of sig) f v.2 p.0)
 
-  has_sort : (x : List ℕ) (s u : SortId) (raw : RawTree) (t : Tree) → IsVariable sig x raw → TermStands sig names raw t → Has x s → Sorted sig ctx t u → u ≡ s
+  has_sort : (x : List ℕ) (s u : SortId) (raw : RawTree) (t : Tree) → IsBareVariable sig x raw → TermStands sig names raw t → Has x s → Sorted sig ctx t u → u ≡ s
   has_sort x s u (word name at raws) (var n) v p has is = let e : Some u ≡ Some s = sym is ∙ has n (p.2 ∙ ap (λ m. Some m) v.0) in cc
   has_sort x s u (word name at raws) (app f ts) v p has is = absurd (new_not name (names_of sig) f v.2 p.0)
 
@@ -108,11 +109,11 @@ module _ (sig : Sig) (declared : IsDeclared sig) (raw : RawGoal) (goal : Goal) (
   abbrev different : AreNewNames [] names
   different = only_distinct (names_of sig) names is.names
 
-  equations : (raws : List RawEq) (es : List Equation) → Pairwise (EquationStands sig names) raws es → EquationsAreSorted sig ctx es → Pairwise (IsSortedAs sig names ctx) raws es
+  equations : (raws : List RawEq) (es : List Equation) → AllZip (EquationStands sig names) raws es → EquationsAreSorted sig ctx es → AllZip (IsSortedAs sig names ctx) raws es
   equations raws es all sorted = pairs_with (EquationStands sig names) (λ (e : Equation). (s : SortId) × Sorted sig ctx e.left s × Sorted sig ctx e.right s) raws es all sorted
 
   equation : (e : RawEq) → IsEquation sig raw e → (d : Equation) × IsSortedAs sig names ctx e d
-  equation e h = elim (in_either e raw.premises raw.conclusions h) [
+  equation e h = elim (in_either e raw.premises raw.conclusions (in_contained (raw.premises ++ raw.conclusions) e h)) [
     | inl a ↦ partner (IsSortedAs sig names ctx) raw.premises goal.premises e a (equations raw.premises goal.premises is.premises is.sorted.premises)
     | inr b ↦ partner (IsSortedAs sig names ctx) raw.conclusions goal.conclusions e b (equations raw.conclusions goal.conclusions is.conclusions is.sorted.conclusions)
   ]
@@ -120,7 +121,7 @@ module _ (sig : Sig) (declared : IsDeclared sig) (raw : RawGoal) (goal : Goal) (
   -- each variable has the sort that it gets
   pub has_what_it_gets : (x : List ℕ) (s : SortId) → Gets sig raw x s → Has sig distinct names different ctx x s
   has_what_it_gets x s (bound b there name sort) =
-      let r = bound_at sig raw.binds goal.vars b there is.bound in
+      let r = bound_at sig raw.binds goal.vars b (in_contained raw.binds b there) is.bound in
       let e : r.1 ≡ s = one_sort sig.sorts (sorts_distinct sig declared) b.sort r.1 s r.4 sort in
       has_at sig distinct names different ctx x s r.0 (r.2 ∙ ap (λ n. Some n) name) (r.3 ∙ ap (λ u. Some u) e)
   has_what_it_gets x s (left_argument e there taken) = let d = equation e there in taken_has sig distinct names different ctx x s d.1.1.0 e.left d.0.left taken d.1.0.0 d.1.1.1
@@ -151,6 +152,6 @@ one_goal sig declared raw g h is too =
     let name : g.name ≡ h.name = is.name ∙ sym too.name in
     let gets : (n : ℕ) (v : VarInfo) → slice_get g.vars n ≡ Some v → slice_get (sorts_of h.vars) n ≡ Some v.sort = λ n v at. has_what_it_gets sig declared raw h too v.name v.sort (all_at (λ (u : VarInfo). Gets sig raw u.name u.sort) g.vars is.sorts n v at) n (ap (λ ns. slice_get ns n) (sym same) ∙ name_of_place g.vars n v at) in
     let vars : g.vars ≡ h.vars = same_vars g.vars h.vars same gets in
-    let premises : g.premises ≡ h.premises = pairs_one (EquationStands sig mine) (one_equation sig distinct mine different) raw.premises g.premises h.premises is.premises (subst (λ ns. Pairwise (EquationStands sig ns) raw.premises h.premises) (sym same) too.premises) in
-    let conclusions : g.conclusions ≡ h.conclusions = pairs_one (EquationStands sig mine) (one_equation sig distinct mine different) raw.conclusions g.conclusions h.conclusions is.conclusions (subst (λ ns. Pairwise (EquationStands sig ns) raw.conclusions h.conclusions) (sym same) too.conclusions) in
+    let premises : g.premises ≡ h.premises = pairs_one (EquationStands sig mine) (one_equation sig distinct mine different) raw.premises g.premises h.premises is.premises (subst (λ ns. AllZip (EquationStands sig ns) raw.premises h.premises) (sym same) too.premises) in
+    let conclusions : g.conclusions ≡ h.conclusions = pairs_one (EquationStands sig mine) (one_equation sig distinct mine different) raw.conclusions g.conclusions h.conclusions is.conclusions (subst (λ ns. AllZip (EquationStands sig ns) raw.conclusions h.conclusions) (sym same) too.conclusions) in
     λ i. record { name = name i; vars = vars i; premises = premises i; conclusions = conclusions i }

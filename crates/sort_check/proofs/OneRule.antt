@@ -1,5 +1,6 @@
 -- A raw rule stands for at most one rule.
 use Rattle.std.proofs.Common.{◌≡◌, ℕ, suc, ◌≤◌, inl, inr, List, [], ◌∷◌, Some, refl, ap, sym, ◌∙◌, subst, arith, length}
+use Rattle.std.specs.List.{AllZip}
 use Rattle.std.specs.Prelude.{slice_get, option_map}
 use Rattle.std.proofs.lemmas.List.{take_all, length-map}
 use Rattle.std.proofs.lemmas.Option.{slice_get-map, slice_get_within}
@@ -12,11 +13,11 @@ use Rattle.spec_core.specs.declared.records.VarInfo.{VarInfo}
 use Rattle.spec_core.specs.Sig.{Sig}
 use Rattle.spec_core.specs.Sorts.{Sorted, SortedAll}
 use Rattle.spec_core.specs.Declarations.{AreNewNames, IsDeclared}
-use Rattle.spec_core.specs.WellSorted.{IsLeft, Occurs, OccursAny, sorts_of}
+use Rattle.term_core.specs.Variables.{Occurs, OccursAny}
+use Rattle.spec_core.specs.WellSorted.{IsLeft, sorts_of}
 use Rattle.spec_core.specs.TermText.{variable_names}
 use Rattle.spec_grammar.specs.declared.raw.RawGuard.{RawGuard}
 use Rattle.spec_grammar.specs.declared.raw.RawRule.{RawRule}
-use Rattle.sort_check.specs.Pairwise.{Pairwise}
 use Rattle.sort_check.specs.Occurrence.{names_after}
 use Rattle.sort_check.specs.Terms.{TermStands}
 use Rattle.sort_check.specs.Rules.{RuleStands, GuardStands}
@@ -90,7 +91,7 @@ module _ (sig : Sig) (declared : IsDeclared sig) where
       let names : variable_names q.vars ≡ variable_names r.vars = sym (rule_names sig raw q too) ∙ rule_names sig raw r is in
       let left : r.left ≡ q.left = one_term sig distinct mine is.names raw.left r.left q.left is.left (subst (λ ns. TermStands sig ns raw.left q.left) names too.left) in
       let right : r.right ≡ q.right = one_term sig distinct mine is.names raw.right r.right q.right is.right (subst (λ ns. TermStands sig ns raw.right q.right) names too.right) in
-      let guards : r.guards ≡ q.guards = pairs_one (GuardStands sig mine) (one_guard mine is.names) raw.guards r.guards q.guards is.guards (subst (λ ns. Pairwise (GuardStands sig ns) raw.guards q.guards) names too.guards) in
+      let guards : r.guards ≡ q.guards = pairs_one (GuardStands sig mine) (one_guard mine is.names) raw.guards r.guards q.guards is.guards (subst (λ ns. AllZip (GuardStands sig ns) raw.guards q.guards) names too.guards) in
       let long : length (sorts_of r.vars) ≡ length r.vars = length-map r.vars (λ (v : VarInfo). v.sort) in
       let there : Sorted sig (sorts_of q.vars) r.left too.sides.0 = subst (λ t. Sorted sig (sorts_of q.vars) t too.sides.0) (sym left) too.sides.1 in
       let occurs : (n : ℕ) (v : VarInfo) → slice_get r.vars n ≡ Some v → Occurs n r.left = λ n v at. numbered_occurs 0 (length (sorts_of r.vars)) r.left is.numbered n (omega arith) (omega (arith, slice_get_within r.vars n v at)) in

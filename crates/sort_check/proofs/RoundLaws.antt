@@ -6,7 +6,6 @@ use Rattle.term_core.specs.declared.ids.SortId.{SortId}
 use Rattle.spec_core.specs.Findings.{Clean, test}
 use Rattle.sort_check.specs.Answers.{Tells, Answers}
 use Rattle.sort_check.specs.Entries.{sort_at, Differ}
-use Rattle.sort_check.specs.Inference.{IsIn}
 use Rattle.sort_check.specs.Rounds.{shared, after_pair, round_tests, after_round, rounds_tests, after_rounds}
 use Rattle.sort_check.specs.Parts.{IsWithin}
 use Rattle.sort_check.specs.declared.entries.Pair.{Pair}
@@ -16,6 +15,7 @@ use Rattle.sort_check.specs.declared.faults.SortKind.TheVariants.{WrongSort}
 use Rattle.sort_check.proofs.Telling.{tells_first, tells_then}
 use Rattle.sort_check.proofs.Facts.{same_sort}
 use Rattle.term_core.proofs.Numbers.{same_or_not}
+use Rattle.term_core.proofs.Members.{In}
 
 abbrev one : Option SortId → ℕ
 one None = 1
@@ -94,7 +94,7 @@ shared_same ks p (Some s) (Some u) ea eb w d e = ap (λ x. Some x) (same_sort s 
 shared_same ks p None None ea eb w d e = refl
 
 -- where a round finds and changes nothing, both sides of each equation have one sort
-pub sides_same : (ks : List (Option SortId)) (ps : List Pair) → AllByRecursion (IsWithin ks) ps → Clean (round_tests ks ps) → after_round ks ps ≡ ks → (p : Pair) → IsIn p ps → sort_at ks p.left ≡ sort_at ks p.right
+pub sides_same : (ks : List (Option SortId)) (ps : List Pair) → AllByRecursion (IsWithin ks) ps → Clean (round_tests ks ps) → after_round ks ps ≡ ks → (p : Pair) → In p ps → sort_at ks p.left ≡ sort_at ks p.right
 sides_same ks [] w c e p i = absurd i
 sides_same ks (q ∷ ps) w c e p (inl is) =
     let here = shared_same ks q (sort_at ks q.left) (sort_at ks q.right) refl refl w.0 c.0 (first_still ks q ps w e) in
@@ -143,7 +143,7 @@ rounds_keep zero ks ps n s e = e
 rounds_keep (suc k) ks ps n s e = rounds_keep k (after_round ks ps) ps n s (round_keeps ks ps n s e)
 
 -- what holds of the sorts that are known, and goes from side to side of each equation, holds at the end
-module _ (P : ℕ → SortId → Type 0) (all : List Pair) (to_right : (p : Pair) (s : SortId) → IsIn p all → P p.left s → P p.right s) (to_left : (p : Pair) (s : SortId) → IsIn p all → P p.right s → P p.left s) where
+module _ (P : ℕ → SortId → Type 0) (all : List Pair) (to_right : (p : Pair) (s : SortId) → In p all → P p.left s → P p.right s) (to_left : (p : Pair) (s : SortId) → In p all → P p.right s → P p.left s) where
   abbrev pub Known : List (Option SortId) → Type 0
   Known ks = (n : ℕ) (s : SortId) → sort_at ks n ≡ Some s → P n s
 
@@ -156,13 +156,13 @@ module _ (P : ℕ → SortId → Type 0) (all : List Pair) (to_right : (p : Pair
     | inr q ↦ h n s (sym (get_or-set_other ks m n (Some u) None q) ∙ e)
   ]
 
-  shared_known : (ks : List (Option SortId)) (p : Pair) (a b : Option SortId) → sort_at ks p.left ≡ a → sort_at ks p.right ≡ b → IsWithin ks p → IsIn p all → Known ks → Known (shared ks p a b)
+  shared_known : (ks : List (Option SortId)) (p : Pair) (a b : Option SortId) → sort_at ks p.left ≡ a → sort_at ks p.right ≡ b → IsWithin ks p → In p all → Known ks → Known (shared ks p a b)
   shared_known ks p (Some u) None ea eb w i h = set_known ks p.right u w.1 h (to_right p u i (h p.left u ea))
   shared_known ks p None (Some u) ea eb w i h = set_known ks p.left u w.0 h (to_left p u i (h p.right u eb))
   shared_known ks p (Some u) (Some v) ea eb w i h = h
   shared_known ks p None None ea eb w i h = h
 
-  round_known : (ks : List (Option SortId)) (ps : List Pair) → AllByRecursion (IsWithin ks) ps → ((p : Pair) → IsIn p ps → IsIn p all) → Known ks → Known (after_round ks ps)
+  round_known : (ks : List (Option SortId)) (ps : List Pair) → AllByRecursion (IsWithin ks) ps → ((p : Pair) → In p ps → In p all) → Known ks → Known (after_round ks ps)
   round_known ks [] w i h = h
   round_known ks (p ∷ ps) w i h = round_known (after_pair ks p) ps (within_long ks (after_pair ks p) ps (pair_long ks p) w.1) (λ q j. i q (inr j)) (shared_known ks p (sort_at ks p.left) (sort_at ks p.right) refl refl w.0 (i p (inl refl)) h)
 
@@ -175,7 +175,7 @@ rounds_long zero ks ps = refl
 rounds_long (suc k) ks ps = rounds_long k (after_round ks ps) ps ∙ round_long ks ps
 
 -- both sides of each equation have one sort after enough rounds
-pub rounds_same : (k : ℕ) (ks : List (Option SortId)) (ps : List Pair) → length ks < k → AllByRecursion (IsWithin ks) ps → Clean (rounds_tests k ks ps) → (p : Pair) → IsIn p ps → sort_at (after_rounds k ks ps) p.left ≡ sort_at (after_rounds k ks ps) p.right
+pub rounds_same : (k : ℕ) (ks : List (Option SortId)) (ps : List Pair) → length ks < k → AllByRecursion (IsWithin ks) ps → Clean (rounds_tests k ks ps) → (p : Pair) → In p ps → sort_at (after_rounds k ks ps) p.left ≡ sort_at (after_rounds k ks ps) p.right
 rounds_same k ks ps l w c =
     let end = after_rounds k ks ps in
     let x = settled k ks ps w (omega (arith, nones_le ks)) c in

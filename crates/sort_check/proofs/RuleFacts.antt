@@ -1,6 +1,6 @@
 -- What is found at a rule, and the rule that its parts make.
 use Rattle.std.proofs.Common.{◌≡◌, ◌≢◌, ◌≤◌, ◌<◌, ℕ, List, [], ◌∷◌, Option, Some, None, ◌⊎◌, inl, inr, refl, ap, sym, ◌∙◌, subst, arith, length}
-use Rattle.std.specs.List.{AllByRecursion}
+use Rattle.std.specs.List.{AllByRecursion, AllZip}
 use Rattle.std.proofs.lemmas.List.{length-map}
 use Rattle.term_core.specs.Tree.{Tree, app, trees_of}
 use Rattle.term_core.specs.declared.ids.SortId.{SortId}
@@ -10,7 +10,8 @@ use Rattle.spec_core.specs.declared.records.Guard.{Guard}
 use Rattle.spec_core.specs.Declarations.{bool_sort, AreNewNames}
 use Rattle.spec_core.specs.Sig.{Sig, info_of, names_of, IsConstructor}
 use Rattle.spec_core.specs.Sorts.{Sorted}
-use Rattle.spec_core.specs.WellSorted.{Numbered, NumberedAll, sorts_of}
+use Rattle.term_core.specs.Variables.{Numbered, NumberedAll}
+use Rattle.spec_core.specs.WellSorted.{sorts_of}
 use Rattle.spec_core.specs.TermText.{variable_names}
 use Rattle.spec_core.specs.Findings.{Search, Clean, First, each}
 use Rattle.spec_grammar.specs.RawTree.{RawTree, word, raw_trees}
@@ -23,7 +24,6 @@ use Rattle.sort_check.specs.Words.{symbol_named, info_at, entries_after, entries
 use Rattle.sort_check.specs.Occurrence.{names_after_all}
 use Rattle.sort_check.specs.RuleTests.{root_tests, inner_tests, body_tests, guard_tests}
 use Rattle.sort_check.specs.Over.{IsOver, AreOver, AreOverBehind, IsGuardOver, variables_of}
-use Rattle.sort_check.specs.Pairwise.{Pairwise}
 use Rattle.sort_check.specs.Parts.{AreSorted, root_name, root_place, arguments_of, counted, counted_tests, IsRoot, below_tests}
 use Rattle.sort_check.specs.Terms.{TermStands, TermsStand}
 use Rattle.sort_check.specs.Rules.{GuardStands, RuleStands}
@@ -36,7 +36,7 @@ use Rattle.sort_check.specs.declared.faults.Part.TheVariants.{Left, Right}
 use Rattle.sort_check.proofs.Occurrences.{distinct_after_all}
 use Rattle.sort_check.proofs.Telling.{tells_first, tells_then}
 use Rattle.sort_check.proofs.Names.{place_is}
-use Rattle.sort_check.proofs.Growth.{Extends, Keeps, extends_self}
+use Rattle.sort_check.proofs.Growth.{KeepsNames, Keeps, extends_self}
 use Rattle.sort_check.proofs.Walks.{count_is, args_are, info_is}
 use Rattle.sort_check.proofs.Facts.{HasSorts, all_facts, right_facts, info_known, names_after_all_are, over_stands, over_stand, right_same, sorted_after_all}
 use Rattle.sort_check.proofs.SortedVariables.{names_are, sorts_are, variables_long}
@@ -102,8 +102,8 @@ module _ (sig : Sig) (rule : RawRule) (name : List ℕ) (at f : ℕ) (args : Lis
       let q : s ≡ result = e ∙ sym (ap (λ (j : SymInfo). j.result) (info_is sig f i k)) in
       (subst (λ u. Clean (term_tests sig Right v0 WrongSort rule.right (Some u))) q h.0, (same, subst (λ vs. IsOver sig vs rule.right t) same h.1.1))
 
-  pub guards_are : (v0 v1 v2 : List Entry) (xs : List RawGuard) (gs : List Guard) → v1 ≡ v0 → xs ≡ rule.guards → Clean (each (guard_tests sig v1) xs) × ((v2 ≡ v1) × Pairwise (IsGuardOver sig v1) xs gs) → Clean (each (guard_tests sig v0) rule.guards) × ((v2 ≡ v0) × Pairwise (IsGuardOver sig v0) rule.guards gs)
-  guards_are v0 v1 v2 xs gs a b h = subst (λ rs. Clean (each (guard_tests sig v0) rs) × ((v2 ≡ v0) × Pairwise (IsGuardOver sig v0) rs gs)) b (subst (λ vs. Clean (each (guard_tests sig vs) xs) × ((v2 ≡ vs) × Pairwise (IsGuardOver sig vs) xs gs)) a h)
+  pub guards_are : (v0 v1 v2 : List Entry) (xs : List RawGuard) (gs : List Guard) → v1 ≡ v0 → xs ≡ rule.guards → Clean (each (guard_tests sig v1) xs) × ((v2 ≡ v1) × AllZip (IsGuardOver sig v1) xs gs) → Clean (each (guard_tests sig v0) rule.guards) × ((v2 ≡ v0) × AllZip (IsGuardOver sig v0) rule.guards gs)
+  guards_are v0 v1 v2 xs gs a b h = subst (λ rs. Clean (each (guard_tests sig v0) rs) × ((v2 ≡ v0) × AllZip (IsGuardOver sig v0) rs gs)) b (subst (λ vs. Clean (each (guard_tests sig vs) xs) × ((v2 ≡ vs) × AllZip (IsGuardOver sig vs) xs gs)) a h)
 
   module _ (es : List Entry) (made : es ≡ end) where
     pub left_sorted : AreSorted es
@@ -134,7 +134,7 @@ module _ (sig : Sig) (rule : RawRule) (name : List ℕ) (at f : ℕ) (args : Lis
       vars_names : variable_names vars ≡ entry_names es
       vars_names = names_are es (known_sorts es) known_long
 
-      guards_sorted : (gs : List Guard) (rs : List RawGuard) → Clean (each (guard_tests sig es) rs) → Pairwise (IsGuardOver sig es) rs gs → AllByRecursion (λ (g : Guard). Sorted sig (sorts_of vars) g.test bool_sort) gs
+      guards_sorted : (gs : List Guard) (rs : List RawGuard) → Clean (each (guard_tests sig es) rs) → AllZip (IsGuardOver sig es) rs gs → AllByRecursion (λ (g : Guard). Sorted sig (sorts_of vars) g.test bool_sort) gs
       guards_sorted [] [] c p = tt
       guards_sorted (g ∷ gs) [] c p = absurd p
       guards_sorted [] (r ∷ rs) c p = absurd p
@@ -142,7 +142,7 @@ module _ (sig : Sig) (rule : RawRule) (name : List ℕ) (at f : ℕ) (args : Lis
           let h = right_facts sig (sorts_of vars) es GuardNotBool r.test (Some bool_sort) g.test has_sorts left_sorted c.0 p.0.0 in
           (h.sorted bool_sort refl, guards_sorted gs rs c.1 p.1)
 
-      guards_stand : (gs : List Guard) (rs : List RawGuard) → Pairwise (IsGuardOver sig es) rs gs → Pairwise (GuardStands sig (variable_names vars)) rs gs
+      guards_stand : (gs : List Guard) (rs : List RawGuard) → AllZip (IsGuardOver sig es) rs gs → AllZip (GuardStands sig (variable_names vars)) rs gs
       guards_stand [] [] p = tt
       guards_stand (g ∷ gs) [] p = absurd p
       guards_stand [] (r ∷ rs) p = absurd p
@@ -152,10 +152,10 @@ module _ (sig : Sig) (rule : RawRule) (name : List ℕ) (at f : ℕ) (args : Lis
       left_names = ap (λ xs. entry_names xs) made ∙ names_after_all_are sig Left [] (raw_trees args) sorts here.2 lefts
 
       -- the rule that the parts make
-      pub rule_made : (ts : List Tree) (left right : Tree) (guards : List Guard) → length es ≤ 16 → AreOverBehind sig es (raw_trees args) [] ts → left ≡ app f (trees_of ts) → Clean (term_tests sig Right es WrongSort rule.right (Some result)) → IsOver sig es rule.right right → Clean (each (guard_tests sig es) rule.guards) → Pairwise (IsGuardOver sig es) rule.guards guards → Clean (below_tests sig rule.left rule) × RuleStands sig rule (record { vars = vars; left = left; right = right; guards = guards })
+      pub rule_made : (ts : List Tree) (left right : Tree) (guards : List Guard) → length es ≤ 16 → AreOverBehind sig es (raw_trees args) [] ts → left ≡ app f (trees_of ts) → Clean (term_tests sig Right es WrongSort rule.right (Some result)) → IsOver sig es rule.right right → Clean (each (guard_tests sig es) rule.guards) → AllZip (IsGuardOver sig es) rule.guards guards → Clean (below_tests sig rule.left rule) × RuleStands sig rule (record { vars = vars; left = left; right = right; guards = guards })
       rule_made ts left right guards few b el cr sr cg sg =
           let all : AreOver sig es (raw_trees args) (trees_of ts) = subst (λ xs. AreOver sig es (raw_trees args) (trees_of xs)) (sym b.1) b.2 in
-          let af = all_facts sig Left (sorts_of vars) es has_sorts [] (raw_trees args) sorts (trees_of ts) here.2 lefts (subst (λ xs. Extends xs es) made (extends_self es)) (subst (λ xs. Keeps xs es) made (λ n s e. e)) all in
+          let af = all_facts sig Left (sorts_of vars) es has_sorts [] (raw_trees args) sorts (trees_of ts) here.2 lefts (subst (λ xs. KeepsNames xs es) made (extends_self es)) (subst (λ xs. Keeps xs es) made (λ n s e. e)) all in
           let rf = right_facts sig (sorts_of vars) es WrongSort rule.right (Some result) right has_sorts left_sorted cr sr in
           let long : length end ≡ length (sorts_of vars) = omega (arith, ap (λ xs. length xs) made, sorts_long vars, variables_long es (known_sorts es) known_long) in
           let numbered : Numbered 0 (app f (trees_of ts)) (length (sorts_of vars)) = subst (λ m. NumberedAll 0 (trees_of ts) m) long af.numbered in

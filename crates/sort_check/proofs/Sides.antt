@@ -1,5 +1,6 @@
 -- The sides of equations over variables as they are met.
 use Rattle.std.proofs.Common.{◌≡◌, ◌<◌, ℕ, zero, suc, ◌+◌, List, [], ◌∷◌, ◌++◌, Option, Some, None, refl, ap, sym, ◌∙◌, subst, arith, length, take, get_or, append_assoc}
+use Rattle.std.specs.List.{AllZip}
 use Rattle.std.proofs.lemmas.List.{append-nil}
 use Rattle.term_core.specs.Tree.{Tree}
 use Rattle.term_core.specs.declared.ids.SortId.{SortId}
@@ -10,27 +11,26 @@ use Rattle.spec_grammar.specs.declared.raw.RawEq.{RawEq}
 use Rattle.sort_check.specs.Words.{entries_after, term_tests}
 use Rattle.sort_check.specs.GoalTests.{own_sort, wanted, sides_tests, after_sides, with_pair, pair_of, pairs_in}
 use Rattle.sort_check.specs.Over.{IsOver, IsEquationOver}
-use Rattle.sort_check.specs.Pairwise.{Pairwise}
 use Rattle.sort_check.specs.declared.entries.Entry.{Entry}
 use Rattle.sort_check.specs.declared.entries.Pair.{Pair}
 use Rattle.sort_check.specs.declared.faults.SortKind.TheVariants.{WrongSort}
 use Rattle.sort_check.specs.declared.faults.Part.{Part}
 use Rattle.sort_check.specs.declared.faults.Part.TheVariants.{Goal}
-use Rattle.sort_check.proofs.Growth.{Extends, Keeps, extends_both, extends, keeps, over_more}
+use Rattle.sort_check.proofs.Growth.{KeepsNames, Keeps, extends_both, extends, keeps, over_more}
 
 module _ (sig : Sig) where
   -- the sides of an equation keep the variables, and their sorts
-  pub after_extends : (es : List Entry) (e : RawEq) → Extends es (after_sides sig es e)
+  pub after_extends : (es : List Entry) (e : RawEq) → KeepsNames es (after_sides sig es e)
   after_extends es e = extends_both es (entries_after sig es e.left None) (after_sides sig es e) (extends sig es e.left None) (extends sig (entries_after sig es e.left None) e.right (wanted (own_sort sig e.left) (own_sort sig e.right)))
 
   pub after_keeps : (es : List Entry) (e : RawEq) → Keeps es (after_sides sig es e)
   after_keeps es e n s h = keeps sig (entries_after sig es e.left None) e.right (wanted (own_sort sig e.left) (own_sort sig e.right)) n s (keeps sig es e.left None n s h)
 
-  pub sides_extend : (es fs : List Entry) (e : RawEq) → fs ≡ after_sides sig es e → Extends es fs
-  sides_extend es fs e is = subst (λ gs. Extends es gs) (sym is) (after_extends es e)
+  pub sides_extend : (es fs : List Entry) (e : RawEq) → fs ≡ after_sides sig es e → KeepsNames es fs
+  sides_extend es fs e is = subst (λ gs. KeepsNames es gs) (sym is) (after_extends es e)
 
   -- equations over the variables are equations over more of them
-  pub equations_more : (es fs : List Entry) → Extends es fs → (raws : List RawEq) (ts : List Equation) → Pairwise (IsEquationOver sig es) raws ts → Pairwise (IsEquationOver sig fs) raws ts
+  pub equations_more : (es fs : List Entry) → KeepsNames es fs → (raws : List RawEq) (ts : List Equation) → AllZip (IsEquationOver sig es) raws ts → AllZip (IsEquationOver sig fs) raws ts
   equations_more es fs x [] [] p = tt
   equations_more es fs x (r ∷ rs) [] p = absurd p
   equations_more es fs x [] (t ∷ ts) p = absurd p
@@ -40,7 +40,7 @@ module _ (sig : Sig) where
   pub sides_made : (es fs gs : List Entry) (raw : RawEq) (left right : Tree) (place : Option SortId) → place ≡ wanted (own_sort sig raw.left) (own_sort sig raw.right) → fs ≡ entries_after sig es raw.left None → IsOver sig fs raw.left left → gs ≡ entries_after sig fs raw.right place → IsOver sig gs raw.right right → (gs ≡ after_sides sig es raw) × IsEquationOver sig gs raw (record { left = left; right = right })
   sides_made es fs gs raw left right place is a l b r =
       let whole : gs ≡ after_sides sig es raw = b ∙ (λ i. entries_after sig (a i) raw.right (is i)) in
-      (whole, (over_more sig fs gs raw.left left (subst (λ us. Extends fs us) (sym b) (extends sig fs raw.right place)) l, r))
+      (whole, (over_more sig fs gs raw.left left (subst (λ us. KeepsNames fs us) (sym b) (extends sig fs raw.right place)) l, r))
 
   pub sides_answer : (part : Part) (es fs gs : List Entry) (raw : RawEq) (left right : Tree) (place : Option SortId) → part ≡ Goal → place ≡ wanted (own_sort sig raw.left) (own_sort sig raw.right) → Clean (term_tests sig part es WrongSort raw.left None) × ((fs ≡ entries_after sig es raw.left None) × IsOver sig fs raw.left left) → Clean (term_tests sig part fs WrongSort raw.right place) × ((gs ≡ entries_after sig fs raw.right place) × IsOver sig gs raw.right right) → Clean (sides_tests sig es raw) × ((gs ≡ after_sides sig es raw) × IsEquationOver sig gs raw (record { left = left; right = right }))
   sides_answer part es fs gs raw left right place goal is a b =

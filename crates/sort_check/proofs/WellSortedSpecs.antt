@@ -1,7 +1,8 @@
 -- What a raw specification within the limits stands for is well sorted.
 use Rattle.std.proofs.Common.{◌≡◌, ℕ, zero, suc, ◌≤◌, List, [], ◌∷◌, Some, None, sym, subst, arith, length}
 use Rattle.std.specs.Prelude.{slice_get, option_map, codes}
-use Rattle.std.specs.List.{AllByRecursion}
+use Rattle.std.specs.List.{AllByRecursion, AllZip}
+use Rattle.std.proofs.lemmas.Slice.Zip.{AllZip-long}
 use Rattle.term_core.specs.Tree.{Tree}
 use Rattle.spec_core.specs.declared.records.SymInfo.{SymInfo}
 use Rattle.spec_core.specs.declared.records.Guard.{Guard}
@@ -19,19 +20,17 @@ use Rattle.spec_grammar.specs.declared.raw.RawFun.{RawFun}
 use Rattle.spec_grammar.specs.declared.raw.RawGuard.{RawGuard}
 use Rattle.spec_grammar.specs.declared.raw.RawRule.{RawRule}
 use Rattle.spec_grammar.specs.declared.raw.RawSpec.{RawSpec}
-use Rattle.sort_check.specs.Pairwise.{Pairwise}
 use Rattle.sort_check.specs.Signatures.{sort_names, SortStands, ConstructorStands, ConstructorsStand, FunctionStands, SignatureStands}
 use Rattle.sort_check.specs.Terms.{TermStands}
 use Rattle.sort_check.specs.Rules.{GuardStands, RuleStands}
 use Rattle.sort_check.specs.Goals.{GoalStands}
-use Rattle.sort_check.specs.StandsFor.{StandsFor}
-use Rattle.sort_check.proofs.Pairs.{pairs_long}
+use Rattle.sort_check.specs.StandsFor.{IsNumbered}
 use Rattle.sort_check.proofs.KeptSizes.{same_depth}
 use Rattle.term_core.proofs.Items.{all_at, all_append}
 use Rattle.spec_core.proofs.Values.{numbered_occurs}
 
 -- what is known of the partners of what is known
-pairs_have : {X Y : Type 0} (R : X → Y → Type 0) (P : X → Type 0) (Q : Y → Type 0) → ((x : X) (y : Y) → P x → R x y → Q y) → (xs : List X) (ys : List Y) → AllByRecursion P xs → Pairwise R xs ys → AllByRecursion Q ys
+pairs_have : {X Y : Type 0} (R : X → Y → Type 0) (P : X → Type 0) (Q : Y → Type 0) → ((x : X) (y : Y) → P x → R x y → Q y) → (xs : List X) (ys : List Y) → AllByRecursion P xs → AllZip R xs ys → AllByRecursion Q ys
 pairs_have R P Q so [] [] a p = tt
 pairs_have R P Q so (x ∷ xs) (y ∷ ys) a p = (so x y a.0 p.0, pairs_have R P Q so xs ys a.1 p.1)
 pairs_have R P Q so [] (y ∷ ys) a p = absurd p
@@ -44,10 +43,10 @@ HasFew e = length e.1.args ≤ 8
 
 module _ (sorts : List (List ℕ)) where
   constructor_few : (sort : ℕ) (raw : RawNames) (e : List ℕ × SymInfo) → NamesKeepLimits raw → ConstructorStands sorts sort raw e → HasFew e
-  constructor_few sort raw e keeps stands = omega (arith, pairs_long (SortStands sorts) raw.args e.1.args stands.1, keeps.few_arguments)
+  constructor_few sort raw e keeps stands = omega (arith, AllZip-long (SortStands sorts) raw.args e.1.args stands.1, keeps.few_arguments)
 
   function_few : (raw : RawFun) (e : List ℕ × SymInfo) → FunctionKeepsLimits raw → FunctionStands sorts raw e → HasFew e
-  function_few raw e keeps stands = omega (arith, pairs_long (SortStands sorts) raw.head.args e.1.args stands.1, keeps.head.few_arguments)
+  function_few raw e keeps stands = omega (arith, AllZip-long (SortStands sorts) raw.head.args e.1.args stands.1, keeps.head.few_arguments)
 
   constructors_few : (sort : ℕ) (raws : List RawSort) (es : List (List ℕ × SymInfo)) → AllByRecursion SortKeepsLimits raws → ConstructorsStand sorts sort raws es → AllByRecursion HasFew es
   constructors_few sort [] es keeps stands = subst (λ ds. AllByRecursion HasFew ds) (sym stands) tt
@@ -88,13 +87,13 @@ module _ (sig : Sig) where
         shallow_guards = pairs_have (GuardStands sig names) (λ (g : RawGuard). TermKeepsLimits g.test) (λ (g : Guard). IsShallow g.test) (λ r g k p. shallow names r.test g.test k p.0) raw.guards rule.guards keeps.guards stands.guards;
       }
 
-pub stands_well_sorted : (raw : RawSpec) (spec : Spec) → KeepsLimits raw → StandsFor raw spec → IsWellSorted spec
-stands_well_sorted raw spec keeps stands = record {
+pub numbered_well_sorted : (raw : RawSpec) (spec : Spec) → KeepsLimits raw → IsNumbered raw spec → IsWellSorted spec
+numbered_well_sorted raw spec keeps stands = record {
   signature = stands.declared;
   arities = few_arguments raw spec.sig keeps stands.signature;
   rules = all_at (RuleIsSorted spec.sig) spec.rules (pairs_have (RuleStands spec.sig) RuleKeepsLimits (RuleIsSorted spec.sig) (rule_is_sorted spec.sig) raw.rules spec.rules keeps.rules stands.rules);
   goals = all_at (GoalIsSorted spec.sig) spec.goals (pairs_have (GoalStands spec.sig) GoalKeepsLimits (GoalIsSorted spec.sig) (λ r g k p. p.sorted) raw.goals spec.goals keeps.goals stands.goals);
   names = stands.names;
-  few_rules = omega (arith, pairs_long (RuleStands spec.sig) raw.rules spec.rules stands.rules, keeps.few_rules);
-  few_goals = omega (arith, pairs_long (GoalStands spec.sig) raw.goals spec.goals stands.goals, keeps.few_goals);
+  few_rules = omega (arith, AllZip-long (RuleStands spec.sig) raw.rules spec.rules stands.rules, keeps.few_rules);
+  few_goals = omega (arith, AllZip-long (GoalStands spec.sig) raw.goals spec.goals stands.goals, keeps.few_goals);
 }

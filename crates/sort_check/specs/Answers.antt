@@ -1,8 +1,7 @@
 -- What a call that looks for the first fault answers.
-use Rattle.std.specs.Prelude.{◌≡◌, ℕ, ◌⊎◌, Result, Ok, Err}
+use Rattle.std.specs.Prelude.{◌≡◌, ◌⊎◌, Result, Ok, Err}
 use Rattle.spec_core.specs.Findings.{Search, Clean, First}
 use Rattle.sort_check.specs.declared.faults.SortFault.{SortFault}
-use Rattle.sort_check.specs.declared.faults.SortKind.{SortKind}
 use Rattle.sort_check.specs.declared.faults.SortFault.TheVariants.{Sort, OutOfMemory}
 
 -- the fault is the first one that the search finds; want of memory may always come
@@ -15,6 +14,6 @@ abbrev pub Answers : {T : Type 0} → Search SortFault → (T → Type 0) → Re
 Answers s P (Ok x) = Clean s × P x
 Answers s P (Err e) = Tells s e
 
--- the fault is told, unless memory ran out
-abbrev pub IsRefusal : {T : Type 0} → ℕ → SortKind → Result T SortFault → Type 0
-IsRefusal at kind r = (r ≡ Err (Sort at kind)) ⊎ (r ≡ Err OutOfMemory)
+-- the result is the one that is wanted, unless memory ran out
+abbrev pub IsUnlessNoMemory : {T : Type 0} → Result T SortFault → Result T SortFault → Type 0
+IsUnlessNoMemory r wanted = (r ≡ wanted) ⊎ (r ≡ Err OutOfMemory)

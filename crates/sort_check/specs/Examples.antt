@@ -12,7 +12,7 @@ use Rattle.spec_grammar.specs.declared.raw.RawRule.{RawRule}
 use Rattle.spec_grammar.specs.declared.raw.RawGoal.{RawGoal}
 use Rattle.spec_grammar.specs.declared.raw.RawSpec.{RawSpec}
 use Rattle.sort_check.specs.StandsFor.{StandsFor}
-use Rattle.sort_check.specs.FirstFault.{HasNoFault, HasFirstFault}
+use Rattle.sort_check.specs.FirstFault.{HasFirstFault}
 use Rattle.sort_check.specs.declared.faults.SortKind.TheVariants.{RepeatedName, NotOnTheLeft, SortNotInferred}
 
 -- a name at a place, 0 where the place doesn't matter
@@ -95,9 +95,8 @@ abbrev pub nat_twice : RawSpec
 nat_twice = record { sorts = nat_sort ∷ record { head = name_at (codes "Nat") 9; constructors = [] } ∷ []; funs = plus_function ∷ []; rules = loose_rule ∷ []; goals = [] }
 
 pub record WorkedExamples : Type 0 where
-  -- raw naturals stand for naturals, and no test finds a fault
+  -- raw naturals stand for naturals
   pub stands : StandsFor raw_naturals naturals
-  pub no_fault : HasNoFault raw_naturals
   -- the variable x of plus(zero, y) = x isn't on the left side
   pub loose : HasFirstFault (naturals_with (loose_rule ∷ []) []) 5 NotOnTheLeft
   -- nothing gives a sort to the variables of x = y, of which x comes first

@@ -93,6 +93,13 @@ module _ (sig : Sig) where
   abbrev pub after_sides : List Entry → RawEq → List Entry
   after_sides es e = entries_after sig (entries_after sig es e.left None) e.right (wanted (own_sort e.left) (own_sort e.right))
 
+  -- the words of the sides of equations, in order, and the variables after them
+  abbrev pub all_sides_tests : List Entry → List RawEq → Search SortFault
+  all_sides_tests es eqs = in_turn sides_tests after_sides es eqs
+
+  abbrev pub after_all_sides : List Entry → List RawEq → List Entry
+  after_all_sides es eqs = left_by after_sides es eqs
+
   -- an equation of a variable and a term that is none: the variable is at a place of the term's sort
   abbrev pub opposed_tests : List Entry → RawEq → Option SortId → Option SortId → Search SortFault
   opposed_tests es e (Some s) None = term_tests sig Goal es WrongSort e.right (Some s)
@@ -122,7 +129,10 @@ module _ (sig : Sig) where
   pairs_in es [] = []
   pairs_in es (e ∷ rest) = with_pair (pair_of es e (own_sort e.left) (own_sort e.right)) (pairs_in es rest)
 
-  -- the variables after the equations with one variable for a side
+  -- the equations with one variable for a side, in order, and the variables after them
+  abbrev pub all_opposite_tests : List Entry → List RawEq → Search SortFault
+  all_opposite_tests es eqs = in_turn opposite_tests after_opposite es eqs
+
   abbrev pub opposed_by : List Entry → List RawEq → List Entry
   opposed_by es eqs = left_by after_opposite es eqs
 
@@ -134,7 +144,7 @@ module _ (sig : Sig) where
   abbrev pub sorts_tests : List Entry → List RawEq → Search SortFault
   sorts_tests es eqs =
       let opposed = opposed_by es eqs in
-      then (in_turn opposite_tests after_opposite es eqs) (then (rounds_tests (rounds opposed) (known_sorts opposed) (pairs_in opposed eqs)) (inferred_tests opposed (inferred opposed eqs)))
+      then (all_opposite_tests es eqs) (then (rounds_tests (rounds opposed) (known_sorts opposed) (pairs_in opposed eqs)) (inferred_tests opposed (inferred opposed eqs)))
 
   -- bindings in order, of which there are at most 16
   abbrev pub binds_tests : List RawBind → Search SortFault
@@ -142,7 +152,7 @@ module _ (sig : Sig) where
 
   -- equations over variables that are bound: all words, and then the sorts of variables
   abbrev pub equations_tests : List Entry → List RawEq → Search SortFault
-  equations_tests es eqs = then (in_turn sides_tests after_sides es eqs) (sorts_tests (left_by after_sides es eqs) eqs)
+  equations_tests es eqs = then (all_sides_tests es eqs) (sorts_tests (after_all_sides es eqs) eqs)
 
   -- a goal behind its name
   abbrev pub clause_tests : RawGoal → Search SortFault

@@ -1,6 +1,6 @@
 -- The goal that a raw goal stands for.
 use Rattle.std.specs.Prelude.{◌≡◌, ℕ, List, ◌++◌, length, map, take}
-use Rattle.std.specs.List.{AllByRecursion}
+use Rattle.std.specs.List.{AllByRecursion, AllZip}
 use Rattle.spec_core.specs.declared.records.Goal.{Goal}
 use Rattle.spec_core.specs.declared.records.VarInfo.{VarInfo}
 use Rattle.spec_core.specs.Sig.{Sig, names_of}
@@ -9,7 +9,6 @@ use Rattle.spec_core.specs.WellSorted.{GoalIsSorted}
 use Rattle.spec_core.specs.TermText.{variable_names}
 use Rattle.spec_grammar.specs.declared.raw.RawBind.{RawBind}
 use Rattle.spec_grammar.specs.declared.raw.RawGoal.{RawGoal}
-use Rattle.sort_check.specs.Pairwise.{Pairwise}
 use Rattle.sort_check.specs.Signatures.{SortStands}
 use Rattle.sort_check.specs.Terms.{EquationStands}
 use Rattle.sort_check.specs.Occurrence.{names_after_sides}
@@ -30,8 +29,8 @@ pub record GoalStands (sig : Sig) (raw : RawGoal) (goal : Goal) : Type 0 where
   pub name : goal.name ≡ raw.head.name
   pub variables : variable_names goal.vars ≡ goal_names sig raw
   pub names : AreNewNames (names_of sig) (variable_names goal.vars)
-  pub bound : Pairwise (VariableStands sig) raw.binds (take (length raw.binds) goal.vars)
+  pub bound : AllZip (VariableStands sig) raw.binds (take (length raw.binds) goal.vars)
   pub sorts : AllByRecursion (λ (v : VarInfo). Gets sig raw v.name v.sort) goal.vars
-  pub premises : Pairwise (EquationStands sig (variable_names goal.vars)) raw.premises goal.premises
-  pub conclusions : Pairwise (EquationStands sig (variable_names goal.vars)) raw.conclusions goal.conclusions
+  pub premises : AllZip (EquationStands sig (variable_names goal.vars)) raw.premises goal.premises
+  pub conclusions : AllZip (EquationStands sig (variable_names goal.vars)) raw.conclusions goal.conclusions
   pub sorted : GoalIsSorted sig goal

@@ -9,13 +9,19 @@ use Rattle.spec_grammar.specs.Sizes.{words}
 use Rattle.spec_grammar.specs.KeepsLimits.{KeepsLimits}
 use Rattle.spec_grammar.specs.declared.raw.RawSpec.{RawSpec}
 use Rattle.sort_check.specs.Terms.{TermStands}
-use Rattle.sort_check.specs.StandsFor.{StandsFor}
-use Rattle.sort_check.specs.FirstFault.{HasNoFault, HasFirstFault}
+use Rattle.sort_check.specs.StandsFor.{IsNumbered, StandsFor, TermStandsFor}
+use Rattle.sort_check.specs.FirstFault.{HasNoFault, HasFirstFault, TermHasFirstFault}
 use Rattle.sort_check.specs.declared.faults.SortKind.{SortKind}
 
--- a raw specification stands for at most one
-abbrev pub OneSpecification : Type 0
-OneSpecification = (raw : RawSpec) (s t : Spec) → StandsFor raw s → StandsFor raw t → s ≡ t
+-- a raw specification has one numbering at most, and so stands for one specification at most
+pub record OneSpecification : Type 0 where
+  pub numbering : (raw : RawSpec) (s t : Spec) → IsNumbered raw s → IsNumbered raw t → s ≡ t
+  pub one : (raw : RawSpec) (s t : Spec) → StandsFor raw s → StandsFor raw t → s ≡ t
+
+-- what has a fault stands for nothing: a raw specification, and a raw term over a signature
+pub record FaultyStandsForNone : Type 0 where
+  pub specification : (raw : RawSpec) (at : ℕ) (kind : SortKind) → HasFirstFault raw at kind → (spec : Spec) → ¬ (StandsFor raw spec)
+  pub term : (sig : Sig) (raw : RawTree) (at : ℕ) (kind : SortKind) → TermHasFirstFault sig raw at kind → (t : Tree) → ¬ (TermStandsFor sig raw t)
 
 -- a raw specification has one first fault at most, and none where no test finds one
 pub record OneFirstFault : Type 0 where
@@ -26,6 +32,6 @@ pub record OneFirstFault : Type 0 where
 abbrev pub KeepsSizes : Type 0
 KeepsSizes = (sig : Sig) (names : List (List ℕ)) (raw : RawTree) (t : Tree) → TermStands sig names raw t → tree_size t ≡ words raw
 
--- what a raw specification within the limits stands for is well sorted
+-- the numbering of a raw specification within the limits is well sorted, and so is what it stands for
 abbrev pub StandsWellSorted : Type 0
-StandsWellSorted = (raw : RawSpec) (spec : Spec) → KeepsLimits raw → StandsFor raw spec → IsWellSorted spec
+StandsWellSorted = (raw : RawSpec) (spec : Spec) → KeepsLimits raw → IsNumbered raw spec → IsWellSorted spec

@@ -1,12 +1,10 @@
--- Which specification a raw one stands for, in the order in which to read it.
-pub mod Pairwise
+-- The numbering of a raw specification, in the order in which to read it.
 pub mod Signatures
 pub mod Terms
 pub mod Rules
 pub mod Occurrence
 pub mod Inference
 pub mod Goals
-pub mod StandsFor
 -- The first fault of a raw specification, in the order in which to read it.
 pub mod Entries
 pub mod Words
@@ -15,7 +13,10 @@ pub mod Rounds
 pub mod GoalTests
 pub mod DeclarationTests
 pub mod FirstFault
+-- A raw specification without a fault stands for its numbering.
+pub mod StandsFor
 pub mod Counted
+pub mod Texts
 pub mod Laws
 pub mod Examples
 -- What only this crate's own contracts speak of.

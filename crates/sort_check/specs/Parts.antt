@@ -1,6 +1,7 @@
 -- Parts of rules and goals on the way.
 use Rattle.std.specs.Prelude.{◌≡◌, ℕ, ◌<◌, List, Option, Some, None, slice_index, length}
 use Rattle.term_core.specs.declared.ids.SortId.{SortId}
+use Rattle.spec_core.specs.declared.records.VarInfo.{VarInfo}
 use Rattle.spec_core.specs.Sig.{Sig, IsConstructor}
 use Rattle.spec_core.specs.Findings.{Search}
 use Rattle.spec_grammar.specs.RawTree.{RawTree, RawTrees, word}
@@ -8,7 +9,8 @@ use Rattle.spec_grammar.specs.Sizes.{words}
 use Rattle.spec_grammar.specs.declared.raw.RawEq.{RawEq}
 use Rattle.spec_grammar.specs.declared.raw.RawRule.{RawRule}
 use Rattle.sort_check.specs.Entries.{entry_named, sort_so_far}
-use Rattle.sort_check.specs.GoalTests.{own_sort}
+use Rattle.sort_check.specs.GoalTests.{own_sort, opposed_by, inferred}
+use Rattle.sort_check.specs.Over.{variables_of}
 use Rattle.sort_check.specs.Words.{count, symbol_named, info_at}
 use Rattle.sort_check.specs.RuleTests.{root_tests, rules_of, inner_tests}
 use Rattle.sort_check.specs.declared.entries.Entry.{Entry}
@@ -62,3 +64,7 @@ module _ (sig : Sig) (es : List Entry) where
 
   abbrev pub AreFound : RawEq → Type 0
   AreFound e = IsFound e.left × IsFound e.right
+
+  -- these variables with the sorts that the equations give them
+  abbrev pub inferred_variables : List RawEq → List VarInfo
+  inferred_variables eqs = variables_of (opposed_by sig es eqs) (inferred sig (opposed_by sig es eqs) eqs)

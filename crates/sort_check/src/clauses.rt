@@ -1,11 +1,9 @@
 ghost use Rattle.std.specs.Prelude.{◌≡◌, ◌≤◌, ◌++◌, IfOk, OnOk, length};
-ghost use Rattle.std.specs.List.{AllByRecursion};
+ghost use Rattle.std.specs.List.{AllByRecursion, AllZip};
 ghost use Rattle.sort_check.specs.Answers.{Answers};
-ghost use Rattle.sort_check.specs.Entries.{known_sorts as sorts_known};
-ghost use Rattle.sort_check.specs.GoalTests.{in_turn, left_by, sides_tests, after_sides, opposite_tests, after_opposite, own_sort as sort_of_side, wanted as wanted_sort, number_of as number_of_side, pair_of as pair_of_sides, place_of as place_of_root, pairs_in, sorts_tests, opposed_by, inferred, equations_of};
-ghost use Rattle.sort_check.specs.Over.{IsEquationOver, variables_of};
-ghost use Rattle.sort_check.specs.Pairwise.{Pairwise};
-ghost use Rattle.sort_check.specs.Parts.{AreFound};
+ghost use Rattle.sort_check.specs.GoalTests.{all_sides_tests, after_all_sides, sides_tests, after_sides, all_opposite_tests, opposite_tests, after_opposite, own_sort as sort_of_side, wanted as wanted_sort, number_of as number_of_side, pair_of as pair_of_sides, place_of as place_of_root, pairs_in, sorts_tests, opposed_by, equations_of};
+ghost use Rattle.sort_check.specs.Over.{IsEquationOver};
+ghost use Rattle.sort_check.specs.Parts.{AreFound, inferred_variables};
 ghost use Rattle.sort_check.specs.declared.faults.Part.TheVariants.{Goal};
 
 use crate::entries::{Entry, Pair, place_of};
@@ -34,7 +32,13 @@ impl<'a> Walk<'a> {
         requires part { self.now.part ≡ Goal }
         requires few { length entries.old.items ≤ 16 }
         ensures few { OnOk result (length entries.new.items ≤ 16) }
-        ensures answer { Answers (in_turn (sides_tests self.now.sig.now) (after_sides self.now.sig.now) entries.old.items (equations_of raw.now)) (λ clause. (entries.new.items ≡ left_by (after_sides self.now.sig.now) entries.old.items (equations_of raw.now)) × Pairwise (IsEquationOver self.now.sig.now entries.new.items) (equations_of raw.now) (clause.premises ++ clause.conclusions) × (length clause.premises ≡ length raw.now.premises)) result }
+        ensures answer { Answers
+            (all_sides_tests self.now.sig.now entries.old.items (equations_of raw.now))
+            (λ clause. (entries.new.items
+            ≡ after_all_sides self.now.sig.now entries.old.items (equations_of raw.now))
+            × AllZip (IsEquationOver self.now.sig.now entries.new.items) (equations_of raw.now)
+            (clause.premises ++ clause.conclusions)
+            × (length clause.premises ≡ length raw.now.premises)) result }
     {
         let premises = self.equations(entries, raw.premises.as_slice())?;
         let conclusions = self.equations(entries, raw.conclusions.as_slice())?;
@@ -53,7 +57,10 @@ impl<'a> Walk<'a> {
         requires part { self.now.part ≡ Goal }
         requires few { length entries.old.items ≤ 16 }
         ensures few { OnOk result (length entries.new.items ≤ 16) }
-        ensures answer { Answers (in_turn (sides_tests self.now.sig.now) (after_sides self.now.sig.now) entries.old.items raws.now) (λ made. (entries.new.items ≡ left_by (after_sides self.now.sig.now) entries.old.items raws.now) × Pairwise (IsEquationOver self.now.sig.now entries.new.items) raws.now made) result }
+        ensures answer { Answers (all_sides_tests self.now.sig.now entries.old.items raws.now)
+            (λ made. (entries.new.items
+            ≡ after_all_sides self.now.sig.now entries.old.items raws.now)
+            × AllZip (IsEquationOver self.now.sig.now entries.new.items) raws.now made) result }
     {
         let mut made = Seq::new(self.alloc);
         for raw in raws {
@@ -68,7 +75,9 @@ impl<'a> Walk<'a> {
         requires part { self.now.part ≡ Goal }
         requires few { length entries.old.items ≤ 16 }
         ensures few { OnOk result (length entries.new.items ≤ 16) }
-        ensures answer { Answers (sides_tests self.now.sig.now entries.old.items raw.now) (λ made. (entries.new.items ≡ after_sides self.now.sig.now entries.old.items raw.now) × IsEquationOver self.now.sig.now entries.new.items raw.now made) result }
+        ensures answer { Answers (sides_tests self.now.sig.now entries.old.items raw.now)
+            (λ made. (entries.new.items ≡ after_sides self.now.sig.now entries.old.items raw.now)
+            × IsEquationOver self.now.sig.now entries.new.items raw.now made) result }
     {
         let left = self.term(entries, SortKind::WrongSort, &raw.left, None)?;
         let place = wanted(
@@ -87,8 +96,12 @@ impl<'a> Walk<'a> {
     ) -> Result<Seq<VarInfo>, SortFault>
         requires part { self.now.part ≡ Goal }
         requires few { length entries.old.items ≤ 16 }
-        requires found { AllByRecursion (AreFound self.now.sig.now entries.old.items) (equations_of raw.now) }
-        ensures { Answers (sorts_tests self.now.sig.now entries.old.items (equations_of raw.now)) (λ vars. vars ≡ variables_of (opposed_by self.now.sig.now entries.old.items (equations_of raw.now)) (inferred self.now.sig.now (opposed_by self.now.sig.now entries.old.items (equations_of raw.now)) (equations_of raw.now))) result }
+        requires found { AllByRecursion (AreFound self.now.sig.now entries.old.items)
+            (equations_of raw.now) }
+        ensures { Answers (sorts_tests self.now.sig.now entries.old.items (equations_of raw.now))
+            (λ vars. vars
+            ≡ inferred_variables self.now.sig.now entries.old.items (equations_of raw.now))
+            result }
     {
         self.oppose_all(entries, raw)?;
         let pairs = self.pairs(entries, raw)?;
@@ -102,7 +115,10 @@ impl<'a> Walk<'a> {
         requires part { self.now.part ≡ Goal }
         requires few { length entries.old.items ≤ 16 }
         ensures few { OnOk result (length entries.new.items ≤ 16) }
-        ensures answer { Answers (in_turn (opposite_tests self.now.sig.now) (after_opposite self.now.sig.now) entries.old.items (equations_of raw.now)) (λ _. entries.new.items ≡ opposed_by self.now.sig.now entries.old.items (equations_of raw.now)) result }
+        ensures answer { Answers
+            (all_opposite_tests self.now.sig.now entries.old.items (equations_of raw.now))
+            (λ _. entries.new.items
+            ≡ opposed_by self.now.sig.now entries.old.items (equations_of raw.now)) result }
     {
         self.oppose(entries, raw.premises.as_slice())?;
         self.oppose(entries, raw.conclusions.as_slice())
@@ -112,7 +128,9 @@ impl<'a> Walk<'a> {
         requires part { self.now.part ≡ Goal }
         requires few { length entries.old.items ≤ 16 }
         ensures few { OnOk result (length entries.new.items ≤ 16) }
-        ensures answer { Answers (in_turn (opposite_tests self.now.sig.now) (after_opposite self.now.sig.now) entries.old.items raws.now) (λ _. entries.new.items ≡ left_by (after_opposite self.now.sig.now) entries.old.items raws.now) result }
+        ensures answer { Answers (all_opposite_tests self.now.sig.now entries.old.items raws.now)
+            (λ _. entries.new.items ≡ opposed_by self.now.sig.now entries.old.items raws.now)
+            result }
     {
         for raw in raws {
             self.oppose_sides(entries, raw)?;
@@ -124,7 +142,9 @@ impl<'a> Walk<'a> {
         requires part { self.now.part ≡ Goal }
         requires few { length entries.old.items ≤ 16 }
         ensures few { OnOk result (length entries.new.items ≤ 16) }
-        ensures answer { Answers (opposite_tests self.now.sig.now entries.old.items raw.now) (λ _. entries.new.items ≡ after_opposite self.now.sig.now entries.old.items raw.now) result }
+        ensures answer { Answers (opposite_tests self.now.sig.now entries.old.items raw.now)
+            (λ _. entries.new.items ≡ after_opposite self.now.sig.now entries.old.items raw.now)
+            result }
     {
         let left = own_sort(self.sig, &raw.left);
         let right = own_sort(self.sig, &raw.right);
@@ -142,7 +162,8 @@ impl<'a> Walk<'a> {
 
     /// The equations of two variables, by their numbers.
     fn pairs(&self, entries: &[Entry], raw: &RawGoal) -> Result<Vec<Pair>, OutOfMemory>
-        ensures { IfOk result (λ pairs. pairs.items ≡ pairs_in self.now.sig.now entries.now (equations_of raw.now)) }
+        ensures { IfOk result
+            (λ pairs. pairs.items ≡ pairs_in self.now.sig.now entries.now (equations_of raw.now)) }
     {
         let mut pairs = Vec::new(self.alloc);
         self.add_pairs(entries, raw.premises.as_slice(), &mut pairs)?;
@@ -156,7 +177,8 @@ impl<'a> Walk<'a> {
         raws: &[RawEq],
         pairs: &mut Vec<Pair>,
     ) -> Result<(), OutOfMemory>
-        ensures { OnOk result (pairs.new.items ≡ pairs.old.items ++ pairs_in self.now.sig.now entries.now raws.now) }
+        ensures { OnOk result
+            (pairs.new.items ≡ pairs.old.items ++ pairs_in self.now.sig.now entries.now raws.now) }
     {
         for raw in raws {
             let Some(pair) = pair_of(self.sig, entries, raw) else {
@@ -170,7 +192,9 @@ impl<'a> Walk<'a> {
 
 /// The equation where it is one of two variables, by their numbers.
 fn pair_of(sig: &Signature, entries: &[Entry], raw: &RawEq) -> Option<Pair>
-    ensures { result ≡ pair_of_sides sig.now entries.now raw.now (sort_of_side sig.now raw.now.left) (sort_of_side sig.now raw.now.right) }
+    ensures { result
+        ≡ pair_of_sides sig.now entries.now raw.now (sort_of_side sig.now raw.now.left)
+        (sort_of_side sig.now raw.now.right) }
 {
     let left = own_sort(sig, &raw.left);
     let right = own_sort(sig, &raw.right);

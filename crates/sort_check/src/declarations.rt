@@ -1,5 +1,4 @@
-ghost use Rattle.std.specs.Prelude.{◌≡◌, ℕ, List, ◌+◌, ◌<◌, ◌≤◌, ◌^◌, ◌∷◌, ◌++◌, [], IfOk, OnErr, length, map, codes, position};
-ghost use Rattle.std.specs.Str.{bytes_eq};
+ghost use Rattle.std.specs.Prelude.{◌≡◌, ℕ, List, ◌+◌, ◌<◌, ◌≤◌, ◌^◌, ◌∷◌, ◌++◌, [], IfOk, OnErr, length, map, codes};
 ghost use Rattle.spec_core.specs.declared.records.SymInfo.{SymInfo};
 ghost use Rattle.spec_core.specs.Declarations.{IsNewName, IsDeclared};
 ghost use Rattle.spec_core.specs.Findings.{Clean, test, each};
@@ -11,17 +10,17 @@ ghost use Rattle.sort_check.specs.Signatures.{SignatureStands, sort_names};
 ghost use Rattle.sort_check.specs.declared.faults.SortFault.TheVariants.{Sort, OutOfMemory as out_of_memory};
 ghost use Rattle.sort_check.specs.declared.faults.SortKind.TheVariants.{RepeatedName as repeated_name};
 
-use crate::entries::copy_name;
 use crate::faults::{SortFault, SortKind, fault};
 use spec_core::{BuildError, Signature, SymInfo};
 use spec_grammar::{RawFun, RawName, RawNames, RawSort, RawSpec};
 use std::alloc::Global;
-use term_core::{Name, OutOfMemory, Seq, SortId};
+use term_core::{Name, OutOfMemory, Seq, SortId, place_of};
 
 /// The signature that declarations give.
 pub(crate) fn signature_of(alloc: Global, raw: &RawSpec) -> Result<Signature, SortFault>
     requires few { HasFewDeclarations raw.now }
-    ensures { Answers (declarations_tests raw.now) (λ sig. (sig ≡ sig_of raw.now) × IsDeclared sig × SignatureStands raw.now sig) result }
+    ensures { Answers (declarations_tests raw.now)
+        (λ sig. (sig ≡ sig_of raw.now) × IsDeclared sig × SignatureStands raw.now sig) result }
 {
     let sorts = check_sorts(alloc, raw.sorts.as_slice())?;
     let mut taken = booleans(alloc)?;
@@ -38,48 +37,37 @@ pub(crate) fn signature_of(alloc: Global, raw: &RawSpec) -> Result<Signature, So
 
 /// The names of all sorts.
 fn check_sorts(alloc: Global, raws: &[RawSort]) -> Result<Seq<Name>, SortFault>
-    ensures { Answers (sorts_tests (codes "Bool" ∷ []) raws.now) (λ names. names ≡ codes "Bool" ∷ sort_names raws.now) result }
+    ensures { Answers (sorts_tests (codes "Bool" ∷ []) raws.now)
+        (λ names. names ≡ codes "Bool" ∷ sort_names raws.now) result }
 {
     let mut names = Seq::new(alloc);
-    names.push(name_of(alloc, b"Bool")?)?;
+    names.push(Name::of(alloc, b"Bool")?)?;
     for raw in raws {
         take_name(alloc, &mut names, &raw.head.name, raw.head.at)?;
     }
     Ok(names)
 }
 
-fn name_of(alloc: Global, bytes: &[u8]) -> Result<Name, OutOfMemory>
-    ensures { IfOk result (λ name. name ≡ bytes.now) }
-{
-    Ok(Name::from_bytes(Vec::from_slice(alloc, bytes)?))
-}
-
 /// Takes a name that isn't taken.
 fn take_name(alloc: Global, taken: &mut Seq<Name>, name: &Name, at: usize) -> Result<(), SortFault>
-    ensures { Answers (test (Sort at repeated_name) (¬ (IsNewName name.now taken.old))) (λ _. taken.new ≡ taken.old ++ name.now ∷ []) result }
+    ensures { Answers (test (Sort at repeated_name) (¬ (IsNewName name.now taken.old)))
+        (λ _. taken.new ≡ taken.old ++ name.now ∷ []) result }
 {
-    match number_of(taken.as_slice(), name.as_bytes()) {
+    match place_of(taken.as_slice(), name.as_bytes()) {
         Some(_) => Err(fault(at, SortKind::RepeatedName)),
         None => {
-            taken.push(copy_name(alloc, name)?)?;
+            taken.push(name.copy(alloc)?)?;
             Ok(())
         }
     }
-}
-
-/// The first place of the name.
-fn number_of(names: &[Name], name: &[u8]) -> Option<usize>
-    ensures { result ≡ position (bytes_eq name.now) names.now }
-{
-    names.iter().position(|other| name == other.as_bytes())
 }
 
 fn booleans(alloc: Global) -> Result<Seq<Name>, OutOfMemory>
     ensures { IfOk result (λ names. names ≡ boolean_names) }
 {
     let mut names = Seq::new(alloc);
-    names.push(name_of(alloc, b"true")?)?;
-    names.push(name_of(alloc, b"false")?)?;
+    names.push(Name::of(alloc, b"true")?)?;
+    names.push(Name::of(alloc, b"false")?)?;
     Ok(names)
 }
 
@@ -92,7 +80,11 @@ fn add_all_constructors(
 ) -> Result<Seq<(Name, SymInfo)>, SortFault>
     requires few { length sorts.now < 2 ^ 32 }
     requires numbers { length raws.now + 1 < 2 ^ 32 }
-    ensures { Answers (all_constructors_tests sorts.now taken.old raws.now) (λ made. (made ≡ constructors_of sorts.now 1 raws.now) × (taken.new ≡ taken.old ++ map (λ (e : List ℕ × SymInfo). e.0) (constructors_of sorts.now 1 raws.now))) result }
+    ensures { Answers (all_constructors_tests sorts.now taken.old raws.now)
+        (λ made. (made ≡ constructors_of sorts.now 1 raws.now)
+        × (taken.new
+        ≡ taken.old ++ map (λ (e : List ℕ × SymInfo). e.0)
+        (constructors_of sorts.now 1 raws.now))) result }
 {
     let mut made = Seq::new(alloc);
     for (place, raw) in raws.iter().enumerate() {
@@ -113,11 +105,13 @@ fn add_constructors(
     made: &mut Seq<(Name, SymInfo)>,
 ) -> Result<(), SortFault>
     requires few { length sorts.now < 2 ^ 32 }
-    ensures { Answers (constructors_tests sorts.now taken.old raws.now) (λ _. (made.new ≡ made.old ++ map (constructor_of sorts.now sort.0) raws.now) × (taken.new ≡ taken.old ++ map (λ (c : RawNames). c.name) raws.now)) result }
+    ensures { Answers (constructors_tests sorts.now taken.old raws.now)
+        (λ _. (made.new ≡ made.old ++ map (constructor_of sorts.now sort.0) raws.now)
+        × (taken.new ≡ taken.old ++ map (λ (c : RawNames). c.name) raws.now)) result }
 {
     for raw in raws {
         let args = arguments(alloc, sorts, taken, raw)?;
-        let name = copy_name(alloc, &raw.name)?;
+        let name = raw.name.copy(alloc)?;
         made.push((name, SymInfo { args, result: sort }))?;
     }
     Ok(())
@@ -131,7 +125,9 @@ fn arguments(
     raw: &RawNames,
 ) -> Result<Seq<SortId>, SortFault>
     requires few { length sorts.now < 2 ^ 32 }
-    ensures { Answers (symbol_tests sorts.now taken.old raw.now) (λ args. (args ≡ map (sort_number sorts.now) raw.now.args) × (taken.new ≡ taken.old ++ raw.now.name ∷ [])) result }
+    ensures { Answers (symbol_tests sorts.now taken.old raw.now)
+        (λ args. (args ≡ map (sort_number sorts.now) raw.now.args)
+        × (taken.new ≡ taken.old ++ raw.now.name ∷ [])) result }
 {
     take_name(alloc, taken, &raw.name, raw.at)?;
     sorts_named(alloc, sorts, raw.args.as_slice())
@@ -139,7 +135,8 @@ fn arguments(
 
 fn sorts_named(alloc: Global, sorts: &[Name], raws: &[RawName]) -> Result<Seq<SortId>, SortFault>
     requires few { length sorts.now < 2 ^ 32 }
-    ensures { Answers (each (sort_test sorts.now) raws.now) (λ found. found ≡ map (sort_number sorts.now) raws.now) result }
+    ensures { Answers (each (sort_test sorts.now) raws.now)
+        (λ found. found ≡ map (sort_number sorts.now) raws.now) result }
 {
     let mut found = Seq::new(alloc);
     for raw in raws {
@@ -150,9 +147,10 @@ fn sorts_named(alloc: Global, sorts: &[Name], raws: &[RawName]) -> Result<Seq<So
 
 fn sort_named(sorts: &[Name], raw: &RawName) -> Result<SortId, SortFault>
     requires few { length sorts.now < 2 ^ 32 }
-    ensures { Answers (sort_test sorts.now raw.now) (λ sort. sort ≡ sort_number sorts.now raw.now) result }
+    ensures { Answers (sort_test sorts.now raw.now) (λ sort. sort ≡ sort_number sorts.now raw.now)
+        result }
 {
-    match number_of(sorts, raw.name.as_bytes()) {
+    match place_of(sorts, raw.name.as_bytes()) {
         Some(place) => Ok(SortId(place as u32)),
         None => Err(fault(raw.at, SortKind::UnknownName)),
     }
@@ -166,13 +164,14 @@ fn add_functions(
     taken: &mut Seq<Name>,
 ) -> Result<Seq<(Name, SymInfo)>, SortFault>
     requires few { length sorts.now < 2 ^ 32 }
-    ensures { Answers (functions_tests sorts.now taken.old raws.now) (λ made. made ≡ map (function_of sorts.now) raws.now) result }
+    ensures { Answers (functions_tests sorts.now taken.old raws.now)
+        (λ made. made ≡ map (function_of sorts.now) raws.now) result }
 {
     let mut made = Seq::new(alloc);
     for raw in raws {
         let args = arguments(alloc, sorts, taken, &raw.head)?;
         let result = sort_named(sorts, &raw.result)?;
-        let name = copy_name(alloc, &raw.head.name)?;
+        let name = raw.head.name.copy(alloc)?;
         made.push((name, SymInfo { args, result }))?;
     }
     Ok(made)
@@ -187,7 +186,8 @@ fn check_values(
 ) -> Result<(), SortFault>
     requires few { HasFewDeclarations raw.now }
     requires sorts { Clean (sorts_tests (codes "Bool" ∷ []) raw.now.sorts) }
-    requires symbols { Clean (all_constructors_tests (all_sorts raw.now) boolean_names raw.now.sorts) }
+    requires symbols { Clean
+        (all_constructors_tests (all_sorts raw.now) boolean_names raw.now.sorts) }
     requires made { constructors.now ≡ all_constructors raw.now }
     ensures { Answers (small_tests (values_sig raw.now) 1 raw.now.sorts) (λ _. Unit {0}) result }
 {
@@ -212,7 +212,7 @@ fn names_of_sorts(alloc: Global, raw: &RawSpec) -> Result<Seq<Name>, OutOfMemory
     let mut names = Seq::new(alloc);
     let sorts = raw.sorts.as_slice();
     for sort in sorts {
-        names.push(copy_name(alloc, &sort.head.name)?)?;
+        names.push(sort.head.name.copy(alloc)?)?;
     }
     Ok(names)
 }
@@ -233,7 +233,7 @@ fn copy_symbols(
 fn copy_symbol(alloc: Global, symbol: &(Name, SymInfo)) -> Result<(Name, SymInfo), OutOfMemory>
     ensures { IfOk result (λ copy. copy ≡ symbol.now) }
 {
-    let name = copy_name(alloc, &symbol.0)?;
+    let name = symbol.0.copy(alloc)?;
     let args = Seq::from_vec(Vec::from_slice(alloc, symbol.1.args.as_slice())?);
     let result = symbol.1.result;
     Ok((name, SymInfo { args, result }))

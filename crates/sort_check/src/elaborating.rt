@@ -1,12 +1,14 @@
-ghost use Rattle.std.specs.Prelude.{◌≡◌, ℕ, [], IfOk, OnOk, Err};
+ghost use Rattle.std.specs.Prelude.{◌≡◌, ℕ, [], IfOk, Ok, Err};
+ghost use Rattle.term_core.specs.Tree.{Tree};
 ghost use Rattle.term_core.specs.declared.ids.SortId.{SortId};
+ghost use Rattle.spec_core.specs.declared.records.Spec.{Spec};
 ghost use Rattle.spec_core.specs.Sorts.{Sorted};
 ghost use Rattle.spec_core.specs.WellSorted.{IsWellSorted};
 ghost use Rattle.spec_grammar.specs.KeepsLimits.{KeepsLimits};
-ghost use Rattle.sort_check.specs.Answers.{Answers, IsRefusal};
+ghost use Rattle.sort_check.specs.Answers.{Answers, IsUnlessNoMemory};
 ghost use Rattle.sort_check.specs.Counted.{HasFewDeclarations};
-ghost use Rattle.sort_check.specs.FirstFault.{spec_tests, ground_tests, HasNoFault, HasFirstFault, TermHasNoFault, TermHasFirstFault};
-ghost use Rattle.sort_check.specs.StandsFor.{StandsFor};
+ghost use Rattle.sort_check.specs.FirstFault.{spec_tests, ground_tests, HasFirstFault, TermHasFirstFault};
+ghost use Rattle.sort_check.specs.StandsFor.{IsNumbered, StandsFor, TermStandsFor};
 ghost use Rattle.sort_check.specs.Terms.{TermStands};
 ghost use Rattle.sort_check.specs.declared.faults.SortKind.{SortKind};
 ghost use Rattle.sort_check.specs.declared.faults.SortFault.TheVariants.{Sort};
@@ -27,10 +29,12 @@ use term_core::Term;
 pub fn elaborate(alloc: Global, raw: &RawSpec) -> Result<Spec, SortFault>
     requires few { HasFewDeclarations raw.now }
     ensures stands { IfOk result (StandsFor raw.now) }
-    ensures clean { OnOk result (HasNoFault raw.now) }
+    ensures answered { (spec : Spec) → StandsFor raw.now spec → IsUnlessNoMemory result (Ok spec) }
     ensures sorted { IfOk result (λ spec. KeepsLimits raw.now → IsWellSorted spec) }
-    ensures fault { (at : ℕ) (kind : SortKind) → result ≡ Err (Sort at kind) → HasFirstFault raw.now at kind }
-    ensures exact { (at : ℕ) (kind : SortKind) → HasFirstFault raw.now at kind → IsRefusal at kind result }
+    ensures fault { (at : ℕ) (kind : SortKind) → result ≡ Err (Sort at kind)
+        → HasFirstFault raw.now at kind }
+    ensures exact { (at : ℕ) (kind : SortKind) → HasFirstFault raw.now at kind
+        → IsUnlessNoMemory result (Err (Sort at kind)) }
 {
     spec_of(alloc, raw)
 }
@@ -38,18 +42,22 @@ pub fn elaborate(alloc: Global, raw: &RawSpec) -> Result<Spec, SortFault>
 /// The term without variables that a raw one stands for over a signature, or the first of its
 /// faults. A word alone that is no symbol is an unknown name.
 pub fn elaborate_term(alloc: Global, sig: &Signature, raw: &RawTerm) -> Result<Term, SortFault>
-    ensures stands { IfOk result (TermStands sig.now [] raw.now) }
+    ensures stands { IfOk result (TermStandsFor sig.now raw.now) }
+    ensures answered { (t : Tree) → TermStandsFor sig.now raw.now t
+        → IsUnlessNoMemory result (Ok t) }
     ensures sorted { IfOk result (λ t. (s : SortId) × Sorted sig.now [] t s) }
-    ensures clean { OnOk result (TermHasNoFault sig.now raw.now) }
-    ensures fault { (at : ℕ) (kind : SortKind) → result ≡ Err (Sort at kind) → TermHasFirstFault sig.now raw.now at kind }
-    ensures exact { (at : ℕ) (kind : SortKind) → TermHasFirstFault sig.now raw.now at kind → IsRefusal at kind result }
+    ensures fault { (at : ℕ) (kind : SortKind) → result ≡ Err (Sort at kind)
+        → TermHasFirstFault sig.now raw.now at kind }
+    ensures exact { (at : ℕ) (kind : SortKind) → TermHasFirstFault sig.now raw.now at kind
+        → IsUnlessNoMemory result (Err (Sort at kind)) }
 {
+    sig.declared();
     ground_term(alloc, sig, raw)
 }
 
 fn spec_of(alloc: Global, raw: &RawSpec) -> Result<Spec, SortFault>
     requires few { HasFewDeclarations raw.now }
-    ensures { Answers (spec_tests raw.now) (λ spec. StandsFor raw.now spec) result }
+    ensures { Answers (spec_tests raw.now) (IsNumbered raw.now) result }
 {
     let sig = signature_of(alloc, raw)?;
     let rules = rules_of(alloc, &sig, raw.rules.as_slice())?;
@@ -58,7 +66,8 @@ fn spec_of(alloc: Global, raw: &RawSpec) -> Result<Spec, SortFault>
 }
 
 fn ground_term(alloc: Global, sig: &Signature, raw: &RawTerm) -> Result<Term, SortFault>
-    ensures { Answers (ground_tests sig.now raw.now) (λ t. TermStands sig.now [] raw.now t × ((s : SortId) × Sorted sig.now [] t s)) result }
+    ensures { Answers (ground_tests sig.now raw.now)
+        (λ t. TermStands sig.now [] raw.now t × ((s : SortId) × Sorted sig.now [] t s)) result }
 {
     let walk = Walk {
         alloc,

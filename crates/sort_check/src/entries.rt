@@ -1,7 +1,6 @@
-ghost use Rattle.std.specs.Prelude.{◌≡◌, ◌++◌, ◌∷◌, [], IfOk, OnOk};
+ghost use Rattle.std.specs.Prelude.{◌≡◌, ◌++◌, ◌∷◌, [], OnOk};
 ghost use Rattle.sort_check.specs.Entries.{entry_named};
 
-use std::alloc::Global;
 use term_core::{Name, OutOfMemory, SortId};
 
 /// A variable as far as it is known: its name, the place of its first word, and its sort where
@@ -28,12 +27,6 @@ pub(crate) fn place_of(entries: &[Entry], name: &[u8]) -> Option<usize>
     entries
         .iter()
         .position(|entry| name == entry.name.as_bytes())
-}
-
-pub(crate) fn copy_name(alloc: Global, name: &Name) -> Result<Name, OutOfMemory>
-    ensures { IfOk result (λ copy. copy ≡ name.now) }
-{
-    Ok(Name::from_bytes(Vec::from_slice(alloc, name.as_bytes())?))
 }
 
 /// Adds a variable behind the others.

@@ -1,6 +1,8 @@
 ghost use Rattle.sort_check.specs.declared.faults.SortFault.TheVariants.{Sort, OutOfMemory as out_of_memory};
 ghost use Rattle.std.specs.Prelude.{◌≡◌};
 
+use std::error::Error;
+use std::fmt;
 use term_core::OutOfMemory;
 
 /// The kinds of sort fault.
@@ -30,6 +32,31 @@ pub enum SortKind {
     TooManyRules,
 }
 
+impl fmt::Display for SortKind {
+    ghost use Rattle.std.specs.Prelude.{Some};
+    ghost use Rattle.sort_check.specs.Texts.{kind_text};
+
+    ghost output = { λ kind. Some (kind_text kind) };
+
+    fn fmt<W: fmt::Write>(&self, f: &mut fmt::Formatter<W>) -> fmt::Result {
+        f.write_str(match self {
+            SortKind::UnknownName => "unknown name",
+            SortKind::RepeatedName => "repeated name",
+            SortKind::WrongNumberOfArguments => "wrong number of arguments",
+            SortKind::WrongSort => "wrong sort",
+            SortKind::SortNotInferred => "sort not inferred",
+            SortKind::NotOnTheLeft => "variable not on the left",
+            SortKind::DefinedInPattern => "defined symbol in a pattern",
+            SortKind::NoFunction => "left side is no function",
+            SortKind::GuardNotBool => "guard not Bool",
+            SortKind::NoSmallValue => "no small value",
+            SortKind::TooManyVariables => "too many variables",
+            SortKind::LeftTooLarge => "left side too large",
+            SortKind::TooManyRules => "too many rules",
+        })
+    }
+}
+
 /// Why a raw specification stands for none. `at` is the place of the word that is at fault, in
 /// bytes of the text from 0.
 #[derive(Clone, Copy, Debug, PartialEq, Eq)]
@@ -37,6 +64,22 @@ pub enum SortFault {
     Sort { at: usize, kind: SortKind },
     OutOfMemory,
 }
+
+impl fmt::Display for SortFault {
+    ghost use Rattle.std.specs.Prelude.{Some};
+    ghost use Rattle.sort_check.specs.Texts.{fault_text};
+
+    ghost output = { λ fault. Some (fault_text fault) };
+
+    fn fmt<W: fmt::Write>(&self, f: &mut fmt::Formatter<W>) -> fmt::Result {
+        match self {
+            SortFault::Sort { at, kind } => write!(f, "sort at {at}: {kind}"),
+            SortFault::OutOfMemory => f.write_str("out of memory"),
+        }
+    }
+}
+
+impl Error for SortFault {}
 
 impl From<OutOfMemory> for SortFault {
     ghost from_gives = { λ _ e. e ≡ out_of_memory };

@@ -1,17 +1,18 @@
 ghost use Rattle.std.specs.Prelude.{◌≡◌, ◌≤◌, [], IfOk, length, map, position};
+ghost use Rattle.std.specs.List.{AllZip};
 ghost use Rattle.std.specs.Str.{bytes_eq};
 ghost use Rattle.spec_core.specs.Declarations.{IsDeclared, IsNewName};
 ghost use Rattle.spec_core.specs.Findings.{each_after, test};
 ghost use Rattle.sort_check.specs.Answers.{Answers};
 ghost use Rattle.sort_check.specs.GoalTests.{bind_tests, binds_tests, bound, clause_tests, goal_tests};
 ghost use Rattle.sort_check.specs.Goals.{GoalStands};
-ghost use Rattle.sort_check.specs.Pairwise.{Pairwise};
 ghost use Rattle.sort_check.specs.declared.faults.SortFault.TheVariants.{Sort};
 ghost use Rattle.sort_check.specs.declared.faults.SortKind.TheVariants.{RepeatedName as repeated_name};
 
-use crate::entries::{Entry, add, copy_name};
+use crate::entries::{Entry, add};
 use crate::faults::{Part, SortFault, SortKind, fault};
-use crate::walk::{VARIABLES, Walk};
+use crate::limits::VARIABLES;
+use crate::walk::Walk;
 use spec_core::{Goal, Signature};
 use spec_grammar::{RawBind, RawGoal, RawName};
 use std::alloc::Global;
@@ -24,7 +25,8 @@ pub(crate) fn goals_of(
     raws: &[RawGoal],
 ) -> Result<Seq<Goal>, SortFault>
     requires declared { IsDeclared sig.now }
-    ensures { Answers (each_after (goal_tests sig.now) [] raws.now) (λ goals. Pairwise (GoalStands sig.now) raws.now goals) result }
+    ensures { Answers (each_after (goal_tests sig.now) [] raws.now)
+        (λ goals. AllZip (GoalStands sig.now) raws.now goals) result }
 {
     let mut made = Seq::new(alloc);
     for (place, raw) in raws.iter().enumerate() {
@@ -36,7 +38,10 @@ pub(crate) fn goals_of(
 
 /// Tests that no goal before has this name.
 fn check_name(before: &[RawGoal], name: &RawName) -> Result<(), SortFault>
-    ensures { Answers (test (Sort name.now.at repeated_name) (¬ (IsNewName name.now.name (map (λ goal. goal.head.name) before.now)))) (λ _. Unit {0}) result }
+    ensures { Answers
+        (test (Sort name.now.at repeated_name)
+        (¬ (IsNewName name.now.name (map (λ goal. goal.head.name) before.now)))) (λ _. Unit {0})
+        result }
 {
     match goal_named(before, name.name.as_bytes()) {
         Some(_) => Err(fault(name.at, SortKind::RepeatedName)),
@@ -56,7 +61,8 @@ fn goal_named(goals: &[RawGoal], name: &[u8]) -> Option<usize>
 /// The goal that a raw one stands for.
 fn goal_of(alloc: Global, sig: &Signature, raw: &RawGoal) -> Result<Goal, SortFault>
     requires declared { IsDeclared sig.now }
-    ensures { Answers (clause_tests sig.now raw.now) (λ goal. GoalStands sig.now raw.now goal) result }
+    ensures { Answers (clause_tests sig.now raw.now) (λ goal. GoalStands sig.now raw.now goal)
+        result }
 {
     let mut entries = bindings(alloc, sig, raw.binds.as_slice())?;
     let walk = Walk {
@@ -67,7 +73,7 @@ fn goal_of(alloc: Global, sig: &Signature, raw: &RawGoal) -> Result<Goal, SortFa
     let clause = walk.clause(&mut entries, raw)?;
     let vars = walk.variables(&mut entries, raw)?;
     Ok(Goal {
-        name: copy_name(alloc, &raw.head.name)?,
+        name: raw.head.name.copy(alloc)?,
         vars,
         premises: clause.premises,
         conclusions: clause.conclusions,
@@ -77,7 +83,8 @@ fn goal_of(alloc: Global, sig: &Signature, raw: &RawGoal) -> Result<Goal, SortFa
 /// The variables that bindings give, of which there are at most 16.
 fn bindings(alloc: Global, sig: &Signature, raws: &[RawBind]) -> Result<Vec<Entry>, SortFault>
     ensures few { IfOk result (λ entries. length entries.items ≤ 16) }
-    ensures answer { Answers (binds_tests sig.now raws.now) (λ entries. entries.items ≡ map (bound sig.now) raws.now) result }
+    ensures answer { Answers (binds_tests sig.now raws.now)
+        (λ entries. entries.items ≡ map (bound sig.now) raws.now) result }
 {
     let mut entries = Vec::new(alloc);
     for (place, raw) in raws.iter().enumerate() {
@@ -119,7 +126,7 @@ fn bound_by(alloc: Global, sig: &Signature, raw: &RawBind) -> Result<Entry, OutO
     ensures { IfOk result (λ entry. entry ≡ bound sig.now raw.now) }
 {
     Ok(Entry {
-        name: copy_name(alloc, &raw.name.name)?,
+        name: raw.name.name.copy(alloc)?,
         at: raw.name.at,
         sort: sig.sort(raw.sort.name.as_bytes()),
     })

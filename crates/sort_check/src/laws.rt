@@ -1,9 +1,14 @@
 ghost use Rattle.sort_check.specs.Examples.{WorkedExamples};
-ghost use Rattle.sort_check.specs.Laws.{KeepsSizes, OneFirstFault, OneSpecification, StandsWellSorted};
+ghost use Rattle.sort_check.specs.Laws.{FaultyStandsForNone, KeepsSizes, OneFirstFault, OneSpecification, StandsWellSorted};
 
 /// A raw specification stands for at most one specification.
 pub fn one_specification()
     ensures { OneSpecification }
+{}
+
+/// A raw specification that has a fault stands for none, and so does a raw term.
+pub fn faulty_stands_for_none()
+    ensures { FaultyStandsForNone }
 {}
 
 /// A raw specification has at most one first fault, and none where no test finds one.

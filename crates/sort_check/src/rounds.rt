@@ -17,7 +17,8 @@ use term_core::{SortId, front};
 pub(crate) fn infer(known: &mut [Option<SortId>], pairs: &[Pair]) -> Result<(), SortFault>
     requires within { AllByRecursion (IsWithin known.old) pairs.now }
     requires few { length known.old ≤ 16 }
-    ensures { Answers (rounds_tests (1 + length known.old) known.old pairs.now) (λ _. known.new ≡ after_rounds (1 + length known.old) known.old pairs.now) result }
+    ensures { Answers (rounds_tests (1 + length known.old) known.old pairs.now)
+        (λ _. known.new ≡ after_rounds (1 + length known.old) known.old pairs.now) result }
 {
     let count = 1 + known.len();
     run_rounds(known, pairs, count)
@@ -26,7 +27,8 @@ pub(crate) fn infer(known: &mut [Option<SortId>], pairs: &[Pair]) -> Result<(), 
 /// So many rounds, or fewer where one changes nothing.
 fn run_rounds(known: &mut [Option<SortId>], pairs: &[Pair], count: usize) -> Result<(), SortFault>
     requires { AllByRecursion (IsWithin known.old) pairs.now }
-    ensures { Answers (rounds_tests count known.old pairs.now) (λ _. known.new ≡ after_rounds count known.old pairs.now) result }
+    ensures { Answers (rounds_tests count known.old pairs.now)
+        (λ _. known.new ≡ after_rounds count known.old pairs.now) result }
 {
     if count == 0 {
         return Ok(());
@@ -41,7 +43,9 @@ fn run_rounds(known: &mut [Option<SortId>], pairs: &[Pair], count: usize) -> Res
 /// One round over the equations, which says whether a variable got its sort.
 fn round(known: &mut [Option<SortId>], pairs: &[Pair]) -> Result<bool, SortFault>
     requires { AllByRecursion (IsWithin known.old) pairs.now }
-    ensures { Answers (round_tests known.old pairs.now) (λ changed. (known.new ≡ after_round known.old pairs.now) × (changed ≡ false → known.new ≡ known.old)) result }
+    ensures { Answers (round_tests known.old pairs.now)
+        (λ changed. (known.new ≡ after_round known.old pairs.now)
+        × (changed ≡ false → known.new ≡ known.old)) result }
 {
     match front(pairs) {
         None => Ok(false),
@@ -56,7 +60,11 @@ fn round(known: &mut [Option<SortId>], pairs: &[Pair]) -> Result<bool, SortFault
 /// Gives the sort of one side to the other, and says whether there was one to give.
 fn share(known: &mut [Option<SortId>], pair: Pair) -> Result<bool, SortFault>
     requires { IsWithin known.old pair }
-    ensures { Answers (test (Sort pair.at wrong_sort) (Differ (sort_at known.old pair.left) (sort_at known.old pair.right))) (λ changed. (known.new ≡ after_pair known.old pair) × (changed ≡ false → known.new ≡ known.old)) result }
+    ensures { Answers
+        (test (Sort pair.at wrong_sort)
+        (Differ (sort_at known.old pair.left) (sort_at known.old pair.right)))
+        (λ changed. (known.new ≡ after_pair known.old pair)
+        × (changed ≡ false → known.new ≡ known.old)) result }
 {
     match (known[pair.left], known[pair.right]) {
         (Some(sort), Some(other)) => {

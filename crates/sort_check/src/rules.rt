@@ -1,30 +1,24 @@
 ghost use Rattle.std.specs.Prelude.{◌≡◌, ◌≤◌, ◌<◌, [], IfOk, OnOk, length, min, replicate, slice_index};
-ghost use Rattle.std.specs.List.{AllByRecursion};
+ghost use Rattle.std.specs.List.{AllByRecursion, AllZip};
 ghost use Rattle.spec_core.specs.Findings.{each, each_after};
 ghost use Rattle.spec_grammar.specs.RawTree.{raw_trees};
 ghost use Rattle.spec_grammar.specs.Sizes.{words, words_all};
 ghost use Rattle.sort_check.specs.Answers.{Answers};
 ghost use Rattle.sort_check.specs.RuleTests.{guard_tests, rule_tests};
 ghost use Rattle.sort_check.specs.Over.{IsGuardOver};
-ghost use Rattle.sort_check.specs.Pairwise.{Pairwise};
 ghost use Rattle.sort_check.specs.Parts.{AreSorted, IsRoot, below_tests, counted_tests};
 ghost use Rattle.sort_check.specs.Rules.{RuleStands};
 ghost use Rattle.sort_check.specs.declared.faults.Part.TheVariants.{Right};
 
 use crate::entries::Entry;
 use crate::faults::{Part, SortFault, SortKind, fault};
+use crate::limits::{LEFT_SIZE, RULES_OF_ONE};
 use crate::variables::variables_of_rule;
 use crate::walk::{Walk, arguments};
 use spec_core::{Guard, Rule, Signature};
 use spec_grammar::{RawGuard, RawRule, RawTerm};
 use std::alloc::Global;
 use term_core::{OutOfMemory, Seq, SortId, SymId, Term, Terms, front};
-
-/// How many symbols and variables a left side may have.
-const LEFT_SIZE: u32 = 200;
-
-/// How many rules a function may have.
-const RULES_OF_ONE: u32 = 64;
 
 const BOOL: SortId = SortId(0);
 
@@ -34,7 +28,8 @@ pub(crate) fn rules_of(
     sig: &Signature,
     raws: &[RawRule],
 ) -> Result<Seq<Rule>, SortFault>
-    ensures { Answers (each_after (rule_tests sig.now) [] raws.now) (λ rules. Pairwise (RuleStands sig.now) raws.now rules) result }
+    ensures { Answers (each_after (rule_tests sig.now) [] raws.now)
+        (λ rules. AllZip (RuleStands sig.now) raws.now rules) result }
 {
     let mut counts = no_counts(alloc, sig)?;
     let mut made = Seq::new(alloc);
@@ -58,7 +53,8 @@ fn no_counts(alloc: Global, sig: &Signature) -> Result<Vec<u32>, OutOfMemory>
 fn root(sig: &Signature, counts: &[u32], raw: &RawTerm) -> Result<SymId, SortFault>
     requires { length counts.now ≡ length sig.now.table }
     ensures few { IfOk result (λ f. slice_index counts.now f.0 < 64) }
-    ensures root { Answers (counted_tests sig.now counts.now raw.now) (λ f. IsRoot sig.now raw.now f.0) result }
+    ensures root { Answers (counted_tests sig.now counts.now raw.now)
+        (λ f. IsRoot sig.now raw.now f.0) result }
 {
     let Some(sym) = sig.symbol(raw.name.as_bytes()) else {
         let kind = if raw.args.len() == 0 {
@@ -110,7 +106,8 @@ fn size_all(raws: &[RawTerm], cap: u32) -> u32
 /// The rule that a raw one with this function at its root stands for.
 fn rule_of(alloc: Global, sig: &Signature, sym: SymId, raw: &RawRule) -> Result<Rule, SortFault>
     requires { IsRoot sig.now raw.now.left sym.0 }
-    ensures { Answers (below_tests sig.now raw.now.left raw.now) (λ rule. RuleStands sig.now raw.now rule) result }
+    ensures { Answers (below_tests sig.now raw.now.left raw.now)
+        (λ rule. RuleStands sig.now raw.now rule) result }
 {
     let info = sig.info(sym);
     let mut entries = Vec::new(alloc);
@@ -149,7 +146,9 @@ impl<'a> Walk<'a> {
         requires few { length entries.old.items ≤ 16 }
         requires sorted { AreSorted entries.old.items }
         ensures few { OnOk result (length entries.new.items ≤ 16) }
-        ensures answer { Answers (each (guard_tests self.now.sig.now entries.old.items) raws.now) (λ guards. (entries.new.items ≡ entries.old.items) × Pairwise (IsGuardOver self.now.sig.now entries.old.items) raws.now guards) result }
+        ensures answer { Answers (each (guard_tests self.now.sig.now entries.old.items) raws.now)
+            (λ guards. (entries.new.items ≡ entries.old.items)
+            × AllZip (IsGuardOver self.now.sig.now entries.old.items) raws.now guards) result }
     {
         let mut made = Seq::new(self.alloc);
         for raw in raws {

@@ -6,7 +6,7 @@ ghost use Rattle.sort_check.specs.GoalTests.{inferred_tests};
 ghost use Rattle.sort_check.specs.Over.{variables_of};
 ghost use Rattle.sort_check.specs.Parts.{AreSorted};
 
-use crate::entries::{Entry, copy_name};
+use crate::entries::Entry;
 use crate::faults::{SortFault, SortKind, fault};
 use spec_core::VarInfo;
 use std::alloc::Global;
@@ -19,14 +19,15 @@ pub(crate) fn sorted_variables(
     known: &[Option<SortId>],
 ) -> Result<Seq<VarInfo>, SortFault>
     requires { length known.now ≡ length entries.now }
-    ensures { Answers (inferred_tests entries.now known.now) (λ vars. vars ≡ variables_of entries.now known.now) result }
+    ensures { Answers (inferred_tests entries.now known.now)
+        (λ vars. vars ≡ variables_of entries.now known.now) result }
 {
     let mut vars = Seq::new(alloc);
     for (place, entry) in entries.iter().enumerate() {
         let Some(sort) = known[place] else {
             return Err(fault(entry.at, SortKind::SortNotInferred));
         };
-        let name = copy_name(alloc, &entry.name)?;
+        let name = entry.name.copy(alloc)?;
         vars.push(VarInfo { name, sort })?;
     }
     Ok(vars)
@@ -35,7 +36,8 @@ pub(crate) fn sorted_variables(
 /// The variables of a rule, each of which has a sort.
 pub(crate) fn variables_of_rule(alloc: Global, entries: &[Entry]) -> Result<Seq<VarInfo>, SortFault>
     requires { AreSorted entries.now }
-    ensures { Answers nothing (λ vars. vars ≡ variables_of entries.now (sorts_known entries.now)) result }
+    ensures { Answers nothing (λ vars. vars ≡ variables_of entries.now (sorts_known entries.now))
+        result }
 {
     let known = known_sorts(alloc, entries)?;
     sorted_variables(alloc, entries, &known)

@@ -10,15 +10,13 @@ ghost use Rattle.sort_check.specs.declared.faults.SortKind.TheVariants.{WrongSor
 ghost use Rattle.sort_check.specs.Words.{variable_tests, symbol_tests, term_tests, terms_tests, entries_after, entries_after_all};
 ghost use Rattle.sort_check.specs.Over.{IsOver, AreOverBehind};
 
-use crate::entries::{Entry, add, copy_name, place_of};
+use crate::entries::{Entry, add, place_of};
 use crate::faults::{Part, SortFault, SortKind, fault};
+use crate::limits::VARIABLES;
 use spec_core::Signature;
 use spec_grammar::RawTerm;
 use std::alloc::Global;
 use term_core::{Name, SortId, SymId, Term, Terms, VarId, front};
-
-/// How many variables a rule or a goal may have.
-pub(crate) const VARIABLES: usize = 16;
 
 /// A walk over the terms of one part of a declaration.
 #[derive(Clone, Copy)]
@@ -41,7 +39,11 @@ impl<'a> Walk<'a> {
     ) -> Result<Term, SortFault>
         requires few { length entries.old.items ≤ 16 }
         ensures few { OnOk result (length entries.new.items ≤ 16) }
-        ensures answer { Answers (term_tests self.now.sig.now self.now.part entries.old.items wrong raw.now place) (λ t. (entries.new.items ≡ entries_after self.now.sig.now entries.old.items raw.now place) × IsOver self.now.sig.now entries.new.items raw.now t) result }
+        ensures answer { Answers
+            (term_tests self.now.sig.now self.now.part entries.old.items wrong raw.now place)
+            (λ t. (entries.new.items
+            ≡ entries_after self.now.sig.now entries.old.items raw.now place)
+            × IsOver self.now.sig.now entries.new.items raw.now t) result }
     {
         match self.sig.symbol(raw.name.as_bytes()) {
             None => {
@@ -73,7 +75,14 @@ impl<'a> Walk<'a> {
         requires few { length entries.old.items ≤ 16 }
         requires long { length raws.now ≡ length sorts.now }
         ensures few { OnOk result (length entries.new.items ≤ 16) }
-        ensures answer { Answers (terms_tests self.now.sig.now self.now.part entries.old.items (raw_trees raws.now) sorts.now) (λ _. (entries.new.items ≡ entries_after_all self.now.sig.now entries.old.items (raw_trees raws.now) sorts.now) × AreOverBehind self.now.sig.now entries.new.items (raw_trees raws.now) made.old made.new) result }
+        ensures answer { Answers
+            (terms_tests self.now.sig.now self.now.part entries.old.items (raw_trees raws.now)
+            sorts.now)
+            (λ _. (entries.new.items
+            ≡ entries_after_all self.now.sig.now entries.old.items (raw_trees raws.now)
+            sorts.now)
+            × AreOverBehind self.now.sig.now entries.new.items (raw_trees raws.now) made.old
+            made.new) result }
     {
         let first = front(raws);
         let other = front(sorts);
@@ -98,7 +107,13 @@ impl<'a> Walk<'a> {
     ) -> Result<VarId, SortFault>
         requires few { length entries.old.items ≤ 16 }
         ensures few { OnOk result (length entries.new.items ≤ 16) }
-        ensures answer { Answers (variable_tests self.now.part entries.old.items wrong at place (entry_named entries.old.items name.now)) (λ v. (entries.new.items ≡ with_variable entries.old.items name.now at place (entry_named entries.old.items name.now)) × (entry_named entries.new.items name.now ≡ Some v.0)) result }
+        ensures answer { Answers
+            (variable_tests self.now.part entries.old.items wrong at place
+            (entry_named entries.old.items name.now))
+            (λ v. (entries.new.items
+            ≡ with_variable entries.old.items name.now at place
+            (entry_named entries.old.items name.now))
+            × (entry_named entries.new.items name.now ≡ Some v.0)) result }
     {
         match place_of(entries, name.as_bytes()) {
             Some(number) => {
@@ -119,7 +134,11 @@ impl<'a> Walk<'a> {
         place: Option<SortId>,
     ) -> Result<(), SortFault>
         requires { number < length entries.old.items }
-        ensures { Answers (test (Sort at wrong) (Differ (sort_so_far entries.old.items number) place)) (λ _. entries.new.items ≡ given entries.old.items number place (sort_so_far entries.old.items number)) result }
+        ensures { Answers
+            (test (Sort at wrong) (Differ (sort_so_far entries.old.items number) place))
+            (λ _. entries.new.items
+            ≡ given entries.old.items number place (sort_so_far entries.old.items number))
+            result }
     {
         match (entries[number].sort, place) {
             (Some(sort), Some(other)) if sort.0 != other.0 => Err(fault(at, wrong)),
@@ -141,7 +160,10 @@ impl<'a> Walk<'a> {
     ) -> Result<VarId, SortFault>
         requires { length entries.old.items ≤ 16 }
         ensures few { OnOk result (length entries.new.items ≤ 16) }
-        ensures answer { Answers (variable_tests self.now.part entries.old.items wrong_sort at place None) (λ v. (entries.new.items ≡ with_variable entries.old.items name.now at place None) × (v.0 ≡ length entries.old.items)) result }
+        ensures answer { Answers
+            (variable_tests self.now.part entries.old.items wrong_sort at place None)
+            (λ v. (entries.new.items ≡ with_variable entries.old.items name.now at place None)
+            × (v.0 ≡ length entries.old.items)) result }
     {
         match self.part {
             Part::Right => Err(fault(at, SortKind::NotOnTheLeft)),
@@ -151,7 +173,7 @@ impl<'a> Walk<'a> {
                 if number >= VARIABLES {
                     return Err(fault(at, SortKind::TooManyVariables));
                 }
-                let name = copy_name(self.alloc, name)?;
+                let name = name.copy(self.alloc)?;
                 let sort = place;
                 add(entries, Entry { name, at, sort })?;
                 Ok(VarId(number as u32))
@@ -169,7 +191,8 @@ impl<'a> Walk<'a> {
         place: Option<SortId>,
     ) -> Result<(), SortFault>
         requires { sym.0 < length self.now.sig.now.table }
-        ensures { Answers (symbol_tests self.now.sig.now self.now.part wrong at sym.0 count place) (λ _. Unit {0}) result }
+        ensures { Answers (symbol_tests self.now.sig.now self.now.part wrong at sym.0 count place)
+            (λ _. Unit {0}) result }
     {
         if self.part == Part::Left && !self.sig.is_constructor(sym) {
             return Err(fault(at, SortKind::DefinedInPattern));

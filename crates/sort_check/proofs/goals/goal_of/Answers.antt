@@ -1,8 +1,8 @@
 use Rattle.std.proofs.Common.{rules, ◌≡◌, ◌++◌, ◌≤◌, subst, map, length}
+use Rattle.std.specs.List.{AllZip}
 use Rattle.spec_core.specs.Findings.{Clean}
 use Rattle.sort_check.specs.GoalTests.{bound, binds_tests, in_turn, left_by, sides_tests, after_sides, sorts_tests, opposed_by, inferred, equations_of}
 use Rattle.sort_check.specs.Over.{IsEquationOver, variables_of}
-use Rattle.sort_check.specs.Pairwise.{Pairwise}
 use Rattle.sort_check.proofs.GoalSorts.{all_found}
 use Rattle.sort_check.proofs.GoalMade.{goal_made}
 use Rattle.sort_check.proofs.goals.goal_of.Goals as goal
@@ -22,7 +22,7 @@ returns c =
     let fs = c.clause.new.entries.items in
     let sides : Clean (in_turn (sides_tests sig) (after_sides sig) (map (bound sig) raw.binds) eqs) × (fs ≡ left_by (after_sides sig) (map (bound sig) raw.binds) eqs) = subst (λ us. Clean (in_turn (sides_tests sig) (after_sides sig) us eqs) × (fs ≡ left_by (after_sides sig) us eqs)) binds.1 (c.in_ok-clause.ensures.answer.0, c.in_ok-clause.ensures.answer.1.0) in
     let walked = left_by (after_sides sig) (map (bound sig) raw.binds) eqs in
-    let over : Pairwise (IsEquationOver sig walked) eqs (ps ++ cs) = subst (λ us. Pairwise (IsEquationOver sig us) eqs (ps ++ cs)) sides.1 c.in_ok-clause.ensures.answer.1.1 in
+    let over : AllZip (IsEquationOver sig walked) eqs (ps ++ cs) = subst (λ us. AllZip (IsEquationOver sig us) eqs (ps ++ cs)) sides.1 c.in_ok-clause.ensures.answer.1.1 in
     let few : length walked ≤ 16 = subst (λ us. length us ≤ 16) sides.1 (search rules) in
     let sorts : Clean (sorts_tests sig walked eqs) × (c.in_ok-vars.vars ≡ variables_of (opposed_by sig walked eqs) (inferred sig (opposed_by sig walked eqs) eqs)) = subst (λ us. Clean (sorts_tests sig us eqs) × (c.in_ok-vars.vars ≡ variables_of (opposed_by sig us eqs) (inferred sig (opposed_by sig us eqs) eqs))) sides.1 c.in_ok-vars.ensures in
-    goal_made sig c.requires.declared raw ps cs binds.0 sides.0 over c.in_ok-clause.ensures.answer.1.2 sorts.0 few c.in_ok-copy_name.field-0 c.in_ok-vars.vars (search rules) sorts.1
+    goal_made sig c.requires.declared raw ps cs binds.0 sides.0 over c.in_ok-clause.ensures.answer.1.2 sorts.0 few c.in_ok-copy.field-0 c.in_ok-vars.vars (search rules) sorts.1

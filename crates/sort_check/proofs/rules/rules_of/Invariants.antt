@@ -1,6 +1,6 @@
 use Rattle.std.proofs.Common.{◌≡◌, [], length, take}
+use Rattle.std.specs.List.{AllZip}
 use Rattle.spec_core.specs.Findings.{Clean, each_after}
-use Rattle.sort_check.specs.Pairwise.{Pairwise}
 use Rattle.sort_check.specs.Parts.{AreCounts}
 use Rattle.sort_check.specs.RuleTests.{rule_tests}
 use Rattle.sort_check.specs.Rules.{RuleStands}
@@ -12,5 +12,5 @@ invariant-loop-raw l =
       long : length l.counts.items ≡ length l.sig.table;
       counts : AreCounts l.sig (take l.raw-index l.raws) l.counts.items;
       clean : Clean (each_after (rule_tests l.sig) [] (take l.raw-index l.raws));
-      made : Pairwise (RuleStands l.sig) (take l.raw-index l.raws) l.made;
+      made : AllZip (RuleStands l.sig) (take l.raw-index l.raws) l.made;
     }

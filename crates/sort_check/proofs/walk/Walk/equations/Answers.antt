@@ -1,8 +1,8 @@
 use Rattle.std.proofs.Common.{rules, Err, ◌≡◌}
+use Rattle.std.specs.List.{AllZip}
 use Rattle.spec_core.specs.Findings.{Clean}
 use Rattle.sort_check.specs.GoalTests.{in_turn, left_by, sides_tests, after_sides}
 use Rattle.sort_check.specs.Over.{IsEquationOver}
-use Rattle.sort_check.specs.Pairwise.{Pairwise}
 use Rattle.sort_check.proofs.Pairs.{pairs_next}
 use Rattle.sort_check.proofs.Sides.{sides_extend, equations_more}
 use Rattle.sort_check.proofs.Telling.{answer_err}
@@ -37,4 +37,4 @@ pub returns-clause-answer : goal.returns-clause-answer
 returns-clause-answer c =
     let sig = c.args.self.now.sig.now in
     let es = c.args.entries.now.items in
-    turn_end (sides_tests sig) (after_sides sig) es c.args.raws.now c.loop-raw.raw-index (λ xs. Clean (in_turn (sides_tests sig) (after_sides sig) es xs) × ((c.loop-raw.entries.items ≡ left_by (after_sides sig) es xs) × Pairwise (IsEquationOver sig c.loop-raw.entries.items) xs c.loop-raw.made)) c.loop-raw-test.false (c.loop-raw.invariant.clean, (c.loop-raw.invariant.after, c.loop-raw.invariant.made))
+    turn_end (sides_tests sig) (after_sides sig) es c.args.raws.now c.loop-raw.raw-index (λ xs. Clean (in_turn (sides_tests sig) (after_sides sig) es xs) × ((c.loop-raw.entries.items ≡ left_by (after_sides sig) es xs) × AllZip (IsEquationOver sig c.loop-raw.entries.items) xs c.loop-raw.made)) c.loop-raw-test.false (c.loop-raw.invariant.clean, (c.loop-raw.invariant.after, c.loop-raw.invariant.made))
