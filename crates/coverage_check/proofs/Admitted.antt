@@ -4,9 +4,9 @@ use Rattle.std.specs.List.{AllByRecursion}
 use Rattle.term_core.specs.declared.ids.SortId.{SortId}
 use Rattle.spec_core.specs.Sig.{Sig}
 use Rattle.term_core.specs.Tree.{Tree, Trees, var, app, none, some, instance, instances, trees_of}
-use Rattle.spec_core.specs.WellSorted.{Occurs, OccursAny}
+use Rattle.term_core.specs.Variables.{Occurs, OccursAny}
 use Rattle.spec_core.specs.Linear.{OccursTwice, OccurTwice}
-use Rattle.spec_core.proofs.Instances.{same_instance}
+use Rattle.term_core.proofs.Instances.{same_instance}
 use Rattle.coverage_check.specs.Admits.{Admits, AdmitAll, SomeAdmits}
 use Rattle.coverage_check.specs.Rows.{IsRow}
 use Rattle.coverage_check.specs.Values.{MatchesRow, MatchesSome}

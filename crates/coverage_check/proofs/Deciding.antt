@@ -1,10 +1,11 @@
 -- Whether values are missing, by the values that begin with each constructor.
-use Rattle.std.proofs.Common.{◌≡◌, ℕ, zero, suc, ◌+◌, ◌<◌, ◌≤◌, List, [], ◌∷◌, ◌++◌, Bool, true, false, cond, Some, Result, Ok, Err, inl, inr, map, length, refl, ap, sym, ◌∙◌, subst, arith}
-use Rattle.std.specs.Prelude.{◌==◌, IfOk}
-use Rattle.std.specs.List.{AllByRecursion, Any}
+use Rattle.std.proofs.Common.{◌≡◌, ℕ, zero, suc, ◌+◌, ◌<◌, ◌≤◌, List, [], ◌∷◌, ◌++◌, Bool, true, false, cond, Option, Some, None, Result, Ok, Err, inl, inr, map, length, refl, ap, sym, ◌∙◌, subst, arith}
+use Rattle.std.specs.Prelude.{◌==◌, IfOk, MatchOption, is_some}
+use Rattle.std.specs.List.{AllByRecursion, AllZip, Any}
 use Rattle.std.proofs.lemmas.Bool.Decides.{nat_tests}
 use Rattle.term_core.specs.Tree.{Tree, Trees, var, app, none, some, trees_of, list_of}
 use Rattle.term_core.specs.declared.ids.SortId.{SortId}
+use Rattle.term_core.specs.declared.ids.SymId.{SymId}
 use Rattle.term_core.specs.declared.memory.OutOfMemory.{OutOfMemory}
 use Rattle.spec_core.specs.declared.records.SymInfo.{SymInfo}
 use Rattle.spec_core.specs.Sig.{Sig, info_of, IsConstructor, IsSort, SortsAreInRange}
@@ -18,10 +19,10 @@ use Rattle.coverage_check.specs.Admits.{Admits, AdmitAll, SomeAdmits}
 use Rattle.coverage_check.specs.Opened.{opened}
 use Rattle.coverage_check.specs.Columns.{IsVariable, has_symbol_at, symbols_at, HasNoSymbols, fronted, behind_first}
 use Rattle.coverage_check.specs.Named.{IsSettled}
-use Rattle.coverage_check.specs.Decisions.{IsPatternOf, ArePatternsOf, HasSorts, SomeMissing, NoneMissing, IsDecision, IsDecisionUnder, BeginsOtherwise, IsOf}
+use Rattle.coverage_check.specs.Decisions.{IsPatternOf, ArePatternsOf, HasSorts, SomeMissing, NoneMissing, IsDecision, IsDecisionUnder, IsFirstMissing, BeginsOtherwise, IsOf}
 use Rattle.coverage_check.proofs.Joined.{values_join, values_parts, sorted_length}
 use Rattle.coverage_check.proofs.OpenedRows.{opened_admits, admits_opened}
-use Rattle.coverage_check.proofs.Fronts.{Paired, front_pairs, pairs_back, moved_back}
+use Rattle.coverage_check.proofs.Fronts.{front_pairs, pairs_back, moved_back}
 
 module _ (sig : Sig) where
   pub in_range : IsDeclared sig → SortsAreInRange sig
@@ -115,12 +116,12 @@ module _ (sig : Sig) where
   all_settled n s ss rows h settled (var k ∷ us) v = absurd v.1.0
   all_settled n s ss rows h settled (app d args ∷ us) v = settled d (omega (arith, v.1.0.0)) args us v
 
-  -- a constructor of another sort is settled
-  pub other_settled : (c : ℕ) (i : SymInfo) (s : SortId) (ss : List SortId) (rows : List (List Tree)) → info_of sig c ≡ Some i → (i.result.0 ≡ s.0 → ⊥) → IsSettled sig rows (s ∷ ss) c
-  other_settled c i s ss rows at other args vs v =
-      let k : Some v.0.0.0 ≡ Some i = sym v.0.0.1 ∙ at in
-      let j : v.0.0.0 ≡ i = cc in
-      absurd (other (ap (λ (x : SymInfo). x.result.0) (sym j) ∙ ap (λ (x : SortId). x.0) v.0.0.2))
+  -- values are missing where a first constructor is found that leaves some
+  pub found_decided : (rows : List (List Tree)) (sorts : List SortId) (found : Option SymId) (b : Bool) → b ≡ is_some found → MatchOption found (NoneMissing sig rows sorts) (λ sym. IsFirstMissing sig rows sorts sym.0) → IsDecision sig rows sorts b
+  found_decided rows sorts None b e settled = subst (λ x. IsDecision sig rows sorts x) (sym e) settled
+  found_decided rows sorts (Some sym_found) b e first =
+      let values = first.missing in
+      subst (λ x. IsDecision sig rows sorts x) (sym e) (app sym_found.0 values.0 ∷ values.1, values.2)
 
   -- a row of variables admits all values
   variables_admit : (row vs : List Tree) → AllByRecursion IsVariable row → length row ≡ length vs → AdmitAll (trees_of row) (trees_of vs)
@@ -158,13 +159,13 @@ module _ (sig : Sig) where
       subst (λ x. IsDecision sig (row ∷ rows) sorts x) (sym (e ∙ k)) (variables_cover sorts (row ∷ rows) h (0, row, omega arith, refl, free))
 
   -- pairs of values and sorts, of patterns and sorts, and of patterns and terms
-  pair_values : (vs : List Tree) (ss : List SortId) → AreValues sig ss vs → Paired (λ v s. IsValue sig s v) vs ss
+  pair_values : (vs : List Tree) (ss : List SortId) → AreValues sig ss vs → AllZip (λ v s. IsValue sig s v) vs ss
   pair_values [] [] h = tt
   pair_values [] (s ∷ ss) h = absurd h.0
   pair_values (v ∷ vs) [] h = absurd h.0
   pair_values (v ∷ vs) (s ∷ ss) h = ((h.0.0, h.1.0), pair_values vs ss (h.0.1, h.1.1))
 
-  paired_values : (vs : List Tree) (ss : List SortId) → Paired (λ v s. IsValue sig s v) vs ss → AreValues sig ss vs
+  paired_values : (vs : List Tree) (ss : List SortId) → AllZip (λ v s. IsValue sig s v) vs ss → AreValues sig ss vs
   paired_values [] [] h = (tt, tt)
   paired_values [] (s ∷ ss) h = absurd h
   paired_values (v ∷ vs) [] h = absurd h
@@ -172,25 +173,25 @@ module _ (sig : Sig) where
       let r = paired_values vs ss h.1 in
       ((h.0.0, r.0), (h.0.1, r.1))
 
-  pair_patterns : (ts : List Tree) (ss : List SortId) → HasSorts sig ss ts → Paired (λ t s. IsPatternOf sig t s) ts ss
+  pair_patterns : (ts : List Tree) (ss : List SortId) → HasSorts sig ss ts → AllZip (λ t s. IsPatternOf sig t s) ts ss
   pair_patterns [] [] h = tt
   pair_patterns [] (s ∷ ss) h = absurd h
   pair_patterns (t ∷ ts) [] h = absurd h
   pair_patterns (t ∷ ts) (s ∷ ss) h = (h.0, pair_patterns ts ss h.1)
 
-  paired_patterns : (ts : List Tree) (ss : List SortId) → Paired (λ t s. IsPatternOf sig t s) ts ss → HasSorts sig ss ts
+  paired_patterns : (ts : List Tree) (ss : List SortId) → AllZip (λ t s. IsPatternOf sig t s) ts ss → HasSorts sig ss ts
   paired_patterns [] [] h = tt
   paired_patterns [] (s ∷ ss) h = absurd h
   paired_patterns (t ∷ ts) [] h = absurd h
   paired_patterns (t ∷ ts) (s ∷ ss) h = (h.0, paired_patterns ts ss h.1)
 
-  pair_admits : (ps vs : List Tree) → AdmitAll (trees_of ps) (trees_of vs) → Paired Admits ps vs
+  pair_admits : (ps vs : List Tree) → AdmitAll (trees_of ps) (trees_of vs) → AllZip Admits ps vs
   pair_admits [] [] h = tt
   pair_admits [] (v ∷ vs) h = absurd h
   pair_admits (p ∷ ps) [] h = absurd h
   pair_admits (p ∷ ps) (v ∷ vs) h = (h.0, pair_admits ps vs h.1)
 
-  paired_admits : (ps vs : List Tree) → Paired Admits ps vs → AdmitAll (trees_of ps) (trees_of vs)
+  paired_admits : (ps vs : List Tree) → AllZip Admits ps vs → AdmitAll (trees_of ps) (trees_of vs)
   paired_admits [] [] h = tt
   paired_admits [] (v ∷ vs) h = absurd h
   paired_admits (p ∷ ps) [] h = absurd h

@@ -1,47 +1,41 @@
 -- Lists with the item at a place before the others: what pairs two lists pairs them with both moved.
-use Rattle.std.proofs.Common.{◌≡◌, ℕ, zero, suc, ◌+◌, ◌-◌, ◌<◌, List, [], ◌∷◌, ◌++◌, map, length, get_or, take, drop, refl, ap, ◌∙◌, arith}
+use Rattle.std.proofs.Common.{◌≡◌, ℕ, zero, suc, ◌+◌, ◌-◌, ◌<◌, List, [], ◌∷◌, ◌++◌, map, length, get_or, take, drop, refl, ap, sym, ◌∙◌, arith}
 use Rattle.std.specs.Borrow.{Bor}
-use Rattle.std.proofs.lemmas.List.{take_all, length-drop}
+use Rattle.std.specs.List.{AllZip}
+use Rattle.std.proofs.lemmas.List.{take_all, length-drop, map-append}
 use Rattle.term_core.specs.Tree.{Tree}
 use Rattle.term_core.specs.References.{terms_of}
 use Rattle.coverage_check.specs.Columns.{behind_first, fronted}
 
--- the lists have the same length, and the relation holds of their items at each place
-abbrev pub Paired : {X Y : Type 0} → (X → Y → Type 0) → List X → List Y → Type 0
-Paired R [] [] = Unit {0}
-Paired R (x ∷ xs) (y ∷ ys) = R x y × Paired R xs ys
-Paired R [] (y ∷ ys) = ⊥
-Paired R (x ∷ xs) [] = ⊥
-
 module _ {X Y : Type 0} (R : X → Y → Type 0) where
-  behind : (x : X) (y : Y) (xs : List X) (ys : List Y) → R x y × Paired R xs ys → Paired R (behind_first x xs) (behind_first y ys)
+  behind : (x : X) (y : Y) (xs : List X) (ys : List Y) → R x y × AllZip R xs ys → AllZip R (behind_first x xs) (behind_first y ys)
   behind x y [] [] h = h
   behind x y (a ∷ xs) (b ∷ ys) h = (h.1.0, (h.0, h.1.1))
   behind x y [] (b ∷ ys) h = absurd h.1
   behind x y (a ∷ xs) [] h = absurd h.1
 
-  ahead : (x : X) (y : Y) (xs : List X) (ys : List Y) → Paired R (behind_first x xs) (behind_first y ys) → R x y × Paired R xs ys
+  ahead : (x : X) (y : Y) (xs : List X) (ys : List Y) → AllZip R (behind_first x xs) (behind_first y ys) → R x y × AllZip R xs ys
   ahead x y [] [] h = h
   ahead x y (a ∷ xs) (b ∷ ys) h = (h.1.0, (h.0, h.1.1))
   ahead x y [] (b ∷ ys) h = absurd h.1
   ahead x y (a ∷ xs) [] h = absurd h.1
 
-  unpaired : (y : Y) (ys : List Y) → Paired R [] (behind_first y ys) → ⊥
+  unpaired : (y : Y) (ys : List Y) → AllZip R [] (behind_first y ys) → ⊥
   unpaired y [] h = h
   unpaired y (b ∷ ys) h = h
 
-  unpaired_too : (x : X) (xs : List X) → Paired R (behind_first x xs) [] → ⊥
+  unpaired_too : (x : X) (xs : List X) → AllZip R (behind_first x xs) [] → ⊥
   unpaired_too x [] h = h
   unpaired_too x (a ∷ xs) h = h
 
-  pub front_pairs : (k : ℕ) (xs : List X) (ys : List Y) → Paired R xs ys → Paired R (fronted k xs) (fronted k ys)
+  pub front_pairs : (k : ℕ) (xs : List X) (ys : List Y) → AllZip R xs ys → AllZip R (fronted k xs) (fronted k ys)
   front_pairs zero xs ys h = h
   front_pairs (suc k) [] [] h = h
   front_pairs (suc k) (x ∷ xs) (y ∷ ys) h = behind x y (fronted k xs) (fronted k ys) (h.0, front_pairs k xs ys h.1)
   front_pairs (suc k) [] (y ∷ ys) h = absurd h
   front_pairs (suc k) (x ∷ xs) [] h = absurd h
 
-  pub pairs_back : (k : ℕ) (xs : List X) (ys : List Y) → Paired R (fronted k xs) (fronted k ys) → Paired R xs ys
+  pub pairs_back : (k : ℕ) (xs : List X) (ys : List Y) → AllZip R (fronted k xs) (fronted k ys) → AllZip R xs ys
   pairs_back zero xs ys h = h
   pairs_back (suc k) [] [] h = h
   pairs_back (suc k) (x ∷ xs) (y ∷ ys) h =
@@ -51,7 +45,7 @@ module _ {X Y : Type 0} (R : X → Y → Type 0) where
   pairs_back (suc k) (x ∷ xs) [] h = absurd (unpaired_too x (fronted k xs) h)
 
   -- what is paired with a moved list is itself a moved list
-  before_move : (k : ℕ) (y : Y) (ys bs : List Y) → ((us : List X) → Paired R us bs → (xs : List X) × (us ≡ fronted k xs) × Paired R xs ys) → (ws : List X) → Paired R ws (behind_first y bs) → (xs : List X) × (ws ≡ fronted (suc k) xs) × Paired R xs (y ∷ ys)
+  before_move : (k : ℕ) (y : Y) (ys bs : List Y) → ((us : List X) → AllZip R us bs → (xs : List X) × (us ≡ fronted k xs) × AllZip R xs ys) → (ws : List X) → AllZip R ws (behind_first y bs) → (xs : List X) × (ws ≡ fronted (suc k) xs) × AllZip R xs (y ∷ ys)
   before_move k y ys [] back [] h = absurd h
   before_move k y ys [] back (w ∷ []) h =
       let r = back [] tt in
@@ -63,7 +57,7 @@ module _ {X Y : Type 0} (R : X → Y → Type 0) where
       let r = back (w ∷ ws) (h.0, h.1.1) in
       (v ∷ r.0, ap (λ us. behind_first v us) r.1, (h.1.0, r.2))
 
-  pub moved_back : (k : ℕ) (ys : List Y) (ws : List X) → Paired R ws (fronted k ys) → (xs : List X) × (ws ≡ fronted k xs) × Paired R xs ys
+  pub moved_back : (k : ℕ) (ys : List Y) (ws : List X) → AllZip R ws (fronted k ys) → (xs : List X) × (ws ≡ fronted k xs) × AllZip R xs ys
   moved_back zero ys ws h = (ws, refl, h)
   moved_back (suc k) [] [] h = ([], refl, h)
   moved_back (suc k) [] (w ∷ ws) h = absurd h
@@ -106,17 +100,8 @@ front_made k xs x none made more all h is z a b c =
     let e : x ∷ (take k xs ++ drop (k + 1) xs) ≡ fronted k xs = ap (λ y. y ∷ (take k xs ++ drop (k + 1) xs)) is ∙ fronted_is k xs x h in
     c ∙ ap (λ ys. more ++ ys) (all_behind (k + 1) xs) ∙ ap (λ ys. ys ++ drop (k + 1) xs) (b ∙ ap (λ ys. ys ++ take k xs) (a ∙ ap (λ ys. ys ++ x ∷ []) z)) ∙ e
 
-map_join : {X Y : Type 0} (f : X → Y) (xs ys : List X) → map f xs ++ map f ys ≡ map f (xs ++ ys)
-map_join f [] ys = refl
-map_join f (x ∷ xs) ys = ap (λ zs. f x ∷ zs) (map_join f xs ys)
-
 pub row_made : (k : ℕ) (refs : List (Bor Tree)) (x : Bor Tree) (none made more all : List Tree) → k < length refs → x ≡ get_or refs k x → none ≡ [] → made ≡ none ++ x.now ∷ [] → more ≡ made ++ terms_of (take k refs) → all ≡ more ++ terms_of (take (length refs - (k + 1)) (drop (k + 1) refs)) → all ≡ fronted k (terms_of refs)
 row_made k refs x none made more all h is z a b c =
     let now : Bor Tree → Tree = λ (t : Bor Tree). t.now in
     let e : x ∷ (take k refs ++ drop (k + 1) refs) ≡ fronted k refs = ap (λ y. y ∷ (take k refs ++ drop (k + 1) refs)) is ∙ fronted_is k refs x h in
-    c ∙ ap (λ ys. more ++ terms_of ys) (all_behind (k + 1) refs) ∙ ap (λ ys. ys ++ terms_of (drop (k + 1) refs)) (b ∙ ap (λ ys. ys ++ terms_of (take k refs)) (a ∙ ap (λ ys. ys ++ x.now ∷ []) z)) ∙ ap (λ ts. x.now ∷ ts) (map_join now (take k refs) (drop (k + 1) refs)) ∙ ap (λ rs. terms_of rs) e ∙ map_fronted now k refs
-
-pub at_any : {X : Type 0} (xs : List X) (k : ℕ) (d e : X) → k < length xs → get_or xs k d ≡ get_or xs k e
-at_any [] k d e h = absurd (omega arith)
-at_any (x ∷ xs) zero d e h = refl
-at_any (x ∷ xs) (suc k) d e h = at_any xs k d e (omega arith)
+    c ∙ ap (λ ys. more ++ terms_of ys) (all_behind (k + 1) refs) ∙ ap (λ ys. ys ++ terms_of (drop (k + 1) refs)) (b ∙ ap (λ ys. ys ++ terms_of (take k refs)) (a ∙ ap (λ ys. ys ++ x.now ∷ []) z)) ∙ ap (λ ts. x.now ∷ ts) (sym (map-append now (take k refs) (drop (k + 1) refs))) ∙ ap (λ rs. terms_of rs) e ∙ map_fronted now k refs

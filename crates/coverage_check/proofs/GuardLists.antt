@@ -2,7 +2,7 @@
 use Rattle.std.proofs.Common.{◌≡◌, ◌↔◌, ℕ, zero, suc, ◌+◌, ◌-◌, Some, Result, Ok, Err, ◌<◌, ◌≤◌, ◌++◌, List, [], ◌∷◌, Bool, true, false, cond, map, length, get_or, drop, IsTrue, refl, ap, sym, ◌∙◌, subst, arith}
 use mathlib.Core.Bool.{beq}
 use Rattle.std.specs.Prelude.{IfOk, slice_get}
-use Rattle.std.proofs.lemmas.List.{at_drop_more}
+use Rattle.std.proofs.lemmas.List.{append-nil, at_drop_more}
 use Rattle.std.specs.List.{AllByRecursion}
 use Rattle.std.specs.Borrow.{Bor}
 use Rattle.term_core.specs.Tree.{Tree}
@@ -253,14 +253,10 @@ rule_met spec group all i rules rule old new guards h numbers same is gs n kept 
     ∙ ap (λ ns. lists_of old ++ unnumbered (numbered_guards spec ns)) (sym first)
     ∙ kept
 
-append_none : {X : Type 0} (xs : List X) → xs ++ [] ≡ xs
-append_none [] = refl
-append_none (x ∷ xs) = ap (λ ys. x ∷ ys) (append_none xs)
-
 -- the lists of all rules
 pub all_met : (spec : Spec) (group : List ℕ) (i : ℕ) (made lists : List (Bor (List Guard))) → length group ≤ i → lists ≡ made → lists_of made ++ unnumbered (numbered_guards spec (drop i group)) ≡ unnumbered (numbered_guards spec group) → lists_of lists ≡ unnumbered (numbered_guards spec group)
 all_met spec group i made lists h same kept =
-    ap (λ rs. lists_of rs) same ∙ sym (append_none (lists_of made)) ∙ ap (λ ns. lists_of made ++ unnumbered (numbered_guards spec ns)) (sym (drop_past group i h)) ∙ kept
+    ap (λ rs. lists_of rs) same ∙ sym (append-nil (lists_of made)) ∙ ap (λ ns. lists_of made ++ unnumbered (numbered_guards spec ns)) (sym (drop_past group i h)) ∙ kept
 
 pub numbers_whole : (ms : List (ℕ × List Guard)) (lists : List (List Guard)) → lists ≡ unnumbered ms → AreWhole lists ↔ Whole ms
 numbers_whole ms lists e = (

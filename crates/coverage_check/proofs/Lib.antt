@@ -1,5 +1,6 @@
 pub mod Walks
 pub mod GuardLists
+pub mod LeftSideGroups
 -- Rows and the values that they admit.
 pub mod Assigned
 pub mod Admitted
@@ -12,5 +13,6 @@ pub mod Fronts
 pub mod Symbols
 pub mod Deciding
 pub mod NamedValues
+pub mod Matrices
 pub mod Samples
 mod LeftSides

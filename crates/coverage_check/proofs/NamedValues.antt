@@ -14,12 +14,12 @@ use Rattle.spec_core.specs.Small.{IsSmall, AreSmall}
 use Rattle.coverage_check.specs.Admits.{SomeAdmits}
 use Rattle.coverage_check.specs.Opened.{BeginsWithVariable, rests, opened}
 use Rattle.coverage_check.specs.Columns.{symbols_at}
-use Rattle.coverage_check.specs.Named.{IsSettled, IsFirstOpen, IsNamed, no_sorts, no_rows, all_variables, first_constructor}
-use Rattle.coverage_check.specs.Decisions.{HasSorts, SomeMissing, IsDecisionUnder}
+use Rattle.coverage_check.specs.Named.{IsFirstOpen, IsNamed, no_sorts, no_rows, all_variables, first_constructor}
+use Rattle.coverage_check.specs.Decisions.{HasSorts, SomeMissing, IsDecisionUnder, IsFirstMissing}
 use Rattle.coverage_check.proofs.Joined.{values_join, sorted_length}
 use Rattle.coverage_check.proofs.OpenedRows.{admits_opened}
 use Rattle.coverage_check.proofs.Namings.{named_unadmitted}
-use Rattle.coverage_check.proofs.Deciding.{values_length, all_settled}
+use Rattle.coverage_check.proofs.Deciding.{values_length, its_sort}
 use Rattle.term_core.proofs.Trees.{list_of-trees_of}
 
 -- the number of arguments of all symbols, which bounds how many columns an opening adds
@@ -89,6 +89,9 @@ module _ (sig : Sig) where
   rests_named rows s ss value rest (Err e) some_row h small named m = tt
   rests_named rows s ss value rest (Ok vs) some_row h small named m = subst (λ us. IsNamed sig rows (s ∷ ss) us) (sym m) (all_variables some_row h small named)
 
+  pub named_along : {rows moved : List (List Tree)} {sorts others : List SortId} {values : List Tree} → moved ≡ rows → others ≡ sorts → IsNamed sig moved others values → IsNamed sig rows sorts values
+  named_along {rows} {moved} {sorts} {others} {values} p q n = subst (λ ss. IsNamed sig rows ss values) q (subst (λ rs. IsNamed sig rs others values) p n)
+
   -- where not all rows begin with a variable, some begin with a symbol
   pub some_begin : (s : SortId) (ss : List SortId) (rows : List (List Tree)) → AllByRecursion (HasSorts sig (s ∷ ss)) rows → (AllByRecursion BeginsWithVariable rows → ⊥) → 0 < symbols_at 0 rows
   some_begin s ss [] h d = absurd (d tt)
@@ -106,6 +109,15 @@ module _ (sig : Sig) where
         let p : SortedAll sig [] args i.args = subst (λ (x : SymInfo). SortedAll sig [] args x.args) j v.0.0.3 in
         (list_of args ++ vs, (values_join sig args vs i.args ss p v.1.0.1 (v.0.1, v.1.1), λ a. u.1 (admits_opened sig c i at s ss args vs rows sorted (sorted_length sig args i.args p) a)))
 
+    pub first_open : (AllByRecursion BeginsWithVariable rows → ⊥) → IsFirstMissing sig rows (s ∷ ss) c → IsFirstOpen sig rows s ss c i
+    first_open decides first = record {
+      decides = decides;
+      constructor = first.of_first.0;
+      info = at;
+      result = its_sort sig c i s at first.of_first;
+      before = first.before;
+    }
+
     pub named_length : (values : List Tree) → IsNamed sig (opened c (length i.args) rows) (i.args ++ ss) values → length i.args ≤ length values
     named_length values n = omega (arith, values_length sig values (i.args ++ ss) (named_unadmitted sig n).0, length-append i.args ss)
 
@@ -119,7 +131,3 @@ module _ (sig : Sig) where
         let long : length (list_of (trees_of firsts)) ≡ count = ap (λ us. length us) (list_of-trees_of firsts) ∙ length-take-le count values (named_length values n) in
         let back : IsNamed sig (opened c count rows) (i.args ++ ss) (list_of (trees_of firsts) ++ rest) = subst (λ us. IsNamed sig (opened c count rows) (i.args ++ ss) us) (sym parts) n in
         subst (λ us. IsNamed sig rows (s ∷ ss) us) (sym m) (first_constructor c i first long back)
-
-  -- where each constructor is settled, nothing is missing
-  pub none_left : (n : ℕ) (s : SortId) (ss : List SortId) (rows : List (List Tree)) → sig.constructors ≤ n → ((d : ℕ) → d < n → IsSettled sig rows (s ∷ ss) d) → SomeMissing sig rows (s ∷ ss) → ⊥
-  none_left n s ss rows h settled (vs, u) = u.1 (all_settled sig n s ss rows h settled vs u.0)

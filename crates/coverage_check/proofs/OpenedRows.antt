@@ -4,6 +4,7 @@ use Rattle.std.specs.Prelude.{◌==◌, replicate}
 use Rattle.std.specs.List.{AllByRecursion}
 use Rattle.std.specs.Borrow.{Bor}
 use Rattle.std.proofs.lemmas.Bool.Decides.{nat_tests}
+use Rattle.std.proofs.lemmas.List.{append_assoc}
 use Rattle.term_core.specs.Tree.{Tree, Trees, var, app, none, some, trees_of, list_of}
 use Rattle.term_core.specs.declared.ids.SortId.{SortId}
 use Rattle.spec_core.specs.declared.records.SymInfo.{SymInfo}
@@ -12,10 +13,10 @@ use Rattle.coverage_check.specs.Admits.{SomeAdmits}
 use Rattle.term_core.specs.References.{terms_of}
 use Rattle.coverage_check.specs.Decisions.{IsOpening, HasSorts, IsPatternOf, ArePatternsOf}
 use Rattle.coverage_check.specs.Opened.{opened_before, opened}
-use Rattle.coverage_check.proofs.Walks.{at_item, push_before}
+use Rattle.coverage_check.proofs.Walks.{at_item}
 use Rattle.coverage_check.proofs.Joined.{admit_join, admit_split, variables_join, variables_split}
 use Rattle.term_core.proofs.Trees.{list_of-trees_of}
-use Rattle.spec_core.proofs.Groups.{eqb_self}
+use Rattle.term_core.proofs.SameTrees.{eqb_self}
 
 pub test_same : (m n : ℕ) → (m == n) ≡ true → m ≡ n
 test_same m n h = grind (arith, nat_tests)
@@ -60,7 +61,7 @@ module _ (c count : ℕ) (rows : List (List Tree)) (i : ℕ) (row slice : List T
   pub row_opened : (made : List Tree) → IsOpening c count slice (Some made) → new ≡ old ++ made ∷ [] → new ++ opened c count (drop (i + 1) rows) ≡ all
   row_opened made o n =
       let more = opened c count (drop (i + 1) rows) in
-      ap (λ rs. rs ++ more) n ∙ push_before old made more ∙ ap (λ rs. old ++ rs) (sym (o more)) ∙ here
+      ap (λ rs. rs ++ more) n ∙ append_assoc old (made ∷ []) more ∙ ap (λ rs. old ++ rs) (sym (o more)) ∙ here
 
   pub row_left : IsOpening c count slice None → old ++ opened c count (drop (i + 1) rows) ≡ all
   row_left o = ap (λ rs. old ++ rs) (sym (o (opened c count (drop (i + 1) rows)))) ∙ here

@@ -6,7 +6,8 @@ use Rattle.term_core.specs.Tree.{Tree, var, trees_of}
 use Rattle.term_core.specs.declared.ids.SortId.{SortId}
 use Rattle.spec_core.specs.Sig.{IsSort}
 use Rattle.spec_core.specs.Sorts.{SortedAll}
-use Rattle.spec_core.specs.WellSorted.{OccursAny, ArePatterns}
+use Rattle.term_core.specs.Variables.{OccursAny}
+use Rattle.spec_core.specs.WellSorted.{ArePatterns}
 use Rattle.spec_core.specs.Linear.{OccurTwice}
 use Rattle.spec_core.specs.Naturals.{nat, declares, naturals_sig, zero_term, succ_term}
 use Rattle.coverage_check.specs.Rows.{IsRow}

@@ -2,19 +2,14 @@
 use Rattle.std.proofs.Common.{◌≡◌, ◌↔◌, ℕ, suc, ◌+◌, Bool, true, false, IsTrue, arith, ◌<◌, List, [], ◌∷◌, ◌++◌, map, length, get_or, drop, refl, ap, sym, ◌∙◌}
 use Rattle.std.specs.Prelude.{◌==◌}
 use Rattle.std.proofs.lemmas.Bool.Decides.{nat_tests}
-use Rattle.std.proofs.lemmas.List.{at_drop_more}
+use Rattle.std.proofs.lemmas.List.{append_assoc, at_drop_more, map-append}
 
 -- the item of this turn stands before those to come
 pub at_item : {X : Type 0} (xs : List X) (i : ℕ) (x : X) → i < length xs → x ≡ get_or xs i x → drop i xs ≡ x ∷ drop (i + 1) xs
 at_item xs i x h is = at_drop_more (λ ys. ys) xs i x h ∙ ap (λ y. y ∷ drop (i + 1) xs) (sym is)
 
-pub push_before : {X : Type 0} (xs : List X) (y : X) (zs : List X) → (xs ++ y ∷ []) ++ zs ≡ xs ++ y ∷ zs
-push_before [] y zs = refl
-push_before (x ∷ xs) y zs = ap (λ ys. x ∷ ys) (push_before xs y zs)
-
 pub map_push_before : {X Y : Type 0} (f : X → Y) (xs : List X) (y : X) (zs : List Y) → map f (xs ++ y ∷ []) ++ zs ≡ map f xs ++ f y ∷ zs
-map_push_before f [] y zs = refl
-map_push_before f (x ∷ xs) y zs = ap (λ ys. f x ∷ ys) (map_push_before f xs y zs)
+map_push_before f xs y zs = ap (λ ys. ys ++ zs) (map-append f xs (y ∷ [])) ∙ append_assoc (map f xs) (f y ∷ []) zs
 
 -- the test whether a list is empty
 pub empty_test : {X : Type 0} (xs : List X) (b : Bool) → b ≡ (length xs == 0) → IsTrue b ↔ (xs ≡ [])

@@ -2,7 +2,8 @@
 use Rattle.std.specs.Prelude.{◌≡◌, ◌⊎◌, List, [], ◌∷◌}
 use Rattle.term_core.specs.Tree.{Tree, Trees, var, app, none, some, trees_of}
 
--- a variable admits every term, and an application those of its symbol whose arguments its arguments admit
+-- a variable admits every term, and an application those of its symbol whose arguments its
+-- arguments admit
 abbrev mutual
   pub Admits : Tree → Tree → Type 0
   Admits (var n) t = Unit {0}

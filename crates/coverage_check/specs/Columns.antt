@@ -1,5 +1,5 @@
 -- Columns of rows.
-use Rattle.std.specs.Prelude.{◌≡◌, ℕ, zero, suc, ◌+◌, ◌<◌, ◌≤◌, List, [], ◌∷◌, Bool, true, false, cond, slice_index_or}
+use Rattle.std.specs.Prelude.{◌≡◌, ℕ, zero, suc, ◌+◌, ◌<◌, ◌≤◌, List, [], ◌∷◌, Bool, true, false, if◌then◌else◌, slice_index_or}
 use Rattle.term_core.specs.Tree.{Tree, var, app}
 
 -- the pattern is a variable, or it isn't
@@ -18,7 +18,8 @@ has_symbol_at column row = is_application (slice_index_or row column (var 0))
 -- the number of rows with a symbol at the column
 abbrev pub symbols_at : ℕ → List (List Tree) → ℕ
 symbols_at column [] = 0
-symbols_at column (row ∷ rows) = cond (has_symbol_at column row) (1 + symbols_at column rows) (symbols_at column rows)
+symbols_at column (row ∷ rows) =
+    if has_symbol_at column row then 1 + symbols_at column rows else symbols_at column rows
 
 -- the first of the columns at which most rows have a symbol, and some row has one
 pub record IsBusiest (rows : List (List Tree)) (columns : ℕ) (column : ℕ) : Type 0 where

@@ -8,7 +8,7 @@ use Rattle.coverage_check.specs.declared.answers.Coverage.TheVariants.{Covered, 
 use Rattle.coverage_check.specs.Values.{IsMissing, AreCovered}
 use Rattle.coverage_check.specs.Named.{IsNamed}
 
--- all values of the sorts match some row; or the values are missing, and they are the ones that are named
+-- all values of the sorts match some row; or these values are missing, and are those that are named
 abbrev pub IsCoverage : Sig → List (List Tree) → List SortId → Coverage → Type 0
 IsCoverage sig rows sorts Covered = AreCovered sig rows sorts
 IsCoverage sig rows sorts (Missing vs) = IsMissing sig rows sorts vs × IsNamed sig rows sorts vs

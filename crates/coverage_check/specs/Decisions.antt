@@ -1,9 +1,11 @@
 -- Whether values are missing, by what rows admit.
-use Rattle.std.specs.Prelude.{◌≡◌, ℕ, List, [], ◌∷◌, Bool, true, false, Option, Some, None}
+use Rattle.std.specs.Prelude.{◌≡◌, ℕ, ◌<◌, List, [], ◌∷◌, Bool, true, false, Option, Some, None}
+use Rattle.std.specs.List.{AllByRecursion}
 use Rattle.term_core.specs.Tree.{Tree, Trees, var, app, none, some, trees_of}
 use Rattle.term_core.specs.declared.ids.SortId.{SortId}
 use Rattle.spec_core.specs.declared.records.SymInfo.{SymInfo}
-use Rattle.spec_core.specs.Sig.{Sig, info_of, IsConstructor}
+use Rattle.spec_core.specs.Sig.{Sig, info_of, IsConstructor, IsSort}
+use Rattle.spec_core.specs.Declarations.{IsDeclared}
 use Rattle.coverage_check.specs.Values.{AreValues}
 use Rattle.coverage_check.specs.Admits.{SomeAdmits}
 use Rattle.coverage_check.specs.Opened.{opened_before}
@@ -14,7 +16,9 @@ module _ (sig : Sig) where
   abbrev mutual
     pub IsPatternOf : Tree → SortId → Type 0
     IsPatternOf (var n) s = Unit {0}
-    IsPatternOf (app f ts) s = IsConstructor sig f × ((i : SymInfo) × (info_of sig f ≡ Some i) × (i.result ≡ s) × ArePatternsOf ts i.args)
+    IsPatternOf (app f ts) s =
+        IsConstructor sig f
+        × ((i : SymInfo) × (info_of sig f ≡ Some i) × (i.result ≡ s) × ArePatternsOf ts i.args)
 
     pub ArePatternsOf : Trees → List SortId → Type 0
     ArePatternsOf none [] = Unit {0}
@@ -38,6 +42,14 @@ module _ (sig : Sig) where
   abbrev pub NoneMissing : List (List Tree) → List SortId → Type 0
   NoneMissing rows sorts = (vs : List Tree) → AreValues sig sorts vs → SomeAdmits rows vs
 
+  -- what a search asks: constructor patterns of sorts of a declared signature, and a variable to
+  -- stand where one is opened
+  pub record IsMatrix (rows : List (List Tree)) (sorts : List SortId) (blank : Tree) : Type 0 where
+    pub declared : IsDeclared sig
+    pub range : AllByRecursion (IsSort sig) sorts
+    pub patterns : AllByRecursion (HasSorts sorts) rows
+    pub variable : blank ≡ var 0
+
   -- the answer whether values are missing
   abbrev pub IsDecision : List (List Tree) → List SortId → Bool → Type 0
   IsDecision rows sorts true = SomeMissing rows sorts
@@ -45,7 +57,8 @@ module _ (sig : Sig) where
 
   -- the answer whether values are missing that begin with the constructor
   abbrev pub IsDecisionUnder : ℕ → List (List Tree) → List SortId → Bool → Type 0
-  IsDecisionUnder c rows sorts true = (args : Trees) × (vs : List Tree) × IsUnadmitted rows sorts (app c args ∷ vs)
+  IsDecisionUnder c rows sorts true =
+      (args : Trees) × (vs : List Tree) × IsUnadmitted rows sorts (app c args ∷ vs)
   IsDecisionUnder c rows sorts false = IsSettled sig rows sorts c
 
 -- the first pattern is no application of the constructor
@@ -63,6 +76,14 @@ abbrev pub FirstIsOf : Sig → List SortId → ℕ → Type 0
 FirstIsOf sig [] c = ⊥
 FirstIsOf sig (s ∷ ss) c = IsOf sig s c
 
+-- some values are missing that begin with this constructor of the first sort, and none that begin
+-- with one before it
+pub record IsFirstMissing (sig : Sig) (rows : List (List Tree)) (sorts : List SortId)
+    (c : ℕ) : Type 0 where
+  pub of_first : FirstIsOf sig sorts c
+  pub missing : IsDecisionUnder sig c rows sorts true
+  pub before : (d : ℕ) → d < c → IsSettled sig rows sorts d
+
 -- the row, if there is one, before others
 abbrev pub placed : Option (List Tree) → List (List Tree) → List (List Tree)
 placed None rows = rows
@@ -70,4 +91,5 @@ placed (Some row) rows = row ∷ rows
 
 -- what the row becomes where it is opened, if it isn't left out
 abbrev pub IsOpening : ℕ → ℕ → List Tree → Option (List Tree) → Type 0
-IsOpening c count row opening = (rows : List (List Tree)) → opened_before c count row rows ≡ placed opening rows
+IsOpening c count row opening =
+    (rows : List (List Tree)) → opened_before c count row rows ≡ placed opening rows

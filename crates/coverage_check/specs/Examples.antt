@@ -15,9 +15,12 @@ zero_or_succ = (zero_term ∷ (var 0 ∷ [])) ∷ ((succ_term (var 0) ∷ (var 1
 pub record WorkedExamples : Type 0 where
   -- with no row, zero is missing; with the row zero, succ(zero) is
   pub no_row : IsNamed naturals_sig [] (nat ∷ []) (zero_term ∷ [])
-  pub zero_alone : IsNamed naturals_sig ((zero_term ∷ []) ∷ []) (nat ∷ []) (succ_term zero_term ∷ [])
+  pub zero_alone :
+      IsNamed naturals_sig ((zero_term ∷ []) ∷ []) (nat ∷ []) (succ_term zero_term ∷ [])
   -- with the row (x, zero), the small value zero stands before what is missing of the rest
-  pub last_decides : IsNamed naturals_sig ((var 0 ∷ (zero_term ∷ [])) ∷ []) (nat ∷ (nat ∷ [])) (zero_term ∷ (succ_term zero_term ∷ []))
+  pub last_decides :
+      IsNamed naturals_sig ((var 0 ∷ zero_term ∷ []) ∷ []) (nat ∷ nat ∷ [])
+      (zero_term ∷ succ_term zero_term ∷ [])
   -- with no column and no row, the empty list is missing; one row covers it
   pub no_column : IsNamed naturals_sig [] [] []
   pub constant : AreCovered naturals_sig ([] ∷ []) []

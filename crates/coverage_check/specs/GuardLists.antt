@@ -1,5 +1,5 @@
 -- Guard lists without the numbers of their rules.
-use Rattle.std.specs.Prelude.{ℕ, List, [], ◌∷◌, Bool, cond, map}
+use Rattle.std.specs.Prelude.{ℕ, List, [], ◌∷◌, Bool, if◌then◌else◌, map}
 use Rattle.std.specs.Borrow.{Bor}
 use Rattle.spec_core.specs.declared.records.Guard.{Guard}
 use Rattle.spec_core.specs.Groups.{Whole, bool_same}
@@ -19,7 +19,7 @@ AreWhole lists = Whole (map (λ (gs : List Guard). (0, gs)) lists)
 -- before other lists, the rest of one that begins by wanting this Boolean
 abbrev pub rest_before : Bool → List Guard → List (List Guard) → List (List Guard)
 rest_before wanted [] lists = lists
-rest_before wanted (g ∷ gs) lists = cond (bool_same wanted g.wanted) (gs ∷ lists) lists
+rest_before wanted (g ∷ gs) lists = if bool_same wanted g.wanted then gs ∷ lists else lists
 
 -- of the lists that begin by wanting this Boolean, the rests
 abbrev pub rests_wanting : Bool → List (List Guard) → List (List Guard)

@@ -1,5 +1,5 @@
 -- Rows opened at a constructor.
-use Rattle.std.specs.Prelude.{ℕ, List, [], ◌∷◌, ◌++◌, ◌==◌, cond, map, replicate}
+use Rattle.std.specs.Prelude.{ℕ, List, [], ◌∷◌, ◌++◌, ◌==◌, if◌then◌else◌, map, replicate}
 use Rattle.term_core.specs.Tree.{Tree, var, app, list_of}
 
 -- the first pattern is a variable
@@ -17,12 +17,13 @@ rest_of (p ∷ ps) = ps
 abbrev pub rests : List (List Tree) → List (List Tree)
 rests rows = map rest_of rows
 
--- before other rows, a row that is opened at a constructor with this number of arguments: the constructor gives way
--- to its arguments, a variable to as many variables, and a row that begins with another constructor is left out
+-- before other rows, a row that is opened at a constructor with this number of arguments: the
+-- constructor gives way to its arguments, a variable to as many variables, and a row that begins
+-- with another constructor is left out
 abbrev pub opened_before : ℕ → ℕ → List Tree → List (List Tree) → List (List Tree)
 opened_before c count [] rows = rows
 opened_before c count (var n ∷ ps) rows = (replicate count (var 0) ++ ps) ∷ rows
-opened_before c count (app f ts ∷ ps) rows = cond (f == c) ((list_of ts ++ ps) ∷ rows) rows
+opened_before c count (app f ts ∷ ps) rows = if f == c then (list_of ts ++ ps) ∷ rows else rows
 
 -- the rows opened at a constructor with this number of arguments
 abbrev pub opened : ℕ → ℕ → List (List Tree) → List (List Tree)

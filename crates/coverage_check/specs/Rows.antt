@@ -7,7 +7,8 @@ use Rattle.spec_core.specs.Sorts.{SortedAll}
 use Rattle.spec_core.specs.WellSorted.{ArePatterns}
 use Rattle.spec_core.specs.Linear.{OccurTwice}
 
--- patterns of the sorts, one of each, whose symbols are constructors and in which no variable occurs twice
+-- patterns of the sorts, one of each, whose symbols are constructors and in which no variable
+-- occurs twice
 pub record IsRow (sig : Sig) (sorts : List SortId) (row : List Tree) : Type 0 where
   pub sorted : (ctx : List SortId) × SortedAll sig ctx (trees_of row) sorts
   pub patterns : ArePatterns sig (trees_of row)

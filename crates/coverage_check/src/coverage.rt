@@ -9,10 +9,9 @@ ghost use Rattle.coverage_check.specs.Coverage.{IsCoverage};
 use crate::answers::Coverage;
 use crate::decision::is_missing;
 use crate::naming::name;
-use crate::rows::Row;
 use spec_core::Signature;
 use std::alloc::Global;
-use term_core::{OutOfMemory, SortId, Term, Terms, VarId};
+use term_core::{OutOfMemory, SortId, Term, TermRefs, Terms, VarId};
 
 /// Whether each list of values of the sorts matches some row, and if not, values that match none:
 /// under the first constructors that leave some missing, and small ones where the rows don't
@@ -56,12 +55,12 @@ fn covers_by<'a>(
     }
 }
 
-fn patterns_of<'a>(alloc: Global, rows: &'a [Terms]) -> Result<Vec<Row<'a>>, OutOfMemory>
+fn patterns_of<'a>(alloc: Global, rows: &'a [Terms]) -> Result<Vec<TermRefs<'a>>, OutOfMemory>
     ensures { IfOk result (λ made. made.items ≡ rows.now) }
 {
     let mut made = Vec::with_capacity(alloc, rows.len())?;
     for row in rows {
-        made.push(Row::of(alloc, row.as_slice())?)?;
+        made.push(TermRefs::of(alloc, row.as_slice())?)?;
     }
     Ok(made)
 }

@@ -1,17 +1,13 @@
-ghost use Rattle.std.specs.Prelude.{◌≡◌, ◌<◌, ℕ, IfOk, MatchOption};
+ghost use Rattle.std.specs.Prelude.{◌<◌, ℕ, IfOk, MatchOption};
 ghost use Rattle.std.specs.List.{AllByRecursion};
-ghost use Rattle.term_core.specs.Tree.{var as variable};
-ghost use Rattle.spec_core.specs.Sig.{IsSort};
-ghost use Rattle.spec_core.specs.Declarations.{IsDeclared};
 ghost use Rattle.coverage_check.specs.Columns.{symbols_at};
-ghost use Rattle.coverage_check.specs.Decisions.{HasSorts, IsDecision, IsDecisionUnder, BeginsOtherwise, IsOf, FirstIsOf};
+ghost use Rattle.coverage_check.specs.Decisions.{IsMatrix, NoneMissing, IsDecision, IsDecisionUnder, IsFirstMissing, BeginsOtherwise, IsOf, FirstIsOf};
 
 use crate::columns::{begin_otherwise, busiest, fronted_rows, fronted_sorts, some_is_variables};
 use crate::openings::{joined, open_rows};
-use crate::rows::Row;
 use spec_core::Signature;
 use std::alloc::Global;
-use term_core::{OutOfMemory, SortId, SymId, Term, front};
+use term_core::{OutOfMemory, SortId, SymId, Term, TermRefs, front};
 
 /// Whether some values of the sorts match no row. `any` is a variable.
 ///
@@ -22,14 +18,11 @@ use term_core::{OutOfMemory, SortId, SymId, Term, front};
 pub(crate) fn is_missing<'a>(
     alloc: Global,
     sig: &Signature,
-    rows: &[Row<'a>],
+    rows: &[TermRefs<'a>],
     sorts: &[SortId],
     any: &'a Term,
 ) -> Result<bool, OutOfMemory>
-    requires declared { IsDeclared sig.now }
-    requires any { any.now ≡ variable 0 }
-    requires sorts { AllByRecursion (IsSort sig.now) sorts.now }
-    requires rows { AllByRecursion (HasSorts sig.now sorts.now) rows.now }
+    requires { IsMatrix sig.now rows.now sorts.now any.now }
     ensures { IfOk result (IsDecision sig.now rows.now sorts.now) }
 {
     match busiest(rows, sorts.len()) {
@@ -51,14 +44,11 @@ pub(crate) fn is_missing<'a>(
 fn is_missing_by_first<'a>(
     alloc: Global,
     sig: &Signature,
-    rows: &[Row<'a>],
+    rows: &[TermRefs<'a>],
     sorts: &[SortId],
     any: &'a Term,
 ) -> Result<bool, OutOfMemory>
-    requires declared { IsDeclared sig.now }
-    requires any { any.now ≡ variable 0 }
-    requires sorts { AllByRecursion (IsSort sig.now) sorts.now }
-    requires rows { AllByRecursion (HasSorts sig.now sorts.now) rows.now }
+    requires matrix { IsMatrix sig.now rows.now sorts.now any.now }
     requires decides { 0 < symbols_at 0 rows.now }
     ensures { IfOk result (IsDecision sig.now rows.now sorts.now) }
 {
@@ -68,33 +58,54 @@ fn is_missing_by_first<'a>(
             if let Some(sym) = unused(sig, rows, *sort) {
                 return is_missing_under(alloc, sig, sym, rows, sorts, any);
             }
+            let found = first_missing(alloc, sig, rows, sorts, any)?;
+            Ok(found.is_some())
+        }
+    }
+}
+
+/// The first constructor of the first sort such that some values that begin with it match no row.
+#[cycle(decide)]
+pub(crate) fn first_missing<'a>(
+    alloc: Global,
+    sig: &Signature,
+    rows: &[TermRefs<'a>],
+    sorts: &[SortId],
+    any: &'a Term,
+) -> Result<Option<SymId>, OutOfMemory>
+    requires matrix { IsMatrix sig.now rows.now sorts.now any.now }
+    requires decides { 0 < symbols_at 0 rows.now }
+    ensures { IfOk result (λ found. MatchOption found
+        (NoneMissing sig.now rows.now sorts.now)
+        (λ sym. IsFirstMissing sig.now rows.now sorts.now sym.0)) }
+{
+    match front(sorts) {
+        None => unreachable!(),
+        Some((sort, _)) => {
             for number in 0..sig.constructors() {
                 let sym = SymId(number);
                 if sig.info(sym).result.0 == sort.0
                     && is_missing_under(alloc, sig, sym, rows, sorts, any)?
                 {
-                    return Ok(true);
+                    return Ok(Some(sym));
                 }
             }
-            Ok(false)
+            Ok(None)
         }
     }
 }
 
 /// Whether some values that begin with the constructor match no row.
 #[cycle(decide)]
-pub(crate) fn is_missing_under<'a>(
+fn is_missing_under<'a>(
     alloc: Global,
     sig: &Signature,
     sym: SymId,
-    rows: &[Row<'a>],
+    rows: &[TermRefs<'a>],
     sorts: &[SortId],
     any: &'a Term,
 ) -> Result<bool, OutOfMemory>
-    requires declared { IsDeclared sig.now }
-    requires any { any.now ≡ variable 0 }
-    requires sorts { AllByRecursion (IsSort sig.now) sorts.now }
-    requires rows { AllByRecursion (HasSorts sig.now sorts.now) rows.now }
+    requires matrix { IsMatrix sig.now rows.now sorts.now any.now }
     requires decides { 0 < symbols_at 0 rows.now }
     requires of_first { FirstIsOf sig.now sorts.now sym.0 }
     ensures { IfOk result (IsDecisionUnder sig.now sym.0 rows.now sorts.now) }
@@ -111,7 +122,7 @@ pub(crate) fn is_missing_under<'a>(
 }
 
 /// The first constructor of the sort with which no row begins.
-fn unused(sig: &Signature, rows: &[Row], sort: SortId) -> Option<SymId>
+fn unused(sig: &Signature, rows: &[TermRefs], sort: SortId) -> Option<SymId>
     ensures { MatchOption result
         ((c : ℕ) → IsOf sig.now sort c → AllByRecursion (BeginsOtherwise c) rows.now → ⊥)
         (λ sym. IsOf sig.now sort sym.0 × AllByRecursion (BeginsOtherwise sym.0) rows.now) }

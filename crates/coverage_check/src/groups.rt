@@ -76,7 +76,8 @@ fn rests<'a>(
     lists: &[&'a [Guard]],
     wanted: bool,
 ) -> Result<Vec<&'a [Guard]>, OutOfMemory>
-    ensures { IfOk result (λ made. lists_of made.items ≡ rests_wanting wanted (lists_of lists.now)) }
+    ensures { IfOk result (λ made.
+        lists_of made.items ≡ rests_wanting wanted (lists_of lists.now)) }
 {
     let mut made = Vec::new(alloc);
     for list in lists {

@@ -1,14 +1,7 @@
-ghost use Rattle.std.specs.Prelude.{◌≡◌, ◌++◌, ◌↔◌, List, IfOk, OnOk, Some};
-ghost use Rattle.std.specs.List.{AllByRecursion};
-ghost use Rattle.term_core.specs.Tree.{Tree, trees_of};
-ghost use Rattle.spec_core.specs.declared.records.SymInfo.{SymInfo};
-ghost use Rattle.spec_core.specs.Sig.{info_of};
+ghost use Rattle.std.specs.Prelude.{◌≡◌, ◌++◌, IfOk, OnOk};
 ghost use Rattle.spec_core.specs.WellSorted.{IsWellSorted};
 ghost use Rattle.spec_core.specs.Linear.{LeftSidesAreLinear};
-ghost use Rattle.spec_core.specs.Covering.{IsMatched};
-ghost use Rattle.coverage_check.specs.LeftSides.{row_of, rows_of as rows_of_function};
-ghost use Rattle.coverage_check.specs.Rows.{IsRow};
-ghost use Rattle.coverage_check.specs.Values.{MatchesSome};
+ghost use Rattle.coverage_check.specs.LeftSides.{row_of, rows_of as rows_of_function, AreRowsFor, MatchLeftSides};
 
 use spec_core::Spec;
 use std::alloc::Global;
@@ -20,8 +13,8 @@ pub fn rows_of(alloc: Global, spec: &Spec, function: SymId) -> Result<Vec<Terms>
     requires fine { IsWellSorted spec.now }
     requires linear { LeftSidesAreLinear spec.now }
     ensures are { IfOk result (λ rows. rows.items ≡ rows_of_function function.0 spec.now.rules) }
-    ensures rows { IfOk result (λ rows. (i : SymInfo) → info_of spec.now.sig function.0 ≡ Some i → AllByRecursion (IsRow spec.now.sig i.args) rows.items) }
-    ensures matched { IfOk result (λ rows. (vs : List Tree) → MatchesSome rows.items vs ↔ IsMatched spec.now function.0 (trees_of vs)) }
+    ensures rows { IfOk result (λ rows. AreRowsFor spec.now function.0 rows.items) }
+    ensures matched { IfOk result (λ rows. MatchLeftSides spec.now function.0 rows.items) }
 {
     let mut rows = Vec::new(alloc);
     for rule in spec.rules.as_slice() {

@@ -1,34 +1,29 @@
 ghost use Rattle.std.specs.Prelude.{◌≡◌, ◌∷◌, ◌++◌, ◌≤◌, IfOk, length, take, drop};
 ghost use Rattle.std.specs.List.{AllByRecursion};
-ghost use Rattle.term_core.specs.Tree.{var as variable, app as application, trees_of};
+ghost use Rattle.term_core.specs.Tree.{app as application, trees_of};
 ghost use Rattle.spec_core.specs.Sig.{IsSort};
-ghost use Rattle.spec_core.specs.Declarations.{IsDeclared};
 ghost use Rattle.spec_core.specs.Small.{AreSmall};
 ghost use Rattle.coverage_check.specs.Opened.{BeginsWithVariable};
 ghost use Rattle.coverage_check.specs.Named.{IsNamed};
-ghost use Rattle.coverage_check.specs.Decisions.{HasSorts, SomeMissing};
+ghost use Rattle.coverage_check.specs.Decisions.{IsMatrix, SomeMissing};
 
 use crate::columns::{begin_with_variables, rests};
-use crate::decision::is_missing_under;
+use crate::decision::first_missing;
 use crate::openings::{joined, open_rows};
-use crate::rows::Row;
 use spec_core::Signature;
 use std::alloc::Global;
-use term_core::{OutOfMemory, SortId, SymId, Term, Terms, front};
+use term_core::{OutOfMemory, SortId, SymId, Term, TermRefs, Terms, front};
 
 /// The values that are named for the rows, where some are missing. `any` is a variable.
 #[cycle(name)]
 pub(crate) fn name<'a>(
     alloc: Global,
     sig: &Signature,
-    rows: &[Row<'a>],
+    rows: &[TermRefs<'a>],
     sorts: &[SortId],
     any: &'a Term,
 ) -> Result<Terms, OutOfMemory>
-    requires declared { IsDeclared sig.now }
-    requires any { any.now ≡ variable 0 }
-    requires sorts { AllByRecursion (IsSort sig.now) sorts.now }
-    requires rows { AllByRecursion (HasSorts sig.now sorts.now) rows.now }
+    requires matrix { IsMatrix sig.now rows.now sorts.now any.now }
     requires missing { SomeMissing sig.now rows.now sorts.now }
     ensures { IfOk result (IsNamed sig.now rows.now sorts.now) }
 {
@@ -55,34 +50,27 @@ pub(crate) fn name<'a>(
 fn name_under_first<'a>(
     alloc: Global,
     sig: &Signature,
-    rows: &[Row<'a>],
+    rows: &[TermRefs<'a>],
     sorts: &[SortId],
     any: &'a Term,
 ) -> Result<Terms, OutOfMemory>
-    requires declared { IsDeclared sig.now }
-    requires any { any.now ≡ variable 0 }
-    requires sorts { AllByRecursion (IsSort sig.now) sorts.now }
-    requires rows { AllByRecursion (HasSorts sig.now sorts.now) rows.now }
+    requires matrix { IsMatrix sig.now rows.now sorts.now any.now }
     requires missing { SomeMissing sig.now rows.now sorts.now }
     requires decides { AllByRecursion BeginsWithVariable rows.now → ⊥ }
     ensures { IfOk result (IsNamed sig.now rows.now sorts.now) }
 {
     match front(sorts) {
         None => unreachable!(),
-        Some((sort, others)) => {
-            for number in 0..sig.constructors() {
-                let sym = SymId(number);
-                let info = sig.info(sym);
-                if info.result.0 == sort.0 && is_missing_under(alloc, sig, sym, rows, sorts, any)? {
-                    let args = info.args.as_slice();
-                    let opened = open_rows(alloc, rows, sym, args.len(), any)?;
-                    let opened_sorts = joined(alloc, args, others)?;
-                    let values = name(alloc, sig, &opened, &opened_sorts, any)?;
-                    return closed(alloc, sym, args.len(), values);
-                }
+        Some((_, others)) => match first_missing(alloc, sig, rows, sorts, any)? {
+            None => unreachable!(),
+            Some(sym) => {
+                let args = sig.info(sym).args.as_slice();
+                let opened = open_rows(alloc, rows, sym, args.len(), any)?;
+                let opened_sorts = joined(alloc, args, others)?;
+                let values = name(alloc, sig, &opened, &opened_sorts, any)?;
+                closed(alloc, sym, args.len(), values)
             }
-            unreachable!()
-        }
+        },
     }
 }
 

@@ -4,20 +4,19 @@ ghost use Rattle.term_core.specs.References.{terms_of};
 ghost use Rattle.coverage_check.specs.Opened.{opened};
 ghost use Rattle.coverage_check.specs.Decisions.{IsOpening};
 
-use crate::rows::Row;
 use std::alloc::Global;
-use term_core::{Node, OutOfMemory, SortId, SymId, Term, front};
+use term_core::{Node, OutOfMemory, SortId, SymId, Term, TermRefs, front};
 
 /// The rows opened at a constructor with `count` arguments: of a row that begins with it, the
 /// arguments stand in front; of one that begins with a variable, as many variables; and a row that
 /// begins with another constructor is left out. `any` stands for each of these variables.
 pub(crate) fn open_rows<'a>(
     alloc: Global,
-    rows: &[Row<'a>],
+    rows: &[TermRefs<'a>],
     sym: SymId,
     count: usize,
     any: &'a Term,
-) -> Result<Vec<Row<'a>>, OutOfMemory>
+) -> Result<Vec<TermRefs<'a>>, OutOfMemory>
     requires { any.now ≡ variable 0 }
     ensures { IfOk result (λ made. made.items ≡ opened sym.0 count rows.now) }
 {
@@ -36,7 +35,7 @@ fn open_row<'a>(
     sym: SymId,
     count: usize,
     any: &'a Term,
-) -> Result<Option<Row<'a>>, OutOfMemory>
+) -> Result<Option<TermRefs<'a>>, OutOfMemory>
     requires { any.now ≡ variable 0 }
     ensures { IfOk result (IsOpening sym.0 count (terms_of patterns.now)) }
 {
@@ -44,7 +43,7 @@ fn open_row<'a>(
         None => Ok(None),
         Some((first, others)) => {
             let first = *first;
-            let mut made = Row::new(alloc);
+            let mut made = TermRefs::new(alloc);
             match &first.node {
                 Node::Var(_) => push_times(&mut made, any, count)?,
                 Node::App(other, args) => {
@@ -61,7 +60,11 @@ fn open_row<'a>(
 }
 
 /// Adds the pattern so many times.
-fn push_times<'a>(row: &mut Row<'a>, pattern: &'a Term, count: usize) -> Result<(), OutOfMemory>
+fn push_times<'a>(
+    row: &mut TermRefs<'a>,
+    pattern: &'a Term,
+    count: usize,
+) -> Result<(), OutOfMemory>
     ensures { OnOk result (row.new ≡ row.old ++ replicate count pattern.now) }
 {
     for _ in 0..count {

@@ -121,7 +121,8 @@ fn row_of(alloc: Global, cells: &[Cell], columns: u32) -> Result<Terms, OutOfMem
 }
 
 fn rows_of(alloc: Global, table: &[&[Cell]], columns: u32) -> Result<Vec<Terms>, OutOfMemory>
-    ensures { IfOk result (λ made. AllByRecursion (IsRow naturals_sig (replicate columns nat)) made.items) }
+    ensures { IfOk result (λ made.
+        AllByRecursion (IsRow naturals_sig (replicate columns nat)) made.items) }
 {
     let mut made = Vec::new(alloc);
     for cells in table {
@@ -243,7 +244,8 @@ fn wide_row(
 /// of that number, so that a walk from the left goes through all ways to split the columns.
 fn wide_rows(alloc: Global, width: u32) -> Result<Vec<Terms>, OutOfMemory>
     requires { width < 1000 }
-    ensures { IfOk result (λ made. AllByRecursion (IsRow naturals_sig (replicate (width + 1) nat)) made.items) }
+    ensures { IfOk result (λ made.
+        AllByRecursion (IsRow naturals_sig (replicate (width + 1) nat)) made.items) }
 {
     let mut made = Vec::new(alloc);
     for number in 0..width {

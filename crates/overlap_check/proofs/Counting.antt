@@ -3,8 +3,8 @@ use Rattle.std.proofs.Common.{◌≡◌, ℕ, ◌+◌, ◌<◌, ◌⊎◌, List,
 use Rattle.std.specs.Prelude.{slice_get}
 use Rattle.term_core.specs.Tree.{Tree, Trees, var, app, none, some}
 use Rattle.spec_core.specs.declared.records.Rule.{Rule}
-use Rattle.spec_core.specs.WellSorted.{Occurs, OccursAny, Numbered}
-use Rattle.spec_core.proofs.Numbered.{numbered_below}
+use Rattle.term_core.specs.Variables.{Occurs, OccursAny, Numbered}
+use Rattle.term_core.proofs.Numbered.{numbered_below}
 use Rattle.spec_core.specs.Linear.{OccursTwice, OccurTwice, IsLinear}
 use Rattle.overlap_check.specs.declared.linearity.Frequency.{Frequency}
 use Rattle.overlap_check.specs.declared.linearity.Frequency.TheVariants.{Never, Once, Twice}

@@ -5,7 +5,7 @@ use Rattle.term_core.specs.Tree.{Tree, Trees, var, app, none, some, instance, in
 use Rattle.term_core.specs.declared.ids.SortId.{SortId}
 use Rattle.spec_core.specs.Sig.{Sig}
 use Rattle.spec_core.specs.Sorts.{Sorted, SortedAll}
-use Rattle.spec_core.specs.WellSorted.{Occurs, OccursAny}
+use Rattle.term_core.specs.Variables.{Occurs, OccursAny}
 use Rattle.substitutions.specs.Substitution.{entry, image, apply, apply_all}
 use Rattle.substitutions.proofs.Instances.{sorted_apply, sorted_apply_all}
 use Rattle.unifier.specs.Shifting.{shifted, shifted_all}

@@ -5,7 +5,6 @@ mod SmallEntries
 mod Variables
 mod Unified
 mod TwoRules
-mod SameOrNot
 mod Pairs
 mod OneNaming
 mod OneAnswer

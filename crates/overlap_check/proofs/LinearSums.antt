@@ -3,7 +3,7 @@ use Rattle.std.proofs.Common.{◌≡◌, ℕ, zero, suc, ◌+◌, ◌<◌, Some,
 use Rattle.std.specs.Prelude.{slice_get}
 use Rattle.term_core.specs.Tree.{Tree, var}
 use Rattle.spec_core.specs.declared.records.Rule.{Rule}
-use Rattle.spec_core.specs.WellSorted.{Occurs}
+use Rattle.term_core.specs.Variables.{Occurs}
 use Rattle.spec_core.specs.Linear.{OccursTwice, IsLinear, LeftSidesAreLinear}
 use Rattle.spec_core.specs.Naturals.{naturals, plus_zero_rule, plus_succ_rule, zero_term, succ_term, plus_term}
 use Rattle.overlap_check.specs.Repetition.{IsFirstRepeated}

@@ -10,7 +10,7 @@ use Rattle.overlap_check.specs.declared.answers.Linear.TheVariants.{Fine as line
 use Rattle.overlap_check.specs.declared.answers.Overlap.TheVariants.{Fine as apart, Both}
 use Rattle.overlap_check.specs.Repetition.{IsLeastRepeated, IsFirstRepeated}
 use Rattle.overlap_check.specs.Overlaps.{Overlaps, IsFirstOverlap}
-use Rattle.overlap_check.specs.NamedValues.{IsNamed}
+use Rattle.overlap_check.specs.NamedValues.{NamesOverlap}
 use Rattle.overlap_check.specs.Answers.{AreCommon}
 use Rattle.overlap_check.specs.Laws.{OneLinearity, OneOverlap}
 use Rattle.overlap_check.proofs.OneNaming.{one_naming}
@@ -48,7 +48,7 @@ module _ (spec : Spec) where
   one_common fine j k a b vs ws e d p q =
       let r : q.first ≡ p.first = sym (one_rule spec.rules j a p.first q.first p.first_at q.first_at e) in
       let s : q.second ≡ p.second = sym (one_rule spec.rules k b p.second q.second p.second_at q.second_at d) in
-      let named : IsNamed spec.sig p.first p.second ws = subst (λ x. IsNamed spec.sig p.first x ws) s (subst (λ x. IsNamed spec.sig x q.second ws) r q.named) in
+      let named : NamesOverlap spec.sig p.first p.second ws = subst (λ x. NamesOverlap spec.sig p.first x ws) s (subst (λ x. NamesOverlap spec.sig x q.second ws) r q.named) in
       one_naming spec.sig p.first p.second vs ws (fine.rules j p.first p.first_at) (fine.rules k p.second p.second_at) p.named named
 
 pub one_linearity : OneLinearity

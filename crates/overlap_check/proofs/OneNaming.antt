@@ -15,7 +15,7 @@ use Rattle.spec_core.proofs.SmallValues.{one_small, ones_small}
 use Rattle.substitutions.specs.Substitution.{apply, apply_all}
 use Rattle.unifier.specs.Shifting.{shifted}
 use Rattle.unifier.specs.Unification.{KeepsSorts}
-use Rattle.overlap_check.specs.NamedValues.{IsNamed, sorts_of_both, left_apart}
+use Rattle.overlap_check.specs.NamedValues.{NamesOverlap, sorts_of_both, left_apart}
 use Rattle.overlap_check.specs.Laws.{OneNaming}
 use Rattle.overlap_check.proofs.Instances.{sorted_applied, sorted_left}
 use Rattle.overlap_check.proofs.SmallEntries.{small_at}
@@ -53,7 +53,7 @@ module _ (sig : Sig) (ctx : List SortId) (xs : List Tree) (small : AreSmall sig 
         cc
 
 -- the left side under the unifier has its sort over the variables of both rules
-left_sorted : (sig : Sig) (r q : Rule) (vs : Trees) (a : RuleIsSorted sig r) (b : RuleIsSorted sig q) (n : IsNamed sig r q vs) → Sorted sig (sorts_of_both r q) (apply n.unifier r.left) a.sides.0
+left_sorted : (sig : Sig) (r q : Rule) (vs : Trees) (a : RuleIsSorted sig r) (b : RuleIsSorted sig q) (n : NamesOverlap sig r q vs) → Sorted sig (sorts_of_both r q) (apply n.unifier r.left) a.sides.0
 left_sorted sig r q vs a b n =
     let ctx = sorts_of r.vars in
     let more = sorts_of q.vars in

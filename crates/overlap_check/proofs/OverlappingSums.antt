@@ -12,7 +12,7 @@ use Rattle.spec_core.proofs.SmallShapes.{small_nat}
 use Rattle.substitutions.specs.Substitution.{entry, image, apply, apply_all}
 use Rattle.unifier.specs.Unification.{IsUnifier, IsMostGeneral, KeepsSorts, HaveNoUnifier}
 use Rattle.overlap_check.specs.Overlaps.{MatchBoth, HaveOverlap, Overlaps, IsFirstOverlap}
-use Rattle.overlap_check.specs.NamedValues.{IsNamed}
+use Rattle.overlap_check.specs.NamedValues.{NamesOverlap}
 use Rattle.overlap_check.specs.Examples.{right_zero_rule, two_zeros}
 use Rattle.overlap_check.proofs.OneNaming.{one_naming}
 
@@ -88,7 +88,7 @@ keeps sig ctx sort p q n t e =
     by (r ∷ s ∷ ss) a b (suc zero) e = (r, b.0, subst (λ x. Sorted sig ctx x r) (made 1 (omega arith) e) a.0)
     by (r ∷ s ∷ ss) a b (suc (suc n)) e = absurd (let k : None ≡ Some t = e in cc)
 
-pub named : IsNamed naturals_sig plus_zero_rule right_zero_rule (some zero_term (some zero_term none))
+pub named : NamesOverlap naturals_sig plus_zero_rule right_zero_rule (some zero_term (some zero_term none))
 named = record {
   unifier = unifier;
   most_general = general;
@@ -112,7 +112,7 @@ right_zero_is_sorted = record {
   shallow_guards = tt;
 }
 
-pub not_others : IsNamed naturals_sig plus_zero_rule right_zero_rule (some zero_term (some (succ_term zero_term) none)) → ⊥
+pub not_others : NamesOverlap naturals_sig plus_zero_rule right_zero_rule (some zero_term (some (succ_term zero_term) none)) → ⊥
 not_others n =
     let e : some zero_term (some zero_term none) ≡ some zero_term (some (succ_term zero_term) none) = one_naming naturals_sig plus_zero_rule right_zero_rule _ _ zero_rule_is_sorted right_zero_is_sorted named n in
     let k : ◌≡◌ {A = ℕ} 2 3 = cc in

@@ -12,7 +12,7 @@ use Rattle.overlap_check.specs.Overlaps.{MatchBoth, HaveOverlap, Overlaps}
 use Rattle.overlap_check.specs.Answers.{NoneOverlaps}
 use Rattle.overlap_check.specs.Clashes.{HaveNoCommonInstance}
 use Rattle.overlap_check.specs.Searches.{AreCommonTo, NoneOverlapsAfter, IsFirstAfter}
-use Rattle.overlap_check.proofs.SameOrNot.{same_tree_or_not}
+use Rattle.term_core.proofs.SameTrees.{same_tree_or_not}
 use Rattle.term_core.proofs.Numbers.{below_or_last}
 
 -- the rule that was read from a slice of the rules

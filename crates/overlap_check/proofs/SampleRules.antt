@@ -6,7 +6,8 @@ use Rattle.term_core.specs.Tree.{Tree, var, none, some}
 use Rattle.spec_core.specs.declared.records.Goal.{Goal}
 use Rattle.spec_core.specs.declared.records.Spec.{Spec}
 use Rattle.spec_core.specs.Declarations.{IsDeclared}
-use Rattle.spec_core.specs.WellSorted.{Occurs, ArePatterns, Numbered, IsShallow, HasFewArguments, RuleIsSorted, IsWellSorted}
+use Rattle.term_core.specs.Variables.{Occurs, Numbered}
+use Rattle.spec_core.specs.WellSorted.{ArePatterns, IsShallow, HasFewArguments, RuleIsSorted, IsWellSorted}
 use Rattle.spec_core.specs.Sorts.{Sorted}
 use Rattle.spec_core.specs.Naturals.{nat, naturals_sig, zero_term, succ_term, plus_term}
 use Rattle.spec_core.proofs.SortedNaturals.{well_sorted}

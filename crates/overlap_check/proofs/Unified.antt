@@ -7,13 +7,14 @@ use Rattle.spec_core.specs.declared.records.SymInfo.{SymInfo}
 use Rattle.spec_core.specs.Sig.{Sig, info_of}
 use Rattle.spec_core.specs.Sorts.{Sorted, SortedAll, AreBuilt}
 use Rattle.spec_core.specs.Small.{AreSmall}
-use Rattle.spec_core.specs.WellSorted.{IsLeft, Numbered}
+use Rattle.term_core.specs.Variables.{Numbered}
+use Rattle.spec_core.specs.WellSorted.{IsLeft}
 use Rattle.spec_core.proofs.Instances.{sorted_instances}
 use Rattle.substitutions.specs.Substitution.{entry, image, apply, apply_all}
 use Rattle.unifier.specs.Shifting.{shifted, shifted_all}
 use Rattle.unifier.specs.Unification.{IsMostGeneral, KeepsSorts}
 use Rattle.overlap_check.specs.Overlaps.{MatchBoth}
-use Rattle.spec_core.proofs.Numbered.{numbered_below}
+use Rattle.term_core.proofs.Numbered.{numbered_below}
 use Rattle.overlap_check.proofs.Instances.{instance_of_applied, instance_of_shifted, first_values, value_at, value_after, value_of, EntriesKeepSorts, sorted_all_applied, sorted_left, sorted_right}
 use Rattle.overlap_check.proofs.Constructors.{unified_patterns, patterns_shifted}
 use Rattle.overlap_check.proofs.SmallEntries.{entry_is_value, patterns_are_built}

@@ -11,11 +11,12 @@ use Rattle.spec_core.specs.declared.records.Rule.{Rule}
 use Rattle.spec_core.specs.Sig.{Sig, IsSort, SortsAreInRange}
 use Rattle.spec_core.specs.Sorts.{Sorted, SortedAll}
 use Rattle.spec_core.specs.Declarations.{IsDeclared}
-use Rattle.spec_core.specs.WellSorted.{Occurs, OccursAny, RuleIsSorted, IsLeft, sorts_of}
+use Rattle.term_core.specs.Variables.{Occurs, OccursAny}
+use Rattle.spec_core.specs.WellSorted.{RuleIsSorted, IsLeft, sorts_of}
 use Rattle.spec_core.proofs.Ranges.{sorts_in_range}
 use Rattle.unifier.specs.Shifting.{HasTooLarge}
 use Rattle.overlap_check.specs.Searches.{HaveSorts}
-use Rattle.spec_core.proofs.Numbered.{numbered_below}
+use Rattle.term_core.proofs.Numbered.{numbered_below}
 
 all_from_at : {A : Type 0} (P : A → Type 0) (xs : List A) → ((n : ℕ) (x : A) → slice_get xs n ≡ Some x → P x) → AllByRecursion P xs
 all_from_at P [] h = tt

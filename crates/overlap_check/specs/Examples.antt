@@ -9,16 +9,26 @@ use Rattle.overlap_check.specs.declared.answers.Linear.TheVariants.{Fine, Repeat
 use Rattle.overlap_check.specs.declared.answers.Overlap.TheVariants.{Both}
 use Rattle.overlap_check.specs.Repetition.{IsLinearity}
 use Rattle.overlap_check.specs.Overlaps.{HaveOverlap}
-use Rattle.overlap_check.specs.NamedValues.{IsNamed}
+use Rattle.overlap_check.specs.NamedValues.{NamesOverlap}
 use Rattle.overlap_check.specs.Answers.{IsOverlap}
 
 -- rule plus(x, zero) = x
 abbrev pub right_zero_rule : Rule
-right_zero_rule = record { vars = variable (codes "x") ∷ []; left = plus_term (var 0) zero_term; right = var 0; guards = [] }
+right_zero_rule = record {
+  vars = variable (codes "x") ∷ [];
+  left = plus_term (var 0) zero_term;
+  right = var 0;
+  guards = [];
+}
 
 -- rule plus(x, x) = x
 abbrev pub same_rule : Rule
-same_rule = record { vars = variable (codes "x") ∷ []; left = plus_term (var 0) (var 0); right = var 0; guards = [] }
+same_rule = record {
+  vars = variable (codes "x") ∷ [];
+  left = plus_term (var 0) (var 0);
+  right = var 0;
+  guards = [];
+}
 
 -- rules plus(zero, y) = y, plus(x, zero) = x
 abbrev pub two_zeros : Spec
@@ -31,17 +41,26 @@ same_second = record { sig = naturals_sig; rules = plus_zero_rule ∷ same_rule 
 pub record WorkedExamples : Type 0 where
   -- plus(zero, y) and plus(succ(x), y) are linear
   pub linear : IsLinearity naturals Fine
-  -- after plus(zero, y), the second rule has x twice in plus(x, x), and the first has no variable twice
+  -- after plus(zero, y), the second rule has x twice in plus(x, x), and the first has no variable
+  -- twice
   pub repeated : IsLinearity same_second (Repeated 2 (record { 0 = 0 }))
   pub first_is_linear : IsLinearity same_second (Repeated 1 (record { 0 = 0 })) → ⊥
   pub not_linear : IsLinearity same_second Fine → ⊥
-  -- plus(x, y) and plus(succ(x), y) overlap, although no substitution makes them the same as they stand: each has its own x
-  pub own_variables : HaveOverlap naturals_sig (plus_term (var 0) (var 1)) (plus_term (succ_term (var 0)) (var 1))
-  pub as_they_stand : HaveNoUnifier (plus_term (var 0) (var 1)) (plus_term (succ_term (var 0)) (var 1))
+  -- plus(x, y) and plus(succ(x), y) overlap, although no substitution makes them the same as they
+  -- stand: each has its own x
+  pub own_variables :
+      HaveOverlap naturals_sig (plus_term (var 0) (var 1)) (plus_term (succ_term (var 0)) (var 1))
+  pub as_they_stand :
+      HaveNoUnifier (plus_term (var 0) (var 1)) (plus_term (succ_term (var 0)) (var 1))
   -- a left side does not overlap itself
   pub not_itself : (t : Tree) → HaveOverlap naturals_sig t t → ⊥
-  -- (zero, zero) are the values named for plus(zero, y) and plus(x, zero), and (zero, succ(zero)) aren't
-  pub named : IsNamed naturals_sig plus_zero_rule right_zero_rule (some zero_term (some zero_term none))
-  pub not_others : IsNamed naturals_sig plus_zero_rule right_zero_rule (some zero_term (some (succ_term zero_term) none)) → ⊥
+  -- (zero, zero) are the values named for plus(zero, y) and plus(x, zero), and (zero, succ(zero))
+  -- aren't
+  pub named :
+      NamesOverlap naturals_sig plus_zero_rule right_zero_rule
+      (some zero_term (some zero_term none))
+  pub not_others :
+      NamesOverlap naturals_sig plus_zero_rule right_zero_rule
+      (some zero_term (some (succ_term zero_term) none)) → ⊥
   -- so (zero, zero) are in the answer where these are the rules
   pub both : IsOverlap two_zeros (Both 1 2 (zero_term ∷ zero_term ∷ []))

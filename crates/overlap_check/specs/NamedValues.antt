@@ -18,9 +18,9 @@ left_apart r q = shifted (length r.vars) q.left
 abbrev pub sorts_of_both : Rule → Rule → List SortId
 sorts_of_both r q = sorts_of r.vars ++ sorts_of q.vars
 
--- the values are the arguments of the left side under a most general unifier, where each variable that is left has the small
--- value of its sort
-pub record IsNamed (sig : Sig) (r q : Rule) (values : Trees) : Type 0 where
+-- the values name the overlap: they are the arguments of the left side under a most general
+-- unifier, where each variable that is left has the small value of its sort
+pub record NamesOverlap (sig : Sig) (r q : Rule) (values : Trees) : Type 0 where
   pub unifier : List (Option Tree)
   pub most_general : IsMostGeneral r.left (left_apart r q) unifier
   pub keeps_sorts : KeepsSorts r.left (left_apart r q) unifier

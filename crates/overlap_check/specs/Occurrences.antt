@@ -1,7 +1,7 @@
 -- How often a variable occurs.
 use Rattle.std.specs.Prelude.{ℕ}
 use Rattle.term_core.specs.Tree.{Tree, Trees}
-use Rattle.spec_core.specs.WellSorted.{Occurs, OccursAny}
+use Rattle.term_core.specs.Variables.{Occurs, OccursAny}
 use Rattle.spec_core.specs.Linear.{OccursTwice, OccurTwice}
 use Rattle.overlap_check.specs.declared.linearity.Frequency.{Frequency}
 use Rattle.overlap_check.specs.declared.linearity.Frequency.TheVariants.{Never, Once, Twice}

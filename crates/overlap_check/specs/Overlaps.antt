@@ -23,9 +23,13 @@ HaveOverlap sig left other = (left ≢ other) × ((values : Trees) × MatchBoth 
 
 -- the rules at these places have such left sides
 abbrev pub Overlaps : Spec → ℕ → ℕ → Type 0
-Overlaps spec j k = (r : Rule) × (q : Rule) × (slice_get spec.rules j ≡ Some r) × (slice_get spec.rules k ≡ Some q) × HaveOverlap spec.sig r.left q.left
+Overlaps spec j k =
+    (r : Rule) × (q : Rule)
+    × (slice_get spec.rules j ≡ Some r) × (slice_get spec.rules k ≡ Some q)
+    × HaveOverlap spec.sig r.left q.left
 
--- the rules at these places overlap, and no pair before them does, by the first place and then by the second
+-- the rules at these places overlap, and no pair before them does, by the first place and then by
+-- the second
 pub record IsFirstOverlap (spec : Spec) (j k : ℕ) : Type 0 where
   pub overlaps : Overlaps spec j k
   pub ordered : j < k

@@ -7,7 +7,7 @@ use Rattle.spec_core.specs.declared.records.Rule.{Rule}
 use Rattle.spec_core.specs.declared.records.Spec.{Spec}
 use Rattle.spec_core.specs.Sig.{Sig, IsSort}
 use Rattle.overlap_check.specs.Overlaps.{MatchBoth, Overlaps}
-use Rattle.overlap_check.specs.NamedValues.{IsNamed}
+use Rattle.overlap_check.specs.NamedValues.{NamesOverlap}
 use Rattle.overlap_check.specs.Answers.{AreCommon}
 
 -- the rule at this place overlaps no later one before the end
@@ -25,7 +25,7 @@ pub record IsFirstAfter (spec : Spec) (place other : ℕ) (values : Trees) : Typ
 pub record AreCommonTo (sig : Sig) (first second : Rule) (values : Trees) : Type 0 where
   pub different : first.left ≢ second.left
   pub match_both : MatchBoth sig first.left second.left values
-  pub named : IsNamed sig first second values
+  pub named : NamesOverlap sig first second values
 
 -- the sorts of the variables are the signature's
 abbrev pub HaveSorts : Sig → List VarInfo → Type 0

@@ -26,7 +26,9 @@ pub(crate) fn common_values(
     requires declared { IsDeclared sig.now }
     requires first { RuleIsSorted sig.now first.now }
     requires second { RuleIsSorted sig.now second.now }
-    ensures { IfOk result (λ found. MatchOption found (HaveOverlap sig.now first.now.left second.now.left → ⊥) (λ values. AreCommonTo sig.now first.now second.now (trees_of values))) }
+    ensures { IfOk result (λ found. MatchOption found
+        (HaveOverlap sig.now first.now.left second.now.left → ⊥)
+        (λ values. AreCommonTo sig.now first.now second.now (trees_of values))) }
 {
     if first.left.same(&second.left) || clash(&first.left, &second.left) {
         return Ok(None);
@@ -63,7 +65,9 @@ fn small_values(
 ) -> Result<Subst, OutOfMemory>
     requires first { HaveSorts sig.now first.now.vars }
     requires second { HaveSorts sig.now second.now.vars }
-    ensures { IfOk result (λ made. (xs : List Tree) × (made.terms ≡ map (λ x. Some x) xs) × AreSmall sig.now (sorts_of_both first.now second.now) (trees_of xs)) }
+    ensures { IfOk result (λ made. (xs : List Tree)
+        × (made.terms ≡ map (λ x. Some x) xs)
+        × AreSmall sig.now (sorts_of_both first.now second.now) (trees_of xs)) }
 {
     let mut values = Seq::new(alloc);
     add_small_values(alloc, sig, first.vars.as_slice(), &mut values)?;
@@ -79,7 +83,9 @@ fn add_small_values(
     values: &mut Seq<Option<Term>>,
 ) -> Result<(), OutOfMemory>
     requires { HaveSorts sig.now vars.now }
-    ensures { OnOk result ((xs : List Tree) × (values.new ≡ values.old ++ map (λ x. Some x) xs) × AreSmall sig.now (sorts_of vars.now) (trees_of xs)) }
+    ensures { OnOk result ((xs : List Tree)
+        × (values.new ≡ values.old ++ map (λ x. Some x) xs)
+        × AreSmall sig.now (sorts_of vars.now) (trees_of xs)) }
 {
     for var in vars {
         values.push(Some(sig.small(alloc, var.sort)?))?;

@@ -1,7 +1,8 @@
 ghost use Rattle.std.specs.Prelude.{◌≤◌, ℕ, IfOk, MatchOption};
 ghost use Rattle.term_core.specs.Tree.{trees_of};
 ghost use Rattle.spec_core.specs.Linear.{IsLinear};
-ghost use Rattle.spec_core.specs.WellSorted.{IsWellSorted, Numbered};
+ghost use Rattle.term_core.specs.Variables.{Numbered};
+ghost use Rattle.spec_core.specs.WellSorted.{IsWellSorted};
 ghost use Rattle.overlap_check.specs.Repetition.{IsLinearity, IsLeastRepeated};
 ghost use Rattle.overlap_check.specs.Occurrences.{IsTimes, AreTimes};
 

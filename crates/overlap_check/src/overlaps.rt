@@ -43,7 +43,9 @@ fn overlap_after(
 ) -> Result<Option<(usize, Seq<Term>)>, OutOfMemory>
     requires fine { IsWellSorted spec.now }
     requires within { place < length spec.now.rules }
-    ensures { IfOk result (λ found. MatchOption found (NoneOverlapsAfter spec.now place (length spec.now.rules)) (λ p. IsFirstAfter spec.now place p.0 (trees_of p.1))) }
+    ensures { IfOk result (λ found. MatchOption found
+        (NoneOverlapsAfter spec.now place (length spec.now.rules))
+        (λ p. IsFirstAfter spec.now place p.0 (trees_of p.1))) }
 {
     let rules = spec.rules.as_slice();
     let first = &rules[place];

@@ -47,7 +47,8 @@ fn succ(alloc: Global, term: Term) -> Result<Term, OutOfMemory>
 
 /// `plus(first, second)`, or the call of another function.
 fn call(alloc: Global, sym: u32, first: Term, second: Term) -> Result<Term, OutOfMemory>
-    ensures { IfOk result (λ t. t ≡ application sym (more_terms first (more_terms second no_terms))) }
+    ensures { IfOk result (λ t.
+        t ≡ application sym (more_terms first (more_terms second no_terms))) }
 {
     let mut args = Terms::new(alloc);
     args.push(first)?;

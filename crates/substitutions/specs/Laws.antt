@@ -9,4 +9,6 @@ use Rattle.substitutions.specs.Fitting.{Fits}
 
 -- a term over the variables `from` has its sort over `to`, once entries that fit are put in
 abbrev pub InstancesKeepSorts : Type 0
-InstancesKeepSorts = (sig : Sig) (from to : List SortId) (entries : List (Option Tree)) (t : Tree) (s : SortId) → Fits sig from to entries → Sorted sig from t s → Sorted sig to (apply entries t) s
+InstancesKeepSorts =
+    (sig : Sig) (from to : List SortId) (entries : List (Option Tree)) (t : Tree) (s : SortId) →
+    Fits sig from to entries → Sorted sig from t s → Sorted sig to (apply entries t) s

@@ -82,8 +82,8 @@ impl Subst {
         Ok(made)
     }
 
-    /// The substitution that does what `self` and then `then` do. Each entry of `self` is copied with
-    /// `then` put in, and each entry of `then` that `self` lacks once.
+    /// The substitution that does what `self` and then `then` do. Each entry of `self` is copied
+    /// with `then` put in, and each entry of `then` that `self` lacks once.
     pub fn compose(&self, alloc: Global, then: &Subst) -> Result<Subst, OutOfMemory>
         ensures { IfOk result (λ made. IsComposed self.now.terms then.now.terms made.terms) }
     {
@@ -104,7 +104,9 @@ impl Subst {
         then: &Subst,
         place: usize,
     ) -> Result<Option<Term>, OutOfMemory>
-        ensures { IfOk result (λ made. made ≡ option_or (option_map (apply then.now.terms) (entry self.now.terms place)) (entry then.now.terms place)) }
+        ensures { IfOk result (λ made. made ≡ option_or
+            (option_map (apply then.now.terms) (entry self.now.terms place))
+            (entry then.now.terms place)) }
     {
         if let Some(term) = self.at(place) {
             return Ok(Some(then.apply(alloc, term)?));
@@ -130,7 +132,8 @@ impl Subst {
 
     /// Whether there is an entry at a place, and it has the sort.
     fn has_sort(&self, sig: &Signature, ctx: &[SortId], place: usize, sort: SortId) -> bool
-        ensures { IsTrue result ↔ ((t : Tree) × (entry self.now.terms place ≡ Some t) × Sorted sig.now ctx.now t sort) }
+        ensures { IsTrue result ↔ ((t : Tree)
+            × (entry self.now.terms place ≡ Some t) × Sorted sig.now ctx.now t sort) }
     {
         let Some(term) = self.at(place) else {
             return false;

@@ -4,7 +4,7 @@ use Rattle.std.specs.Prelude.{Result, Ok, Err, IfOk}
 use Rattle.std.specs.Option.{IsSome}
 use Rattle.term_core.specs.declared.memory.OutOfMemory.{OutOfMemory}
 use Rattle.term_core.specs.Tree.{Tree, var, some, trees_of}
-use Rattle.spec_core.specs.WellSorted.{Occurs, OccursAny}
+use Rattle.term_core.specs.Variables.{Occurs, OccursAny}
 use Rattle.substitutions.specs.Substitution.{entry, image, apply, apply_all}
 use Rattle.substitutions.specs.Updates.{IsSetTo}
 use Rattle.substitutions.proofs.Instances.{image_entry, apply_same}

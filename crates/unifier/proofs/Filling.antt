@@ -9,7 +9,7 @@ use Rattle.substitutions.specs.Substitution.{entry, image}
 use Rattle.substitutions.specs.Updates.{IsSetTo}
 use Rattle.unifier.specs.declared.unification.graph.Shape.{Shape}
 use Rattle.unifier.specs.declared.unification.graph.Shape.TheVariants.{Var, App}
-use Rattle.unifier.specs.Graph.{shape_at, trees_by, built, AllBelow, ArgsBelow, IsGraph, IsVariable, IsNodeOf, HasOneNodeEach}
+use Rattle.unifier.specs.Graph.{shape_at, trees_by, built, AllBelow, ArgsBelow, IsGraph, IsShapeOf, IsNodeOf, HasOneNodeEach}
 use Rattle.unifier.specs.Roots.{root}
 use Rattle.unifier.specs.Cycles.{IsAcyclic}
 use Rattle.unifier.specs.Answer.{resolved, resolved_all, AreEntries}
@@ -35,13 +35,13 @@ module _ (graph : List Shape) (roots : List ℕ) where
   pub entries_more : (old after : List (Option Tree)) (node : ℕ) (s : Shape) (v : VarId) (t : Tree) → HasOneNodeEach graph → node < length graph → s ≡ get_or graph node s → s ≡ Var v → t ≡ resolved graph roots (root roots node) → AreEntriesBelow graph roots node old → IsSetTo old v.0 t after → AreEntriesBelow graph roots (node + 1) after
   entries_more old after node s v t one l read is e h put =
       let at : shape_at graph node ≡ Var v = sym (get_or_read graph node s l read (Var (record { 0 = 0 }))) ∙ is in
-      let own : IsNodeOf graph v.0 node = (l, subst (λ x. IsVariable v.0 x) (sym at) refl) in
+      let own : IsNodeOf graph v.0 node = (l, subst (λ x. IsShapeOf v.0 x) (sym at) refl) in
       record {
         filled = λ i n b at_i. elim (below_or_last i node b) [
           | inl c ↦ ap (λ o. unwrap_or o (var n)) (put.1 n (λ q. absurd (omega (arith, one i node n at_i (subst (λ m. IsNodeOf graph m node) (sym q) own))))) ∙ h.filled i n c at_i
           | inr c ↦
               let other : IsNodeOf graph n node = subst (λ k. IsNodeOf graph n k) c at_i in
-              let q : v.0 ≡ n = subst (λ x. IsVariable n x) at other.1 in
+              let q : v.0 ≡ n = subst (λ x. IsShapeOf n x) at other.1 in
               ap (λ m. image after m) (sym q) ∙ ap (λ o. unwrap_or o (var v.0)) put.0 ∙ e ∙ ap (λ k. resolved graph roots (root roots k)) (sym c)
         ];
         only = λ n x a. elim (same_or_not n v.0) [
@@ -63,7 +63,7 @@ module _ (graph : List Shape) (roots : List ℕ) where
           | inl c ↦ h.filled i n c at_i
           | inr c ↦
               let other : IsNodeOf graph n node = subst (λ k. IsNodeOf graph n k) c at_i in
-              let q : v.0 ≡ n = subst (λ x. IsVariable n x) at other.1 in
+              let q : v.0 ≡ n = subst (λ x. IsShapeOf n x) at other.1 in
               itself n other (entry old n) refl ∙ ap (λ m. var m) (sym q) ∙ resolved_variable node s v acyclic l read is ∙ ap (λ k. resolved graph roots k) (sym own) ∙ ap (λ k. resolved graph roots (root roots k)) (sym c)
         ];
         only = λ n x a.
@@ -89,7 +89,7 @@ module _ (graph : List Shape) (roots : List ℕ) where
           | inl c ↦ h.filled i n c at_i
           | inr c ↦
               let other : IsNodeOf graph n node = subst (λ k. IsNodeOf graph n k) c at_i in
-              absurd (subst (λ x. IsVariable n x) at other.1)
+              absurd (subst (λ x. IsShapeOf n x) at other.1)
         ];
         only = λ n x a.
             let r = h.only n x a in

@@ -4,7 +4,7 @@ use Rattle.std.specs.Prelude.{slice_index}
 use Rattle.term_core.specs.Tree.{Tree, app, none, some, trees_of}
 use Rattle.term_core.specs.Measure.{weight, weights}
 use Rattle.substitutions.specs.Substitution.{apply, apply_all}
-use Rattle.spec_core.specs.WellSorted.{Occurs, OccursAny}
+use Rattle.term_core.specs.Variables.{Occurs, OccursAny}
 use Rattle.unifier.specs.declared.unification.graph.Shape.{Shape}
 use Rattle.unifier.specs.declared.unification.graph.Shape.TheVariants.{Var, App}
 use Rattle.unifier.specs.Graph.{trees_by, built, AllBelow, ArgsBelow}

@@ -10,9 +10,9 @@ use Rattle.term_core.specs.declared.ids.SymId.{SymId}
 use Rattle.term_core.specs.declared.ids.VarId.{VarId}
 use Rattle.unifier.specs.declared.unification.graph.Shape.{Shape}
 use Rattle.unifier.specs.declared.unification.graph.Shape.TheVariants.{Var, App}
-use Rattle.unifier.specs.Graph.{shape_at, built, ArgsBelow, IsVariable, IsNodeOf, HasNoNode, HasOneNodeEach}
+use Rattle.unifier.specs.Graph.{shape_at, built, ArgsBelow, IsShapeOf, IsNodeOf, HasNoNode, HasOneNodeEach}
 use Rattle.unifier.specs.Parts.{IsPart, IsPartOfAny}
-use Rattle.unifier.specs.Adding.{IsOf, Extends, Adds, AddsAll}
+use Rattle.unifier.specs.Adding.{IsOf, AddsNodes, Adds, AddsAll}
 use Rattle.unifier.proofs.Graphs.{below_most, below-append, below_each, each_from, built_each, trees_by_below, trees_by-append}
 use Rattle.term_core.proofs.Numbers.{below_or_not, below_or_last}
 
@@ -41,7 +41,7 @@ module _ (old : List Shape) (s : Shape) where
         rw e refl
 
     -- one more node, whose arguments are nodes
-    pub pushed : IsOf old before → ArgsBelow (length old) s → ((n : ℕ) → IsVariable n s → HasNoNode old n) → Extends old (old ++ s ∷ []) before after
+    pub pushed : IsOf old before → ArgsBelow (length old) s → ((n : ℕ) → IsShapeOf n s → HasNoNode old n) → AddsNodes old (old ++ s ∷ []) before after
     pushed of args fresh = record {
       longer = omega (arith, long);
       kept = after_old;
@@ -61,22 +61,22 @@ module _ (old : List Shape) (s : Shape) where
         same : (i : ℕ) (x : Shape) → i ≤ length old → ArgsBelow i x → built before x ≡ built after x
         same i x l args = built_each before after x (each_from {P = λ c. c < i} {Q = λ c. before c ≡ after c} x (below_each i x args) (λ c h. sym (after_old c (omega arith))))
 
-        place : (n i : ℕ) → IsNodeOf (old ++ s ∷ []) n i → IsNodeOf old n i ⊎ ((i ≡ length old) × IsVariable n s)
+        place : (n i : ℕ) → IsNodeOf (old ++ s ∷ []) n i → IsNodeOf old n i ⊎ ((i ≡ length old) × IsShapeOf n s)
         place n i at = elim (below_or_last i (length old) (omega (arith, long, at.0))) [
-          | inl b ↦ inl (b, subst (λ x. IsVariable n x) (shape_old i b) at.1)
-          | inr e ↦ inr (e, subst (λ x. IsVariable n x) shape_last (subst (λ k. IsVariable n (shape_at (old ++ s ∷ []) k)) e at.1))
+          | inl b ↦ inl (b, subst (λ x. IsShapeOf n x) (shape_old i b) at.1)
+          | inr e ↦ inr (e, subst (λ x. IsShapeOf n x) shape_last (subst (λ k. IsShapeOf n (shape_at (old ++ s ∷ []) k)) e at.1))
         ]
 
         one : HasOneNodeEach (old ++ s ∷ [])
         one i j n a b = by (place n i a) (place n j b)
           where
-            by : IsNodeOf old n i ⊎ ((i ≡ length old) × IsVariable n s) → IsNodeOf old n j ⊎ ((j ≡ length old) × IsVariable n s) → i ≡ j
+            by : IsNodeOf old n i ⊎ ((i ≡ length old) × IsShapeOf n s) → IsNodeOf old n j ⊎ ((j ≡ length old) × IsShapeOf n s) → i ≡ j
             by (inl x) (inl y) = of.variables i j n x y
             by (inl x) (inr y) = absurd (fresh n y.1 i x)
             by (inr x) (inl y) = absurd (fresh n x.1 j y)
             by (inr x) (inr y) = x.0 ∙ sym y.0
 
-extended : (old mid new : List Shape) (a b c : ℕ → Tree) → Extends old mid a b → Extends mid new b c → Extends old new a c
+extended : (old mid new : List Shape) (a b c : ℕ → Tree) → AddsNodes old mid a b → AddsNodes mid new b c → AddsNodes old new a c
 extended old mid new a b c x y = record {
   longer = omega (arith, x.longer, y.longer);
   kept = λ i l. y.kept i (omega (arith, x.longer)) ∙ x.kept i l;
@@ -99,7 +99,7 @@ adds_application old mid f nodes ts all before of =
     let r = all before of in
     let u : ℕ → Tree = r.0 in
     let s : Shape = App f nodes in
-    let p : Extends mid (mid ++ s ∷ []) u (after mid s u) = pushed mid s u r.1.is r.2 (λ n e. absurd e) in
+    let p : AddsNodes mid (mid ++ s ∷ []) u (after mid s u) = pushed mid s u r.1.is r.2 (λ n e. absurd e) in
     let own : after mid s u (length mid) ≡ app f.0 (trees_of ts) = after_last mid s u ∙ ap (λ us. app f.0 us) r.3 in (
       after mid s u,
       extended old mid (mid ++ s ∷ []) before u (after mid s u) r.1 p,

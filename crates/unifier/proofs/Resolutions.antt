@@ -5,12 +5,12 @@ use Rattle.term_core.specs.Tree.{Tree, Trees, var, app, none, some}
 use Rattle.term_core.specs.declared.ids.SortId.{SortId}
 use Rattle.spec_core.specs.Sig.{Sig}
 use Rattle.spec_core.specs.Sorts.{Sorted}
-use Rattle.spec_core.specs.WellSorted.{Occurs}
+use Rattle.term_core.specs.Variables.{Occurs}
 use Rattle.substitutions.specs.Substitution.{entry, image, apply, apply_all}
 use Rattle.unifier.specs.declared.unification.graph.Shape.{Shape}
 use Rattle.unifier.specs.declared.unification.graph.Shape.TheVariants.{Var, App}
 use Rattle.unifier.specs.Unification.{IsUnifier, HaveNoUnifier, IsMostGeneral, OccursInEither, IsRelevant, KeepsSorts}
-use Rattle.unifier.specs.Graph.{shape_at, trees_by, built, IsGraph, Depicts, IsVariable, IsNodeOf}
+use Rattle.unifier.specs.Graph.{shape_at, trees_by, built, IsGraph, Depicts, IsShapeOf, IsNodeOf}
 use Rattle.unifier.specs.Parts.{IsPart}
 use Rattle.unifier.specs.Roots.{root}
 use Rattle.unifier.specs.Markings.{Follows, IsModel}
@@ -99,7 +99,7 @@ module _ (graph : List Shape) (tree : ℕ → Tree) (a b : Tree) (parts : ArePar
   of_variable : (i n : ℕ) → IsNodeOf graph n i → tree i ≡ var n
   of_variable i n at = parts.depicts i at.0 ∙ by (shape_at graph i) at.1
     where
-      by : (s : Shape) → IsVariable n s → built tree s ≡ var n
+      by : (s : Shape) → IsShapeOf n s → built tree s ≡ var n
       by (Var v) e = ap (λ k. var k) e
       by (App f cs) e = absurd e
 
@@ -139,7 +139,7 @@ module _ (graph : List Shape) (tree : ℕ → Tree) (a b : Tree) (parts : ArePar
             ap (λ x. apply entries x) (parts.depicts i l) ∙ by (shape_at graph i) refl (each_from_both {P = λ c. c < i} {Q = λ c. c < length graph} {S = λ c. apply entries (tree c) ≡ tree_of_class c} (shape_at graph i) (below_each i (shape_at graph i) (parts.numbered i l)) (args_within graph roots parts.numbered i l) (λ c b d. instance_is n c (omega arith) d))
           where
             by : (s : Shape) → shape_at graph i ≡ s → EachArg (λ c. apply entries (tree c) ≡ tree_of_class c) s → apply entries (built tree s) ≡ tree_of_class i
-            by (Var v) is e = are.filled i v.0 (l, subst (λ s. IsVariable v.0 s) (sym is) refl)
+            by (Var v) is e = are.filled i v.0 (l, subst (λ s. IsShapeOf v.0 s) (sym is) refl)
             by (App f cs) is e =
                 let c = closure.classes.closed i f cs l is in
                 ap (λ us. app f.0 us) (apply-trees_by entries tree cs ∙ trees_by_each (λ c. apply entries (tree c)) tree_of_class cs e ∙ c.5 tree_of_class class_follows tt)

@@ -2,7 +2,7 @@
 use Rattle.std.proofs.Common.{◌≡◌, ◌↔◌, ◌≤◌, ◌+◌, ◌^◌, inl, inr, ℕ, zero, suc, List, [], ◌∷◌, Option, Some, None, true, false, refl, ap, ◌∙◌, subst, arith}
 use Rattle.std.specs.Option.{IsSome}
 use Rattle.term_core.specs.Tree.{Tree, var, tree_size}
-use Rattle.spec_core.specs.WellSorted.{Occurs}
+use Rattle.term_core.specs.Variables.{Occurs}
 use Rattle.spec_core.specs.Naturals.{zero_term, succ_term, plus_term}
 use Rattle.substitutions.specs.Substitution.{entry, image, apply}
 use Rattle.substitutions.proofs.Instances.{composed_from_images}

@@ -2,7 +2,7 @@
 use Rattle.std.proofs.Common.{◌≡◌, ℕ, zero, suc, ◌+◌, ◌<◌, List, [], ◌∷◌, ◌⊎◌, inl, inr, refl, ap, sym, Err, Result, subst, map, take, length, get_or, add-one, arith}
 use Rattle.std.specs.Result.{IsErrAnd}
 use Rattle.term_core.specs.Tree.{Tree, some, trees_of}
-use Rattle.spec_core.specs.WellSorted.{Occurs, OccursAny}
+use Rattle.term_core.specs.Variables.{Occurs, OccursAny}
 use Rattle.unifier.specs.declared.shifting.ShiftError.{ShiftError}
 use Rattle.unifier.specs.Shifting.{shifted, shifted_all, HasTooLarge, HaveTooLarge}
 

@@ -8,20 +8,25 @@ use Rattle.unifier.specs.Shifting.{shifted, HasTooLarge}
 
 pub record WorkedExamples : Type 0 where
   -- zero for x and succ(x) for y make plus(x, y) plus(zero, succ(x))
-  pub matched : IsMatch (plus_term (var 0) (var 1)) (plus_term zero_term (succ_term (var 0))) (Some zero_term ∷ Some (succ_term (var 0)) ∷ [])
+  pub matched : IsMatch (plus_term (var 0) (var 1)) (plus_term zero_term (succ_term (var 0)))
+      (Some zero_term ∷ Some (succ_term (var 0)) ∷ [])
   -- an entry for y is no part of a match of succ(x)
-  pub one_too_many : IsMatch (succ_term (var 0)) (succ_term zero_term) (Some zero_term ∷ Some zero_term ∷ []) → ⊥
+  pub one_too_many :
+      IsMatch (succ_term (var 0)) (succ_term zero_term) (Some zero_term ∷ Some zero_term ∷ []) → ⊥
   -- x cannot be zero and succ(zero)
-  pub not_matched : HasNoMatch (plus_term (var 0) (var 0)) (plus_term zero_term (succ_term zero_term))
+  pub not_matched :
+      HasNoMatch (plus_term (var 0) (var 0)) (plus_term zero_term (succ_term zero_term))
   -- zero for x and y is a unifier of x and y, and y for x is a most general one
   pub unified : IsUnifier (var 0) (var 1) (Some zero_term ∷ Some zero_term ∷ [])
   pub not_general : IsMostGeneral (var 0) (var 1) (Some zero_term ∷ Some zero_term ∷ []) → ⊥
   pub general : IsMostGeneral (var 0) (var 1) (Some (var 1) ∷ [])
   -- y for x is relevant there, and with the variables 2 and 3 exchanged too it isn't
   pub relevant : IsRelevant (var 0) (var 1) (Some (var 1) ∷ [])
-  pub not_relevant : IsRelevant (var 0) (var 1) (Some (var 1) ∷ None ∷ Some (var 3) ∷ Some (var 2) ∷ []) → ⊥
+  pub not_relevant :
+      IsRelevant (var 0) (var 1) (Some (var 1) ∷ None ∷ Some (var 3) ∷ Some (var 2) ∷ []) → ⊥
   -- plus(x, zero) and plus(succ(y), y) have one where x is succ(zero) and y is zero
-  pub sums : IsMostGeneral (plus_term (var 0) zero_term) (plus_term (succ_term (var 1)) (var 1)) (Some (succ_term zero_term) ∷ Some zero_term ∷ [])
+  pub sums : IsMostGeneral (plus_term (var 0) zero_term) (plus_term (succ_term (var 1)) (var 1))
+      (Some (succ_term zero_term) ∷ Some zero_term ∷ [])
   -- zero and succ(x) have none (clash), and neither have x and succ(x) (occurs test)
   pub clash : HaveNoUnifier zero_term (succ_term (var 0))
   pub occurs : HaveNoUnifier (var 0) (succ_term (var 0))

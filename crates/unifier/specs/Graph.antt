@@ -37,13 +37,13 @@ abbrev pub Depicts : List Shape → (ℕ → Tree) → Type 0
 Depicts graph tree = (i : ℕ) → i < length graph → tree i ≡ built tree (shape_at graph i)
 
 -- what stands at the node is this variable
-abbrev pub IsVariable : ℕ → Shape → Type 0
-IsVariable n (Var v) = v.0 ≡ n
-IsVariable n (App f cs) = ⊥
+abbrev pub IsShapeOf : ℕ → Shape → Type 0
+IsShapeOf n (Var v) = v.0 ≡ n
+IsShapeOf n (App f cs) = ⊥
 
 -- node i is one of the variable
 abbrev pub IsNodeOf : List Shape → ℕ → ℕ → Type 0
-IsNodeOf graph n i = (i < length graph) × IsVariable n (shape_at graph i)
+IsNodeOf graph n i = (i < length graph) × IsShapeOf n (shape_at graph i)
 
 -- the variable has no node
 abbrev pub HasNoNode : List Shape → ℕ → Type 0

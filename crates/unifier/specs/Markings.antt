@@ -9,12 +9,19 @@ use Rattle.unifier.specs.Roots.{root}
 
 -- each application is marked with its symbol, applied to the marks of its arguments
 abbrev pub IsModel : List Shape → (ℕ → Tree) → Type 0
-IsModel graph mark = (i : ℕ) (f : SymId) (cs : List ℕ) → i < length graph → shape_at graph i ≡ App f cs → mark i ≡ built mark (App f cs)
+IsModel graph mark =
+    (i : ℕ) (f : SymId) (cs : List ℕ) →
+    i < length graph → shape_at graph i ≡ App f cs → mark i ≡ built mark (App f cs)
 
--- applications of one symbol to as many arguments that have one mark have the same marks of their arguments
+-- applications of one symbol to as many arguments that have one mark have the same marks of their
+-- arguments
 abbrev pub Splits : List Shape → (ℕ → Tree) → Type 0
 Splits graph mark =
-    (i j : ℕ) (f g : SymId) (cs ds : List ℕ) → i < length graph → j < length graph → shape_at graph i ≡ App f cs → shape_at graph j ≡ App g ds → f.0 ≡ g.0 → length cs ≡ length ds → mark i ≡ mark j → trees_by mark cs ≡ trees_by mark ds
+    (i j : ℕ) (f g : SymId) (cs ds : List ℕ) →
+    i < length graph → j < length graph →
+    shape_at graph i ≡ App f cs → shape_at graph j ≡ App g ds →
+    f.0 ≡ g.0 → length cs ≡ length ds →
+    mark i ≡ mark j → trees_by mark cs ≡ trees_by mark ds
 
 -- each node has the mark of its root
 abbrev pub Follows : List Shape → List ℕ → (ℕ → Tree) → Type 0

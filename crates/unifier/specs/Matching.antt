@@ -2,12 +2,13 @@
 use Rattle.std.specs.Prelude.{◌≡◌, ◌↔◌, ℕ, List, Option}
 use Rattle.std.specs.Option.{IsSome}
 use Rattle.term_core.specs.Tree.{Tree}
-use Rattle.spec_core.specs.WellSorted.{Occurs}
+use Rattle.term_core.specs.Variables.{Occurs}
 use Rattle.substitutions.specs.Substitution.{entry, apply}
 
 -- the substitution makes the pattern the term, and has entries for the pattern's variables alone
 abbrev pub IsMatch : Tree → Tree → List (Option Tree) → Type 0
-IsMatch pattern term s = (apply s pattern ≡ term) × ((n : ℕ) → IsSome (entry s n) ↔ Occurs n pattern)
+IsMatch pattern term s =
+    (apply s pattern ≡ term) × ((n : ℕ) → IsSome (entry s n) ↔ Occurs n pattern)
 
 -- no substitution makes the pattern the term
 abbrev pub HasNoMatch : Tree → Tree → Type 0

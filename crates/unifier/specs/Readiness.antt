@@ -25,8 +25,10 @@ marks (false ∷ bs) = marks bs
 
 -- each way down from a node that is ready has fewer steps than nodes are ready
 abbrev pub IsMarked : List Shape → List ℕ → List Bool → Type 0
-IsMarked graph roots ready = (i : ℕ) → i < length graph → is_ready ready i ≡ true → Ends graph roots (marks ready) i
+IsMarked graph roots ready =
+    (i : ℕ) → i < length graph → is_ready ready i ≡ true → Ends graph roots (marks ready) i
 
 -- each of the first n nodes that isn't ready has an argument that isn't
 abbrev pub AreStuck : List Shape → List ℕ → List Bool → ℕ → Type 0
-AreStuck graph roots ready n = (i : ℕ) → i < n → is_ready ready i ≡ false → IsHeld roots ready (shape_at graph i)
+AreStuck graph roots ready n =
+    (i : ℕ) → i < n → is_ready ready i ≡ false → IsHeld roots ready (shape_at graph i)

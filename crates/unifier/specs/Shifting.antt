@@ -1,7 +1,7 @@
 -- Terms with their variables apart.
 use Rattle.std.specs.Prelude.{ℕ, ◌+◌, ◌≤◌, ◌^◌}
 use Rattle.term_core.specs.Tree.{Tree, Trees, var, app, none, some}
-use Rattle.spec_core.specs.WellSorted.{Occurs, OccursAny}
+use Rattle.term_core.specs.Variables.{Occurs, OccursAny}
 
 -- the term with the same number added to each variable
 abbrev mutual

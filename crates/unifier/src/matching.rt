@@ -15,7 +15,8 @@ mod tests;
 /// variable that occurs twice in the pattern must meet the same tree. Each bound term is copied
 /// once. The cost is linear in both sizes and in the greatest number of a variable.
 pub fn matches(alloc: Global, pattern: &Term, term: &Term) -> Result<Option<Subst>, OutOfMemory>
-    ensures matching { IfOk result (λ found. IfSome found (λ s. IsMatch pattern.now term.now s.terms)) }
+    ensures matching { IfOk result (λ found.
+        IfSome found (λ s. IsMatch pattern.now term.now s.terms)) }
     ensures none { IfOk result (λ found. IfNone found (HasNoMatch pattern.now term.now)) }
 {
     let mut found = Subst::new(alloc);

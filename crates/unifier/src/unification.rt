@@ -20,10 +20,10 @@ use term_core::{OutOfMemory, Term};
 /// A most general unifier (Robinson, 1965), with an entry for each variable that it changes.
 ///
 /// The method is unification closure (Huet, 1976; Baader and Snyder, Handbook of Automated
-/// Reasoning, 2001, section 2.3). The nodes of both terms are put into classes: the two terms are
-/// in one class, and so are the arguments of two applications in one class, place by place. `None`
-/// comes where the applications of a class have other symbols or other numbers of arguments
-/// (clash), and where a class stands below itself (occurs test).
+/// Reasoning, 2001). The nodes of both terms are put into classes: the two terms are in one class,
+/// and so are the arguments of two applications in one class, place by place. `None` comes where
+/// the applications of a class have other symbols or other numbers of arguments (clash), and where
+/// a class stands below itself (occurs test).
 ///
 /// Up to there the time is quadratic in the number of symbols of both terms, and no term is made.
 /// The entries are trees, which may be exponentially larger than the terms. Their list has a place

@@ -23,7 +23,8 @@ pub(crate) fn close(
     requires graph { IsGraph graph.now }
     requires first { first < length graph.now }
     requires second { second < length graph.now }
-    ensures closed { IfOk result (λ found. IfSome found (λ roots. IsClosure graph.now first second roots.items)) }
+    ensures closed { IfOk result (λ found.
+        IfSome found (λ roots. IsClosure graph.now first second roots.items)) }
     ensures clash { IfOk result (λ found. IfNone found (IsClash graph.now first second)) }
 {
     let mut roots = own_roots(alloc, graph.len())?;
@@ -59,9 +60,9 @@ fn join(
 ) -> Result<bool, OutOfMemory>
     requires graph { IsGraph graph.now }
     requires classes { Classes graph.now roots.old.items (pending.old.items ++ (left, right) ∷ []) }
-    ensures { IfOk result
-        (λ done. MatchBool done
-        (Joined graph.now roots.old.items pending.old.items left right roots.new.items pending.new.items)
+    ensures { IfOk result (λ done. MatchBool done
+        (Joined graph.now roots.old.items pending.old.items left right
+        roots.new.items pending.new.items)
         (NotJoined graph.now roots.old.items left right)) }
 {
     let from = roots[left];

@@ -18,7 +18,9 @@ pub(crate) fn is_acyclic(
 ) -> Result<bool, OutOfMemory>
     requires graph { IsGraph graph.now }
     requires roots { AreRoots graph.now roots.now }
-    ensures { IfOk result (λ done. MatchBool done (IsAcyclic graph.now roots.now) (HasNoModel graph.now roots.now)) }
+    ensures { IfOk result (λ done. MatchBool done
+        (IsAcyclic graph.now roots.now)
+        (HasNoModel graph.now roots.now)) }
 {
     let mut ready = Vec::from_elem(alloc, false, graph.len())?;
     while mark_ready(graph, roots, &mut ready) {}
@@ -46,7 +48,9 @@ fn mark_ready(graph: &[Shape], roots: &[usize], ready: &mut [bool]) -> bool
     requires long { length ready.old ≡ length graph.now }
     requires marked { IsMarked graph.now roots.now ready.old }
     ensures marked { IsMarked graph.now roots.now ready.new }
-    ensures found { MatchBool result (marks ready.old < marks ready.new) (AreStuck graph.now roots.now ready.new (length graph.now)) }
+    ensures found { MatchBool result
+        (marks ready.old < marks ready.new)
+        (AreStuck graph.now roots.now ready.new (length graph.now)) }
 {
     let mut found = false;
     for node in 0..graph.len() {
@@ -62,7 +66,9 @@ fn mark_ready(graph: &[Shape], roots: &[usize], ready: &mut [bool]) -> bool
 fn are_ready(shape: &Shape, roots: &[usize], ready: &[bool]) -> bool
     requires nodes { EachArg (λ c. c < length roots.now) shape.now }
     requires roots { EachArg (λ c. root roots.now c < length ready.now) shape.now }
-    ensures { MatchBool result (AreReady roots.now ready.now shape.now) (IsHeld roots.now ready.now shape.now) }
+    ensures { MatchBool result
+        (AreReady roots.now ready.now shape.now)
+        (IsHeld roots.now ready.now shape.now) }
 {
     match shape {
         Shape::Var(_) => true,

@@ -186,8 +186,8 @@ fn family_right(alloc: Global, first: Term) -> Result<Term, OutOfMemory> {
     Ok(Term::app(SymId(u32::from(b'h')), args))
 }
 
-/// The family of Baader and Snyder, 2001, section 2, whose unifiers have more than 2^n symbols, with
-/// a clash and with a cycle through its variables.
+/// The family of Baader and Snyder, 2001, whose unifiers have more than 2^n symbols, with a clash
+/// and with a cycle through its variables.
 #[test]
 fn refuses_large_problems_at_once(rt: HostRuntime) -> Result<(), Fail> {
     let alloc = rt.alloc();

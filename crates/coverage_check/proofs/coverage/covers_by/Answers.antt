@@ -7,13 +7,21 @@ use Rattle.coverage_check.proofs.Deciding.{rows_have_sorts}
 use Rattle.coverage_check.proofs.Namings.{named_missing}
 use Rattle.coverage_check.proofs.coverage.covers_by.Goals as goal
 
-pub is_missing-requires-clause-rows : goal.is_missing-requires-clause-rows
-is_missing-requires-clause-rows c =
-    subst (λ rs. AllByRecursion (HasSorts c.args.sig.now c.args.sorts.now) rs) (sym (c.deref.ensures.value ∙ c.in_ok-patterns.ensures)) (rows_have_sorts c.args.sig.now c.args.sorts.now c.args.rows.now c.requires.rows)
+pub is_missing-requires : goal.is_missing-requires
+is_missing-requires c = record {
+  declared = c.requires.declared;
+  range = c.requires.sorts;
+  patterns = subst (λ rs. AllByRecursion (HasSorts c.args.sig.now c.args.sorts.now) rs) (sym (c.deref.ensures.value ∙ c.in_ok-patterns.ensures)) (rows_have_sorts c.args.sig.now c.args.sorts.now c.args.rows.now c.requires.rows);
+  variable = c.requires.any;
+}
 
-pub name-requires-clause-rows : goal.name-requires-clause-rows
-name-requires-clause-rows c =
-    subst (λ rs. AllByRecursion (HasSorts c.args.sig.now c.args.sorts.now) rs) (sym (c.deref-then-branch.ensures.value ∙ c.in_ok-patterns.ensures)) (rows_have_sorts c.args.sig.now c.args.sorts.now c.args.rows.now c.requires.rows)
+pub name-requires-clause-matrix : goal.name-requires-clause-matrix
+name-requires-clause-matrix c = record {
+  declared = c.requires.declared;
+  range = c.requires.sorts;
+  patterns = subst (λ rs. AllByRecursion (HasSorts c.args.sig.now c.args.sorts.now) rs) (sym (c.deref-then-branch.ensures.value ∙ c.in_ok-patterns.ensures)) (rows_have_sorts c.args.sig.now c.args.sorts.now c.args.rows.now c.requires.rows);
+  variable = c.requires.any;
+}
 
 pub returns-then-branch : goal.returns-then-branch
 returns-then-branch c =

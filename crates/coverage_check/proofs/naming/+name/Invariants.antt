@@ -1,5 +1,4 @@
-use Rattle.std.proofs.Common.{ℕ, ◌+◌, ◌*◌, ◌<◌, length}
-use Rattle.coverage_check.specs.Named.{IsSettled}
+use Rattle.std.proofs.Common.{◌+◌, ◌*◌, length}
 use Rattle.coverage_check.proofs.Symbols.{symbol_count}
 use Rattle.coverage_check.proofs.NamedValues.{work}
 use Rattle.coverage_check.proofs.naming.+name.Given as goal
@@ -9,7 +8,3 @@ decreases-name l = 2 * work l.sig.now (symbol_count l.rows.now) (length l.sorts.
 
 abbrev pub decreases-name_under_first : goal.decreases-name_under_first
 decreases-name_under_first l = 2 * work l.sig.now (symbol_count l.rows.now) (length l.sorts.now)
-
-abbrev pub invariant-name_under_first-loop-number : goal.invariant-name_under_first-loop-number
-invariant-name_under_first-loop-number l =
-    (d : ℕ) → d < l.number → IsSettled l.sig l.rows l.sorts d

@@ -1,6 +1,6 @@
 use Rattle.std.proofs.Common.{◌≡◌, ℕ, ◌+◌, ◌<◌, arith}
 use Rattle.term_core.specs.Tree.{Tree}
-use Rattle.spec_core.specs.WellSorted.{Occurs}
+use Rattle.term_core.specs.Variables.{Occurs}
 use Rattle.unifier.specs.Shifting.{shifted}
 use Rattle.unifier.proofs.Apart.{occurs_shifted}
 use Rattle.unifier.proofs.laws.shifted_are_apart.Goals as goal

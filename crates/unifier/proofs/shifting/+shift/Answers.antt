@@ -3,7 +3,7 @@ use Rattle.std.proofs.lemmas.Grind.{common_steps}
 use Rattle.term_core.specs.Tree.{var, app, trees_of}
 use Rattle.term_core.specs.View.{tree_of}
 use Rattle.term_core.proofs.Trees.{weight-member}
-use Rattle.spec_core.specs.WellSorted.{Occurs}
+use Rattle.term_core.specs.Variables.{Occurs}
 use Rattle.unifier.specs.Shifting.{shifted, shifted_all}
 use Rattle.unifier.specs.declared.shifting.ShiftError.TheVariants.{TooLarge as too_large}
 use Rattle.unifier.proofs.Shifts.{same_error, shifted_all-trees_of, too_large_member, within_more}
