@@ -2,9 +2,9 @@
 //! it, compares its left sides or asks whether they match all values, for the figures of
 //! `bench/run`.
 //!
-//! It stands on spec_syntax, sort_check, ground_eval, refuter, overlap_check and coverage_check, and
-//! promises nothing beyond being safe. The words are `search FILE DEPTH TRIES`, `sort FILE TIMES`,
-//! `eval FILE TERM BUDGET TIMES`, `overlap FILE TIMES` or `cover FILE TIMES`.
+//! It stands on spec_syntax, sort_check, ground_eval, refuter, overlap_check and coverage_check,
+//! and promises nothing beyond being safe. The words are `search FILE DEPTH TRIES`,
+//! `sort FILE TIMES`, `eval FILE TERM BUDGET TIMES`, `overlap FILE TIMES` or `cover FILE TIMES`.
 #![tactic(auto)]
 
 ghost use Rattle.std.specs.Prelude.{ℕ, IfOk, List};

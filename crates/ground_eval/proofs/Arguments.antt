@@ -120,8 +120,17 @@ owned_are spec env ts budget old new slice n e is h =
       within = h.within;
     }
 
-pub gathered_give : (spec : Spec) (env ts owned values : List Tree) (n : ℕ) → values ≡ gathered env ts owned → GivesAll spec (instances env (trees_of ts)) (trees_of (gathered env ts owned)) n → GivesAll spec (instances env (trees_of ts)) (trees_of values) n
-gathered_give spec env ts owned values n e g = subst (λ vs. GivesAll spec (instances env (trees_of ts)) (trees_of vs) n) (sym e) g
+-- the values of a call's arguments
+pub record AreGathered (spec : Spec) (env ts : List Tree) (budget : ℕ) (values : List Tree) (n : ℕ) : Type 0 where
+  pub gives : GivesAll spec (instances env (trees_of ts)) (trees_of values) n
+  pub within : n ≤ budget
+
+pub gathered_are : (spec : Spec) (env ts : List Tree) (budget : ℕ) (owned values : List Tree) (n : ℕ) → values ≡ gathered env ts owned → AreOwned spec env ts budget owned n → AreGathered spec env ts budget values n
+gathered_are spec env ts budget owned values n e o =
+    record {
+      gives = subst (λ vs. GivesAll spec (instances env (trees_of ts)) (trees_of vs) n) (sym e) o.gives;
+      within = o.within;
+    }
 
 -- an application of the terms
 module _ (spec : Spec) (fine : IsWellSorted spec) (f : ℕ) (ts : Trees) where

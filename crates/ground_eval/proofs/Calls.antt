@@ -14,14 +14,16 @@ use Rattle.spec_core.specs.declared.records.Spec.{Spec}
 use Rattle.spec_core.specs.Sig.{Sig, IsConstructor}
 use Rattle.spec_core.specs.Sorts.{Sorted, IsBuilt, AreBuilt}
 use Rattle.spec_core.specs.Gives.{Gives, GivesGuards, boolean, no_guards, more_guards}
-use Rattle.spec_core.specs.WellSorted.{IsWellSorted, RuleIsSorted, IsLeft, Numbered, sorts_of}
+use Rattle.term_core.specs.Variables.{Numbered}
+use Rattle.spec_core.specs.WellSorted.{IsWellSorted, RuleIsSorted, IsLeft, sorts_of}
 use Rattle.spec_core.specs.Overlap.{NoOverlap}
 use Rattle.spec_core.specs.Groups.{GroupsAreWhole, Whole, alone, split}
 use Rattle.spec_core.specs.Declarations.{bool_sort}
 use Rattle.spec_core.proofs.Keeps.{right_sorted}
 use Rattle.spec_core.proofs.Values.{env_built, call_costs}
 use Rattle.spec_core.proofs.Guarded.{call_by, call_makes, both_match, call_only}
-use Rattle.spec_core.proofs.Groups.{In, in_rests, begins_with, bool_cases}
+use Rattle.term_core.proofs.Members.{In}
+use Rattle.spec_core.proofs.Groups.{in_rests, begins_with, bool_cases}
 use Rattle.spec_core.proofs.Determined.{determined, boolean_inj, in_its_group, sorted_by_left, left_symbol}
 use Rattle.ground_eval.specs.declared.answers.Eval.TheVariants.{Value, Spent}
 use Rattle.ground_eval.specs.Applications.{IsApplication, head_of, has_head}
@@ -32,6 +34,7 @@ use Rattle.ground_eval.specs.Matches.{IsMatch}
 use Rattle.ground_eval.specs.Choices.{IsMatched, HaveHeld, GoesOn, NoneFollows, Follows, Applies}
 use Rattle.ground_eval.proofs.Guards.{held_more}
 use Rattle.ground_eval.proofs.Lists.{item_at}
+use Rattle.term_core.proofs.Items.{all_at}
 use Rattle.term_core.proofs.Numbers.{below_or_last}
 
 pub left_is_application : (sig : Sig) (left : Tree) → IsLeft sig left → IsApplication left
@@ -96,15 +99,6 @@ module _ (spec : Spec) (fine : IsWellSorted spec) (apart : NoOverlap spec) (whol
         on = (tests, w, r.on);
       }
 
--- what the guards need, under entries
-guards_all : (spec : Spec) (ctx : List SortId) (xs : List Tree) (gs : List Guard) → ((t : Tree) (s : SortId) → Sorted spec.sig ctx t s → Sorted spec.sig [] (instance xs t) s) → AllByRecursion (λ (g : Guard). Sorted spec.sig ctx g.test bool_sort) gs → (k : ℕ) (g : Guard) → slice_get gs k ≡ Some g → Sorted spec.sig [] (instance xs g.test) bool_sort
-guards_all spec ctx xs [] keep h k g at = absurd (let q : None ≡ Some g = at in cc)
-guards_all spec ctx xs (x ∷ gs) keep h zero g at =
-    let q : Some x ≡ Some g = at in
-    let e : x ≡ g = cc in
-    subst (λ (y : Guard). Sorted spec.sig [] (instance xs y.test) bool_sort) e (keep x.test bool_sort h.0)
-guards_all spec ctx xs (x ∷ gs) keep h (suc k) g at = guards_all spec ctx xs gs keep h.1 k g at
-
 -- a rule and the entries of its match
 module _ (spec : Spec) (fine : IsWellSorted spec) (rule : Rule) (env : List Tree) (h : IsMatched spec rule env) where
   here : RuleIsSorted spec.sig rule
@@ -120,7 +114,7 @@ module _ (spec : Spec) (fine : IsWellSorted spec) (rule : Rule) (env : List Tree
   right_has_sort = (h.sort, right_sorted spec.sig rule h.sort env here left_sorted)
 
   pub test_sorted : (k : ℕ) (g : Guard) → slice_get rule.guards k ≡ Some g → Sorted spec.sig [] (instance env g.test) bool_sort
-  test_sorted k g at = guards_all spec (sorts_of rule.vars) env rule.guards (sorted_by_left spec.sig rule h.sort env here left_sorted) here.guards k g at
+  test_sorted k g at = sorted_by_left spec.sig rule h.sort env here left_sorted g.test bool_sort (all_at (λ (x : Guard). Sorted spec.sig (sorts_of rule.vars) x.test bool_sort) rule.guards here.guards k g at)
 
   other : ¬ (IsConstructor spec.sig h.function)
   other c = left_symbol spec.sig rule.left env h.function h.values here.left h.is c

@@ -10,15 +10,8 @@ use Rattle.spec_core.specs.Sig.{Sig}
 use Rattle.spec_core.specs.Sorts.{Sorted, IsBuilt}
 use Rattle.spec_core.specs.Gives.{Gives}
 use Rattle.spec_core.proofs.Values.{built_gives}
+use Rattle.term_core.proofs.Items.{all_at}
 use Rattle.term_core.proofs.Numbers.{below_or_not}
-
-entry_built : (sig : Sig) (xs : List Tree) (n : ℕ) (t : Tree) → AllByRecursion (IsBuilt sig) xs → slice_get xs n ≡ Some t → IsBuilt sig t
-entry_built sig [] n t b e = absurd (let q : None ≡ Some t = e in cc)
-entry_built sig (x ∷ xs) zero t b e =
-    let q : Some x ≡ Some t = e in
-    let k : x ≡ t = cc in
-    subst (λ v. IsBuilt sig v) k b.0
-entry_built sig (x ∷ xs) (suc n) t b e = entry_built sig xs n t b.1 e
 
 -- a variable is exchanged for its entry
 pub entry_is : (xs : List Tree) (n : ℕ) (t : Tree) → slice_get xs n ≡ Some t → instance xs (var n) ≡ t
@@ -26,7 +19,7 @@ entry_is xs n t e = get_or_from_slice_get xs n t (var n) e
 
 -- the entry of a variable is a value, which costs nothing
 pub entry_gives : (spec : Spec) (xs : List Tree) (n : ℕ) (t : Tree) → AllByRecursion (IsBuilt spec.sig) xs → slice_get xs n ≡ Some t → Gives spec (instance xs (var n)) t 0
-entry_gives spec xs n t b e = rw (entry_is xs n t e) (built_gives spec t (entry_built spec.sig xs n t b e))
+entry_gives spec xs n t b e = rw (entry_is xs n t e) (built_gives spec t (all_at (IsBuilt spec.sig) xs b n t e))
 
 no_entry : (xs : List Tree) (n m : ℕ) → length xs ≤ n → get_or xs n (var m) ≡ var m
 no_entry [] n m h = refl

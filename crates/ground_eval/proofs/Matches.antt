@@ -3,9 +3,9 @@ use Rattle.std.proofs.Common.{◌≡◌, ℕ, List, ◌∷◌, Bool, true, false
 use Rattle.std.specs.Prelude.{Result, Ok, Err, IfOk}
 use Rattle.term_core.specs.declared.memory.OutOfMemory.{OutOfMemory}
 use Rattle.term_core.specs.Tree.{Tree, Trees, var, app, none, some, instance, instances, trees_of}
-use Rattle.spec_core.specs.WellSorted.{Numbered, NumberedAll}
-use Rattle.spec_core.proofs.Instances.{same_instance}
-use Rattle.spec_core.proofs.Numbered.{numbered_below}
+use Rattle.term_core.specs.Variables.{Numbered, NumberedAll}
+use Rattle.term_core.proofs.Instances.{same_instance}
+use Rattle.term_core.proofs.Numbered.{numbered_below}
 use Rattle.ground_eval.specs.Matches.{Binds, BindsAll}
 
 -- a first pattern that matches, and then the rest

@@ -1,6 +1,7 @@
 -- The same answer, of what is the same.
-use Rattle.std.proofs.Common.{◌≡◌, ℕ, List, [], Some, Option, subst}
-use Rattle.term_core.specs.Tree.{Tree}
+use Rattle.std.proofs.Common.{◌≡◌, ◌∙◌, ℕ, List, [], Some, Option, ap, subst}
+use Rattle.term_core.specs.Tree.{Tree, instance}
+use Rattle.term_core.proofs.Trees.{instance_none}
 use Rattle.spec_core.specs.declared.records.Spec.{Spec}
 use Rattle.term_core.specs.declared.ids.SortId.{SortId}
 use Rattle.spec_core.specs.Sorts.{Sorted}
@@ -21,3 +22,7 @@ match_some left value found xs e m = subst (λ o. IsMatch left value o) e m
 pub eval_only : (spec : Spec) → IsWellSorted spec → (t : Tree) (s : SortId) (b : ℕ) (e : Eval) → Sorted spec.sig [] t s → IsEval spec t b e → IsOnly spec t e
 eval_only spec fine t s b (Value v n) p h = λ a w x m g. determined spec fine a w g s p h.0
 eval_only spec fine t s b Spent p h = tt
+
+-- without entries a term stays
+pub instance_same : (xs : List Tree) (t : Tree) → xs ≡ [] → instance xs t ≡ t
+instance_same xs t e = ap (λ ys. instance ys t) e ∙ instance_none t

@@ -12,7 +12,8 @@ use Rattle.spec_core.specs.Sig.{info_of}
 use Rattle.spec_core.specs.Sorts.{Sorted, IsValue}
 use Rattle.spec_core.specs.Small.{AllHaveSmallValues}
 use Rattle.spec_core.specs.Declarations.{IsDeclared, AreDistinct, bool_sort}
-use Rattle.spec_core.specs.WellSorted.{RuleIsSorted, GoalIsSorted, GoalNamesAreDistinct, IsWellSorted, HasFewArguments, IsLeft, Numbered, Occurs, IsShallow, sorts_of}
+use Rattle.term_core.specs.Variables.{Numbered, Occurs}
+use Rattle.spec_core.specs.WellSorted.{RuleIsSorted, GoalIsSorted, GoalNamesAreDistinct, IsWellSorted, HasFewArguments, IsLeft, IsShallow, sorts_of}
 use Rattle.ground_eval.specs.Samples.{nat, takes, variable, plus_rules, le_rules, isz_rules, pick_rules, grade_rules, turn_rules, part_rules, sample_sorts, sample_constructors, sample_functions, sample_sig, leaf_term, one_term, two_term, zero_term, succ_term, rule_of, rule_on, same_goal, less_goal, sample}
 use Rattle.term_core.proofs.Items.{all_at}
 use Rattle.spec_core.proofs.SortedNaturals.{all_infos, one_bound, two_bound}

@@ -8,11 +8,15 @@ use Rattle.spec_core.specs.Gives.{GivesAll}
 
 -- where left sides don't overlap and groups are whole, the terms give no values at a cost within the budget
 abbrev pub AreSpent : Spec → Trees → ℕ → Type 0
-AreSpent spec ts budget = NoOverlap spec → GroupsAreWhole spec → (vs : Trees) (n : ℕ) → GivesAll spec ts vs n → n ≤ budget → ⊥
+AreSpent spec ts budget =
+    NoOverlap spec → GroupsAreWhole spec
+    → (vs : Trees) (n : ℕ) → GivesAll spec ts vs n → n ≤ budget → ⊥
 
 -- the values of the terms are added, at a cost within the budget; or no values fit it
 abbrev pub IsEvalAll : Spec → List Tree → List Tree → ℕ → List Tree → List Tree → Option ℕ → Type 0
-IsEvalAll spec env ts budget old new (Some n) = (vs : Trees) × (new ≡ old ++ list_of vs) × GivesAll spec (instances env (trees_of ts)) vs n × (n ≤ budget)
+IsEvalAll spec env ts budget old new (Some n) =
+    (vs : Trees) × (new ≡ old ++ list_of vs)
+    × GivesAll spec (instances env (trees_of ts)) vs n × (n ≤ budget)
 IsEvalAll spec env ts budget old new None = AreSpent spec (instances env (trees_of ts)) budget
 
 -- the entries of those terms that are variables, and in turn the owned terms for the others
@@ -39,5 +43,7 @@ pub record AddsApplications (spec : Spec) (env ts : List Tree) (budget : ℕ) (o
 
 -- the same of those terms that are no variables
 abbrev pub IsEvalOfApplications : Spec → List Tree → List Tree → ℕ → List Tree → List Tree → Option ℕ → Type 0
-IsEvalOfApplications spec env ts budget old new (Some n) = AddsApplications spec env ts budget old new n
-IsEvalOfApplications spec env ts budget old new None = AreSpent spec (instances env (trees_of ts)) budget
+IsEvalOfApplications spec env ts budget old new (Some n) =
+    AddsApplications spec env ts budget old new n
+IsEvalOfApplications spec env ts budget old new None =
+    AreSpent spec (instances env (trees_of ts)) budget

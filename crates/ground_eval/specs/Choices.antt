@@ -8,7 +8,7 @@ use Rattle.spec_core.specs.declared.records.Rule.{Rule}
 use Rattle.spec_core.specs.declared.records.Guard.{Guard}
 use Rattle.spec_core.specs.Sorts.{Sorted, AreBuilt}
 use Rattle.spec_core.specs.Gives.{GivesGuards, boolean}
-use Rattle.spec_core.specs.WellSorted.{Numbered}
+use Rattle.term_core.specs.Variables.{Numbered}
 use Rattle.ground_eval.specs.declared.answers.Eval.TheVariants.{Spent}
 use Rattle.ground_eval.specs.Evals.{IsEval}
 
@@ -28,12 +28,14 @@ pub record IsMatched (spec : Spec) (rule : Rule) (env : List Tree) : Type 0 wher
 abbrev pub HaveHeld : Spec → List Tree → List Guard → ℕ → ℕ → Type 0
 HaveHeld spec env guards k n = (g : ℕ) × GivesGuards spec env (take k guards) g × (n ≡ 1 + g)
 
--- both lists have the same tests up to number k, want the same of those before, and the second wants this answer of that one
+-- both lists have the same tests up to number k, want the same of those before, and the second wants
+-- this answer of that one
 abbrev pub GoesOn : ℕ → Tree → List Guard → List Guard → Type 0
 GoesOn k answer [] hs = ⊥
 GoesOn k answer (g ∷ gs) [] = ⊥
 GoesOn zero answer (g ∷ gs) (h ∷ hs) = (g.test ≡ h.test) × (answer ≡ boolean h.wanted)
-GoesOn (suc k) answer (g ∷ gs) (h ∷ hs) = (g.test ≡ h.test) × (g.wanted ≡ h.wanted) × GoesOn k answer gs hs
+GoesOn (suc k) answer (g ∷ gs) (h ∷ hs) =
+    (g.test ≡ h.test) × (g.wanted ≡ h.wanted) × GoesOn k answer gs hs
 
 -- one of the rules with the same left side, whose guards go on so
 pub record Follows (spec : Spec) (rule : Rule) (k : ℕ) (answer : Tree) (next : Rule) : Type 0 where

@@ -13,4 +13,8 @@ use Rattle.spec_core.specs.Verdict.{IsVerdict}
 -- two verdicts of a goal under the same values and within the same budget are the same
 abbrev pub OneVerdict : Type 0
 OneVerdict =
-    (spec : Spec) (goal : Goal) (k : ℕ) (values : List Tree) (budget : ℕ) (p q : Verdict) → IsWellSorted spec → NoOverlap spec → GroupsAreWhole spec → slice_get spec.goals k ≡ Some goal → AreValuesOf spec (sorts_of goal.vars) values → IsVerdict spec values budget goal p → IsVerdict spec values budget goal q → p ≡ q
+    (spec : Spec) (goal : Goal) (k : ℕ) (values : List Tree) (budget : ℕ) (p q : Verdict)
+    → IsWellSorted spec → NoOverlap spec → GroupsAreWhole spec
+    → slice_get spec.goals k ≡ Some goal → AreValuesOf spec (sorts_of goal.vars) values
+    → IsVerdict spec values budget goal p → IsVerdict spec values budget goal q
+    → p ≡ q

@@ -14,10 +14,9 @@ ghost use Rattle.ground_eval.specs.Choices.{IsMatched, HaveHeld, IsChoice};
 use crate::answers::Eval;
 use crate::evaluators::Evaluator;
 use crate::matching::match_left;
-use crate::references::TermRefs;
 use spec_core::Rule;
 use std::alloc::Global;
-use term_core::{Node, OutOfMemory, SymId, Term, Terms, front};
+use term_core::{Node, OutOfMemory, SymId, Term, TermRefs, Terms, front};
 
 impl<'a> Evaluator<'a> {
     /// Evaluates the term with each variable exchanged for its term in `env`.
@@ -63,7 +62,8 @@ impl<'a> Evaluator<'a> {
         requires constructor { IsConstructor self.now.sig sym.0 }
         requires built { AllByRecursion (IsBuilt self.now.sig) env.now }
         requires sorted { HaveSorts self.now env.now args.now }
-        ensures { IfOk result (IsEval self.now (instance env.now (application sym.0 args.now)) budget) }
+        ensures { IfOk result
+            (IsEval self.now (instance env.now (application sym.0 args.now)) budget) }
     {
         let mut values = Terms::with_capacity(alloc, args.len())?;
         match self.eval_all(alloc, args, env, budget, &mut values)? {
@@ -121,7 +121,8 @@ impl<'a> Evaluator<'a> {
         requires function { ¬ (IsConstructor self.now.sig sym.0) }
         requires built { AllByRecursion (IsBuilt self.now.sig) env.now }
         requires sorted { HasSort self.now env.now (application sym.0 args.now) }
-        ensures { IfOk result (IsEval self.now (instance env.now (application sym.0 args.now)) budget) }
+        ensures { IfOk result
+            (IsEval self.now (instance env.now (application sym.0 args.now)) budget) }
     {
         let mut owned = Terms::new(alloc);
         match self.eval_applications(alloc, args, env, budget, &mut owned)? {

@@ -13,11 +13,10 @@ ghost use Rattle.ground_eval.specs.Index.{numbers_of};
 
 use crate::answers::Eval;
 use crate::index::index_rules;
-use crate::references::TermRefs;
 use spec_core::{Goal, Rule, Spec, Verdict};
 use std::alloc::Global;
 use std::marker::Model;
-use term_core::{Node, OutOfMemory, SymId, Term};
+use term_core::{Node, OutOfMemory, SymId, Term, TermRefs};
 
 /// The rules of a specification, found by their function. Contracts see the specification.
 #[derive(Drop)]
@@ -57,7 +56,7 @@ impl<'a> Evaluator<'a> {
         ensures found { IfOk result (IsEval self.now term.now budget) }
         ensures only { IfOk result (IsOnly self.now term.now) }
     {
-        let none = TermRefs::with_capacity(alloc, 0)?;
+        let none = TermRefs::new(alloc);
         self.eval_in(alloc, term, &none, budget)
     }
 
@@ -76,7 +75,8 @@ impl<'a> Evaluator<'a> {
             → IsVerdict self.now values.now budget goal.now r) }
         ensures sure { IfOk result (λ r. r ≢ Verdict.Spent
             → IsVerdict self.now values.now budget goal.now r) }
-        ensures fails { IfOk result (λ r. r ≡ Verdict.Fails → GoalFails self.now values.now goal.now) }
+        ensures fails { IfOk result (λ r. r ≡ Verdict.Fails
+            → GoalFails self.now values.now goal.now) }
     {
         self.decide(alloc, goal, values, budget)
     }
@@ -102,6 +102,7 @@ impl<'a> Evaluator<'a> {
     {
         self.index[sym.0 as usize].as_slice()
     }
+
     /// The numbers of the rules of the function that this left side calls, in their order.
     pub(crate) fn rules_with(&self, left: &Term) -> &[usize]
         requires called { IsApplication left.now }

@@ -14,7 +14,6 @@ mod groups;
 mod index;
 mod laws;
 mod matching;
-mod references;
 #[cfg(test)]
 mod tests;
 mod verdicts;

@@ -1,13 +1,12 @@
 ghost use Rattle.std.specs.Prelude.{◌≡◌, ℕ, IfOk, length};
 ghost use Rattle.term_core.specs.Tree.{trees_of};
-ghost use Rattle.spec_core.specs.WellSorted.{Numbered, NumberedAll};
+ghost use Rattle.term_core.specs.Variables.{Numbered, NumberedAll};
 ghost use Rattle.term_core.specs.References.{terms_of};
 ghost use Rattle.ground_eval.specs.Applications.{IsApplication, call_of};
 ghost use Rattle.ground_eval.specs.Matches.{Binds, BindsAll, IsMatch};
 
-use crate::references::TermRefs;
 use std::alloc::Global;
-use term_core::{Node, OutOfMemory, Term, front};
+use term_core::{Node, OutOfMemory, Term, TermRefs, front};
 
 /// The terms of the variables under which the left side is its function's call with these
 /// arguments. `count` is the number of the variables.

@@ -65,12 +65,6 @@ fn two(alloc: Global, sym: u32, first: Term, second: Term) -> Result<Term, OutOf
     Ok(Term::app(SymId(sym), args))
 }
 
-fn name(alloc: Global, bytes: &[u8]) -> Result<Name, OutOfMemory>
-    ensures { IfOk result (λ made. made ≡ bytes.now) }
-{
-    Ok(Name::from_bytes(Vec::from_slice(alloc, bytes)?))
-}
-
 /// A symbol of so many naturals.
 fn symbol(
     alloc: Global,
@@ -88,14 +82,14 @@ fn symbol(
         args,
         result: result_sort,
     };
-    Ok((name(alloc, bytes)?, info))
+    Ok((Name::of(alloc, bytes)?, info))
 }
 
 fn sorts(alloc: Global) -> Result<Seq<Name>, OutOfMemory>
     ensures { IfOk result (λ made. made ≡ sample_sorts) }
 {
     let mut made = Seq::new(alloc);
-    made.push(name(alloc, b"Nat")?)?;
+    made.push(Name::of(alloc, b"Nat")?)?;
     Ok(made)
 }
 
@@ -128,7 +122,7 @@ fn variables(alloc: Global, count: u32) -> Result<Seq<VarInfo>, OutOfMemory>
     let mut vars = Seq::new(alloc);
     for _ in 0..count {
         vars.push(VarInfo {
-            name: name(alloc, b"x")?,
+            name: Name::of(alloc, b"x")?,
             sort: NAT,
         })?;
     }
@@ -285,7 +279,7 @@ fn same_goal(alloc: Global) -> Result<Goal, OutOfMemory>
         right: two(alloc, PLUS, var(0), var(0))?,
     })?;
     Ok(Goal {
-        name: name(alloc, b"same")?,
+        name: Name::of(alloc, b"same")?,
         vars: variables(alloc, 2)?,
         premises: Seq::new(alloc),
         conclusions,
@@ -306,7 +300,7 @@ fn less_goal(alloc: Global) -> Result<Goal, OutOfMemory>
         right: var(1),
     })?;
     Ok(Goal {
-        name: name(alloc, b"less")?,
+        name: Name::of(alloc, b"less")?,
         vars: variables(alloc, 2)?,
         premises,
         conclusions,

@@ -7,10 +7,9 @@ ghost use Rattle.ground_eval.specs.Sides.{HasOneSort, SidesAre, PremisesAre, Con
 
 use crate::answers::{Eval, Sides};
 use crate::evaluators::Evaluator;
-use crate::references::TermRefs;
 use spec_core::{Equation, Goal, Verdict};
 use std::alloc::Global;
-use term_core::{OutOfMemory, Term};
+use term_core::{OutOfMemory, Term, TermRefs};
 
 impl<'a> Evaluator<'a> {
     /// The verdict of a goal under these values of its variables.

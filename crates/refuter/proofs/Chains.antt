@@ -7,7 +7,7 @@ use Rattle.term_core.specs.declared.ids.SortId.{SortId}
 use Rattle.spec_core.specs.declared.records.SymInfo.{SymInfo}
 use Rattle.spec_core.specs.Sig.{Sig}
 use Rattle.spec_core.specs.Order.{constructors_from}
-use Rattle.refuter.specs.Lists.{first_of, IsAmong}
+use Rattle.term_core.proofs.Members.{In}
 use Rattle.refuter.specs.Bounded.{values_within, rows_within}
 use Rattle.refuter.specs.After.{args_in, args_of, constructors_after, room_within, applications, made_from, rows_on, room_before, values_after, rows_after}
 use Rattle.refuter.proofs.Bounded.{values_step, values_zero, values_none, rows_begin, rows_end}
@@ -24,7 +24,7 @@ chained_map after g B [] rest h c d = d
 chained_map after g B (r ∷ rows) rest h c d = (h r ∙ ap (λ xs. map g xs ++ rest) c.0, chained_map after g B rows rest h c.1 d)
 
 -- what is after a first member begins with the second one
-chained_head : {X : Type 0} (after : X → List X) (xs : List X) (y : X) → IsChained after xs → first_of xs ≡ Some y → xs ≡ y ∷ after y
+chained_head : {X : Type 0} (after : X → List X) (xs : List X) (y : X) → IsChained after xs → slice_get xs 0 ≡ Some y → xs ≡ y ∷ after y
 chained_head after [] y c e = let q : None ≡ Some y = e in cc
 chained_head after (x ∷ xs) y c e =
     let q : Some x ≡ Some y = e in
@@ -33,16 +33,16 @@ chained_head after (x ∷ xs) y c e =
     let m : after x ≡ after y = ap after k in
     cc
 
-chained_next : {X : Type 0} (after : X → List X) (xs : List X) (x y : X) → IsChained after xs → IsAmong xs x → first_of (after x) ≡ Some y → after x ≡ y ∷ after y
+chained_next : {X : Type 0} (after : X → List X) (xs : List X) (x y : X) → IsChained after xs → In x xs → slice_get (after x) 0 ≡ Some y → after x ≡ y ∷ after y
 chained_next after [] x y c a e = absurd a
 chained_next after (z ∷ xs) x y c (inl k) e =
-    let m : after x ≡ xs = ap after (sym k) ∙ c.0 in
-    m ∙ chained_head after xs y c.1 (ap first_of (sym m) ∙ e)
+    let m : after x ≡ xs = ap after k ∙ c.0 in
+    m ∙ chained_head after xs y c.1 (ap (λ xs. slice_get xs 0) (sym m) ∙ e)
 chained_next after (z ∷ xs) x y c (inr a) e = chained_next after xs x y c.1 a e
 
-chained_later : {X : Type 0} (after : X → List X) (xs : List X) (x y : X) → IsChained after xs → IsAmong xs x → IsAmong (after x) y → IsAmong xs y
+chained_later : {X : Type 0} (after : X → List X) (xs : List X) (x y : X) → IsChained after xs → In x xs → In y (after x) → In y xs
 chained_later after [] x y c a b = absurd a
-chained_later after (z ∷ xs) x y c (inl k) b = inr (subst (λ ys. IsAmong ys y) (ap after (sym k) ∙ c.0) b)
+chained_later after (z ∷ xs) x y c (inl k) b = inr (subst (λ ys. In y ys) (ap after k ∙ c.0) b)
 chained_later after (z ∷ xs) x y c (inr a) b = inr (chained_later after xs x y c.1 a b)
 
 pub drop_at : {X : Type 0} (xs : List X) (f : ℕ) (x : X) (rest : List X) → drop f xs ≡ x ∷ rest → (slice_get xs f ≡ Some x) × (drop (suc f) xs ≡ rest)
@@ -108,13 +108,13 @@ module _ (sig : Sig) where
   rows_chained : (depth : ℕ) (ss : List SortId) (bound : ℕ) → IsChained (rows_after sig depth ss bound) (rows_within sig depth ss bound)
   rows_chained depth ss bound = rows_chained_by depth (values_chained depth) ss bound
 
-  pub next_value_is : (depth : ℕ) (s : SortId) (bound : ℕ) (x y : Tree) → IsAmong (values_within sig depth s bound) x → IsAmong (values_after sig depth s bound x) y → IsAmong (values_within sig depth s bound) y
+  pub next_value_is : (depth : ℕ) (s : SortId) (bound : ℕ) (x y : Tree) → In x (values_within sig depth s bound) → In y (values_after sig depth s bound x) → In y (values_within sig depth s bound)
   next_value_is depth s bound x y a b = chained_later (values_after sig depth s bound) (values_within sig depth s bound) x y (values_chained depth s bound) a b
 
-  pub first_row : (depth : ℕ) (ss : List SortId) (bound : ℕ) (y : List Tree) → first_of (rows_within sig depth ss bound) ≡ Some y → rows_within sig depth ss bound ≡ y ∷ rows_after sig depth ss bound y
+  pub first_row : (depth : ℕ) (ss : List SortId) (bound : ℕ) (y : List Tree) → slice_get (rows_within sig depth ss bound) 0 ≡ Some y → rows_within sig depth ss bound ≡ y ∷ rows_after sig depth ss bound y
   first_row depth ss bound y e = chained_head (rows_after sig depth ss bound) (rows_within sig depth ss bound) y (rows_chained depth ss bound) e
 
-  pub next_row : (depth : ℕ) (ss : List SortId) (bound : ℕ) (x y : List Tree) → IsAmong (rows_within sig depth ss bound) x → first_of (rows_after sig depth ss bound x) ≡ Some y → (rows_after sig depth ss bound x ≡ y ∷ rows_after sig depth ss bound y) × IsAmong (rows_within sig depth ss bound) y
+  pub next_row : (depth : ℕ) (ss : List SortId) (bound : ℕ) (x y : List Tree) → In x (rows_within sig depth ss bound) → slice_get (rows_after sig depth ss bound x) 0 ≡ Some y → (rows_after sig depth ss bound x ≡ y ∷ rows_after sig depth ss bound y) × In y (rows_within sig depth ss bound)
   next_row depth ss bound x y a e =
       let k = chained_next (rows_after sig depth ss bound) (rows_within sig depth ss bound) x y (rows_chained depth ss bound) a e in
-      (k, chained_later (rows_after sig depth ss bound) (rows_within sig depth ss bound) x y (rows_chained depth ss bound) a (subst (λ xs. IsAmong xs y) (sym k) (inl refl)))
+      (k, chained_later (rows_after sig depth ss bound) (rows_within sig depth ss bound) x y (rows_chained depth ss bound) a (subst (λ xs. In y xs) (sym k) (inl refl)))

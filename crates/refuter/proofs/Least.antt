@@ -1,6 +1,6 @@
 -- The fewest symbols of a value: no value has fewer, and where it is a number within the limit some value has as many.
 use Rattle.std.proofs.Common.{◌≡◌, ℕ, zero, suc, ◌+◌, ◌<◌, ◌≤◌, min, List, [], ◌∷◌, ◌++◌, None, ◌⊎◌, inl, inr, refl, sym, subst, arith}
-use Rattle.std.specs.Prelude.{filter, map, nat_le}
+use Rattle.std.specs.Prelude.{filter, map, nat_le, slice_get}
 use Rattle.std.specs.List.{flat_map, AllByRecursion}
 use Rattle.std.proofs.lemmas.List.Elements.{filter-append}
 use Rattle.term_core.specs.Tree.{Tree, app, tree_size, sizes, trees_of}
@@ -8,10 +8,10 @@ use Rattle.term_core.specs.declared.ids.SortId.{SortId}
 use Rattle.spec_core.specs.Sig.{Sig}
 use Rattle.spec_core.specs.Order.{product, constructors_of, is_small, values}
 use Rattle.refuter.proofs.Numbers.{split_le, le_true, le_false}
-use Rattle.refuter.specs.Lists.{first_of, IsAmong}
+use Rattle.term_core.proofs.Members.{In}
 use Rattle.refuter.specs.Bounded.{small_terms, small_rows, values_within, rows_within}
 use Rattle.refuter.specs.Fewest.{total, lowered, lowered_by, fewest}
-use Rattle.refuter.proofs.Among.{none_is_first, among_flat_map, flat_map_among, among_map, map_among, among_filter, filter_among, product_more, among_begun}
+use Rattle.refuter.proofs.InLists.{none_is_first, in_flat_map, flat_map_parts, in_map, map_parts, in_filter, filter_parts, product_more, in_begun}
 use Rattle.refuter.proofs.Members.{all_flat_map, all_map}
 use Rattle.term_core.proofs.Items.{all_append}
 use Rattle.term_core.proofs.Trees.{size_positive}
@@ -48,7 +48,7 @@ module _ (f : SortId → ℕ) where
   by_number n (c ∷ cs) h = by_number (lowered n (1 + total f c.1)) cs (lowered_number n (1 + total f c.1) h)
 
   -- the number stayed, or a constructor gave it
-  by_one : (n : ℕ) (cs : List (ℕ × List SortId)) → (n ≤ lowered_by f n cs) ⊎ ((c : ℕ × List SortId) × IsAmong cs c × (1 + total f c.1 ≤ 255) × (1 + total f c.1 ≤ lowered_by f n cs))
+  by_one : (n : ℕ) (cs : List (ℕ × List SortId)) → (n ≤ lowered_by f n cs) ⊎ ((c : ℕ × List SortId) × In c cs × (1 + total f c.1 ≤ 255) × (1 + total f c.1 ≤ lowered_by f n cs))
   by_one n [] = inl (omega arith)
   by_one n (c ∷ cs) =
       let k = 1 + total f c.1 in
@@ -96,13 +96,13 @@ module _ (f : SortId → ℕ) where
       subst (λ xs. AllByRecursion P xs) (sym e) (all_append P (filter is_small (F c)) (filter is_small (flat_map F cs)) (applied_least n c.0 cs c.1 (product (map V c.1)) (rows_least V h c.1)) (all_least V h (lowered n (1 + total f c.1)) cs))
 
   -- where the sum is below the number that says that there is no value, there is a row of so many symbols
-  row_exists : (V : SortId → List Tree) → ((s : SortId) → IsNumber (f s)) → ((s : SortId) → f s ≤ 255 → (t : Tree) × IsAmong (V s) t × (tree_size t ≤ f s)) → (ss : List SortId) → total f ss < 4096 → (r : List Tree) × IsAmong (product (map V ss)) r × (sizes (trees_of r) ≤ total f ss)
+  row_exists : (V : SortId → List Tree) → ((s : SortId) → IsNumber (f s)) → ((s : SortId) → f s ≤ 255 → (t : Tree) × In t (V s) × (tree_size t ≤ f s)) → (ss : List SortId) → total f ss < 4096 → (r : List Tree) × In r (product (map V ss)) × (sizes (trees_of r) ≤ total f ss)
   unfolding IsNumber
   row_exists V number h [] l = ([], inl refl, omega arith)
   row_exists V number h (s ∷ ss) l =
       let w = row_exists V number h ss (omega arith) in
       let v = h s (elim (number s) [ inl a ↦ a | inr a ↦ absurd (omega arith) ]) in
-      (v.0 ∷ w.0, among_begun (λ u. product (map V ss)) (V s) v.0 w.0 v.1 w.1, omega (arith, v.2, w.2))
+      (v.0 ∷ w.0, in_begun (λ u. product (map V ss)) (V s) v.0 w.0 v.1 w.1, omega (arith, v.2, w.2))
 
 none_at_most : (bound least : ℕ) (ts : List Tree) → AllByRecursion (λ t. least ≤ tree_size t) ts → bound < least → small_terms bound ts ≡ []
 none_at_most bound least [] a h = refl
@@ -112,17 +112,17 @@ none_at_most bound least (t ∷ ts) a h =
 
 module _ (sig : Sig) where
   -- deeper values are more
-  deeper : (depth : ℕ) (s : SortId) (t : Tree) → IsAmong (values sig depth s) t → IsAmong (values sig (suc depth) s) t
+  deeper : (depth : ℕ) (s : SortId) (t : Tree) → In t (values sig depth s) → In t (values sig (suc depth) s)
   deeper zero s t a = absurd a
   deeper (suc depth) s t a =
       let F = λ (k : ℕ × List SortId). map (λ (ts : List Tree). app k.0 (trees_of ts)) (product (map (λ u. values sig depth u) k.1)) in
       let G = λ (k : ℕ × List SortId). map (λ (ts : List Tree). app k.0 (trees_of ts)) (product (map (λ u. values sig (suc depth) u) k.1)) in
-      let w = filter_among is_small (flat_map F (constructors_of sig s)) t a in
-      let v = flat_map_among F (constructors_of sig s) t w.0 in
-      let x = map_among (λ (ts : List Tree). app v.0.0 (trees_of ts)) (product (map (λ u. values sig depth u) v.0.1)) t v.2 in
+      let w = filter_parts is_small (flat_map F (constructors_of sig s)) t a in
+      let v = flat_map_parts F (constructors_of sig s) t w.0 in
+      let x = map_parts (λ (ts : List Tree). app v.0.0 (trees_of ts)) (product (map (λ u. values sig depth u) v.0.1)) t v.2 in
       let r = product_more (λ u. values sig depth u) (λ u. values sig (suc depth) u) (λ u k b. deeper depth u k b) v.0.1 x.0 x.1 in
-      let m : IsAmong (G v.0) t = subst (λ k. IsAmong (G v.0) k) x.2 (among_map (λ (ts : List Tree). app v.0.0 (trees_of ts)) (product (map (λ u. values sig (suc depth) u) v.0.1)) x.0 r) in
-      among_filter is_small (flat_map G (constructors_of sig s)) t (among_flat_map G (constructors_of sig s) v.0 t v.1 m) w.1
+      let m : In t (G v.0) = subst (λ k. In k (G v.0)) x.2 (in_map (λ (ts : List Tree). app v.0.0 (trees_of ts)) (product (map (λ u. values sig (suc depth) u) v.0.1)) x.0 r) in
+      in_filter is_small (flat_map G (constructors_of sig s)) t (in_flat_map G (constructors_of sig s) v.0 t v.1 m) w.1
 
   fewest_number : (depth : ℕ) (s : SortId) → IsNumber (fewest sig depth s)
   unfolding IsNumber fewest
@@ -134,7 +134,7 @@ module _ (sig : Sig) where
   fewest_least zero s = tt
   fewest_least (suc depth) s = all_least (λ u. fewest sig depth u) (λ u. values sig depth u) (λ u. fewest_least depth u) (fewest sig depth s) (constructors_of sig s)
 
-  value_exists : (depth : ℕ) (s : SortId) → fewest sig depth s ≤ 255 → (t : Tree) × IsAmong (values sig depth s) t × (tree_size t ≤ fewest sig depth s)
+  value_exists : (depth : ℕ) (s : SortId) → fewest sig depth s ≤ 255 → (t : Tree) × In t (values sig depth s) × (tree_size t ≤ fewest sig depth s)
   unfolding fewest
   value_exists zero s h = absurd (omega arith)
   value_exists (suc depth) s h =
@@ -149,8 +149,8 @@ module _ (sig : Sig) where
             let F = λ (k : ℕ × List SortId). map (λ (ts : List Tree). app k.0 (trees_of ts)) (product (map V k.1)) in
             let r = row_exists f V (λ u. fewest_number depth u) (λ u. value_exists depth u) w.0.1 (omega (arith, w.2)) in
             let t = app w.0.0 (trees_of r.0) in
-            let m : IsAmong (F w.0) t = among_map (λ (ts : List Tree). app w.0.0 (trees_of ts)) (product (map V w.0.1)) r.0 r.1 in
-            (t, among_filter is_small (flat_map F cs) t (among_flat_map F cs w.0 t w.1 m) (le_true (tree_size t) 255 (omega (arith, r.2, w.2))), omega (arith, r.2, w.3))
+            let m : In t (F w.0) = in_map (λ (ts : List Tree). app w.0.0 (trees_of ts)) (product (map V w.0.1)) r.0 r.1 in
+            (t, in_filter is_small (flat_map F cs) t (in_flat_map F cs w.0 t w.1 m) (le_true (tree_size t) 255 (omega (arith, r.2, w.2))), omega (arith, r.2, w.3))
       ]
 
   -- no row of values has fewer symbols than the sum says
@@ -158,12 +158,12 @@ module _ (sig : Sig) where
   rows_have depth ss = rows_least (λ u. fewest sig depth u) (λ u. values sig depth u) (λ u. fewest_least depth u) ss
 
   -- where there is room for so many symbols, there is a row
-  pub row_fits : (depth : ℕ) (ss : List SortId) (bound : ℕ) → total (λ u. fewest sig depth u) ss ≤ bound → bound < 4096 → first_of (rows_within sig depth ss bound) ≡ None → ⊥
+  pub row_fits : (depth : ℕ) (ss : List SortId) (bound : ℕ) → total (λ u. fewest sig depth u) ss ≤ bound → bound < 4096 → slice_get (rows_within sig depth ss bound) 0 ≡ None → ⊥
   unfolding rows_within
   row_fits depth ss bound h l e =
       let rows = product (map (λ u. values sig depth u) ss) in
       let w = row_exists (λ u. fewest sig depth u) (λ u. values sig depth u) (λ u. fewest_number depth u) (λ u. value_exists depth u) ss (omega arith) in
-      none_is_first (small_rows bound rows) w.0 (among_filter (λ ts. nat_le (sizes (trees_of ts)) bound) rows w.0 w.1 (le_true (sizes (trees_of w.0)) bound (omega (arith, w.2)))) e
+      none_is_first (small_rows bound rows) w.0 (in_filter (λ ts. nat_le (sizes (trees_of ts)) bound) rows w.0 w.1 (le_true (sizes (trees_of w.0)) bound (omega (arith, w.2)))) e
 
   -- no value fits into fewer symbols
   pub none_fits : (depth : ℕ) (s : SortId) (bound : ℕ) → bound < fewest sig depth s → values_within sig depth s bound ≡ []

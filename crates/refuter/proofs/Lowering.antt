@@ -1,8 +1,8 @@
 -- The rows of fewest sizes, each by one pass over the constructors.
-use Rattle.std.proofs.Common.{◌≡◌, ◌≢◌, ℕ, zero, suc, ◌+◌, ◌-◌, ◌<◌, ◌≤◌, min, List, [], ◌∷◌, ◌++◌, Bool, true, false, cond, eqb, Some, None, ◌⊎◌, inl, inr, refl, ap, sym, ◌∙◌, subst, arith, length, take, replicate, set, get_or, get_or-set_same, get_or-set_other}
+use Rattle.std.proofs.Common.{◌≡◌, ◌≢◌, ℕ, zero, suc, ◌+◌, ◌-◌, ◌<◌, ◌≤◌, min, List, [], ◌∷◌, ◌++◌, Bool, true, false, eqb, Some, None, ◌⊎◌, inl, inr, refl, ap, sym, ◌∙◌, subst, arith, length, take, replicate, set, get_or, get_or-set_same, get_or-set_other}
 use Rattle.std.specs.Prelude.{slice_get, slice_index, option_map, sum, MatchBool}
 use Rattle.std.specs.List.{AllByRecursion}
-use Rattle.std.proofs.lemmas.List.{take_more, get_or-replicate, length-replicate}
+use Rattle.std.proofs.lemmas.List.{take_more, length_push, get_or-replicate, length-replicate}
 use Rattle.term_core.specs.declared.ids.SortId.{SortId}
 use Rattle.spec_core.specs.declared.records.SymInfo.{SymInfo}
 use Rattle.spec_core.specs.Sig.{Sig, info_of, IsSort, SortsAreInRange}
@@ -10,8 +10,9 @@ use Rattle.spec_core.specs.Order.{constructors_from, constructors_of}
 use Rattle.refuter.proofs.Numbers.{split_le}
 use Rattle.refuter.specs.Fewest.{total, lowered, lowered_by, fewest, number_in, IsRowOf, AreRowsOf}
 use Rattle.refuter.specs.After.{constructors_after}
+use Rattle.refuter.proofs.Members.{all_cond}
 use Rattle.refuter.proofs.Least.{lowered_to, lowered_not}
-use Rattle.refuter.proofs.Rows.{constructor_here, constructor_other}
+use Rattle.spec_core.proofs.Constructors.{constructor_here, constructor_other}
 use Rattle.term_core.proofs.Numbers.{same_or_not}
 
 total_append : (f : SortId → ℕ) (xs : List SortId) (y : SortId) → total f (xs ++ y ∷ []) ≡ total f xs + f y
@@ -52,10 +53,6 @@ stays next place size t e h s q =
       ]
     ]
 
-pub length_one : {X : Type 0} (xs : List X) (x : X) → length (xs ++ x ∷ []) ≡ length xs + 1
-length_one [] x = refl
-length_one (y ∷ xs) x = omega (arith, length_one xs x)
-
 one_past : {X : Type 0} (xs : List X) (x y : X) (i : ℕ) → slice_get (xs ++ x ∷ []) i ≡ Some y → (slice_get xs i ≡ Some y) ⊎ ((i ≡ length xs) × (x ≡ y))
 one_past [] x y zero e = let q : Some x ≡ Some y = e in inr (refl, cc)
 one_past [] x y (suc i) e = absurd (let q : None ≡ Some y = e in cc)
@@ -92,14 +89,10 @@ module _ (sig : Sig) where
       let z : sig.constructors - number ≡ 0 = omega arith in
       rw z refl
 
-  all_if : {A : Type 0} (P : A → Type 0) (b : Bool) (x : A) (xs : List A) → P x → AllByRecursion P xs → AllByRecursion P (cond b (x ∷ xs) xs)
-  all_if P true x xs p a = (p, a)
-  all_if P false x xs p a = a
-
   args_in_range : (s : SortId) (es : List (List ℕ × SymInfo)) (f left : ℕ) → ((k : ℕ) (e : List ℕ × SymInfo) → slice_get es k ≡ Some e → AllByRecursion (IsSort sig) e.1.args) → AllByRecursion (λ (c : ℕ × List SortId). AllByRecursion (IsSort sig) c.1) (constructors_from f left s es)
   args_in_range s es f zero h = tt
   args_in_range s [] f (suc left) h = tt
-  args_in_range s (e ∷ es) f (suc left) h = all_if (λ (c : ℕ × List SortId). AllByRecursion (IsSort sig) c.1) (eqb e.1.result.0 s.0) (f, e.1.args) (constructors_from (suc f) left s es) (h 0 e refl) (args_in_range s es (suc f) left (λ k x q. h (suc k) x q))
+  args_in_range s (e ∷ es) f (suc left) h = all_cond (λ (c : ℕ × List SortId). AllByRecursion (IsSort sig) c.1) (eqb e.1.result.0 s.0) (f, e.1.args) (constructors_from (suc f) left s es) (h 0 e refl) (args_in_range s es (suc f) left (λ k x q. h (suc k) x q))
 
   lowered_same : (f g : SortId → ℕ) → ((s : SortId) → IsSort sig s → f s ≡ g s) → (n m : ℕ) → n ≡ m → (cs : List (ℕ × List SortId)) → AllByRecursion (λ (c : ℕ × List SortId). AllByRecursion (IsSort sig) c.1) cs → lowered_by f n cs ≡ lowered_by g m cs
   lowered_same f g h n m e [] a = e
@@ -153,7 +146,7 @@ module _ (sig : Sig) where
     pub rows_end : (rows : List (List ℕ)) (row next : List ℕ) → ((depth : ℕ) (r : List ℕ) → slice_get rows depth ≡ Some r → IsRowOf sig depth r) → IsRowOf sig (length rows) row → length next ≡ length row → next ≡ row → ((s : SortId) → IsSort sig s → number_in next s ≡ lowered_by (number_in row) (number_in row s) (constructors_of sig s)) → (new : List (List ℕ)) → new ≡ rows ++ row ∷ [] → AreRowsOf sig new
     rows_end rows row next each here l same h new e =
         let r = row_more (length rows) row next here l h in
-        let n : length new ≡ length rows + 1 = ap length e ∙ length_one rows row in
+        let n : length new ≡ length rows + 1 = ap length e ∙ length_push rows row in
         let k : length new - 1 ≡ length rows = omega arith in
         record {
           some = omega arith;

@@ -23,7 +23,7 @@ pub all_map : {X A : Type 0} (Q : X → Type 0) (P : A → Type 0) (f : X → A)
 all_map Q P f [] a h = tt
 all_map Q P f (x ∷ xs) a h = (h x a.0, all_map Q P f xs a.1 h)
 
-all_cond : {A : Type 0} (P : A → Type 0) (b : Bool) (x : A) (xs : List A) → P x → AllByRecursion P xs → AllByRecursion P (cond b (x ∷ xs) xs)
+pub all_cond : {A : Type 0} (P : A → Type 0) (b : Bool) (x : A) (xs : List A) → P x → AllByRecursion P xs → AllByRecursion P (cond b (x ∷ xs) xs)
 all_cond P true x xs p a = (p, a)
 all_cond P false x xs p a = a
 

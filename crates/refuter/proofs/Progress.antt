@@ -1,7 +1,7 @@
 -- Where a search stands: the rows that it looked at, and those that are left.
 use Rattle.std.proofs.Common.{◌≡◌, ℕ, zero, suc, ◌+◌, ◌*◌, ◌≤◌, min, List, [], ◌∷◌, ◌++◌, Bool, true, false, cond, Some, ◌⊎◌, inl, inr, refl, ap, sym, ◌∙◌, subst, arith, length, take, drop, length-drop}
 use Rattle.std.specs.Prelude.{map, filter, slice_get, nat_le, nat_lt}
-use Rattle.std.specs.List.{AllByRecursion, flat_map}
+use Rattle.std.specs.List.{AllByRecursion, Contains, flat_map}
 use Rattle.term_core.specs.Tree.{Tree, app, tree_size, sizes, trees_of}
 use Rattle.term_core.specs.declared.ids.SortId.{SortId}
 use Rattle.spec_core.specs.declared.records.Spec.{Spec}
@@ -14,14 +14,15 @@ use Rattle.spec_core.specs.Verdict.{IsVerdict}
 use Rattle.spec_core.specs.Order.{product, constructors_of, values, is_small}
 use Rattle.refuter.proofs.Numbers.{le_true, true_le, lt_true, lt_false}
 use Rattle.refuter.specs.Finds.{SpentRows}
-use Rattle.refuter.specs.Lists.{first_of, IsAmong}
+use Rattle.term_core.proofs.Members.{in_contained, contained_in}
 use Rattle.refuter.specs.Bounded.{rows_within}
 use Rattle.refuter.specs.After.{rows_after}
 use Rattle.refuter.specs.Moves.{GoesOn}
-use Rattle.refuter.proofs.Among.{first_is_among}
+use Rattle.refuter.proofs.InLists.{first_in}
 use Rattle.refuter.proofs.Members.{all_flat_map, all_map}
 use Rattle.refuter.proofs.Chains.{first_row, next_row, drop_at}
-use Rattle.refuter.proofs.Steps.{goes_true, goes_false, take_here, no_first}
+use Rattle.ground_eval.proofs.Lists.{take_here}
+use Rattle.refuter.proofs.Steps.{goes_true, goes_false, no_first}
 
 all_kept : {X : Type 0} (p : X → Bool) (xs : List X) → AllByRecursion (λ x. p x ≡ true) xs → filter p xs ≡ xs
 all_kept p [] a = refl
@@ -58,33 +59,33 @@ module _ (sig : Sig) where
   -- the rows that are left begin with this one, or there are none
   abbrev pub IsAt : ℕ → List SortId → ℕ → List (List Tree) → List Tree → Bool → Type 0
   IsAt depth ss bound rest row false = rest ≡ []
-  IsAt depth ss bound rest row true = (rest ≡ row ∷ rows_after sig depth ss bound row) × IsAmong (rows_within sig depth ss bound) row
+  IsAt depth ss bound rest row true = (rest ≡ row ∷ rows_after sig depth ss bound row) × Contains (rows_within sig depth ss bound) row
 
-  pub starts : (depth : ℕ) (ss : List SortId) (bound : ℕ) (all : List (List Tree)) (old row : List Tree) (more : Bool) → rows_within sig depth ss bound ≡ all → old ≡ [] → GoesOn old (first_of (rows_within sig depth ss bound)) row more → IsAt depth ss bound (drop 0 all) row more
-  starts depth ss bound all old row false e o g = sym e ∙ no_first (rows_within sig depth ss bound) (goes_false old (first_of (rows_within sig depth ss bound)) row false g refl).0
+  pub starts : (depth : ℕ) (ss : List SortId) (bound : ℕ) (all : List (List Tree)) (old row : List Tree) (more : Bool) → rows_within sig depth ss bound ≡ all → old ≡ [] → GoesOn old (slice_get (rows_within sig depth ss bound) 0) row more → IsAt depth ss bound (drop 0 all) row more
+  starts depth ss bound all old row false e o g = sym e ∙ no_first (rows_within sig depth ss bound) (goes_false old (slice_get (rows_within sig depth ss bound) 0) row false g refl).0
   starts depth ss bound all old row true e o g =
-      let w = goes_true old (first_of (rows_within sig depth ss bound)) row true g refl in
+      let w = goes_true old (slice_get (rows_within sig depth ss bound) 0) row true g refl in
       let k : row ≡ w.0 = w.2 ∙ ap (λ xs. xs ++ w.0) o in
-      let f : first_of (rows_within sig depth ss bound) ≡ Some row = w.1 ∙ ap (λ xs. Some xs) (sym k) in
-      (sym e ∙ first_row sig depth ss bound row f, first_is_among (rows_within sig depth ss bound) row f)
+      let f : slice_get (rows_within sig depth ss bound) 0 ≡ Some row = w.1 ∙ ap (λ xs. Some xs) (sym k) in
+      (sym e ∙ first_row sig depth ss bound row f, contained_in (rows_within sig depth ss bound) row (first_in (rows_within sig depth ss bound) row f))
 
-  pub moves : (depth : ℕ) (ss : List SortId) (bound i : ℕ) (all : List (List Tree)) (old row : List Tree) (before more : Bool) → before ≡ true → IsAt depth ss bound (drop i all) old before → GoesOn [] (first_of (rows_after sig depth ss bound old)) row more → IsAt depth ss bound (drop (i + 1) all) row more
+  pub moves : (depth : ℕ) (ss : List SortId) (bound i : ℕ) (all : List (List Tree)) (old row : List Tree) (before more : Bool) → before ≡ true → IsAt depth ss bound (drop i all) old before → GoesOn [] (slice_get (rows_after sig depth ss bound old) 0) row more → IsAt depth ss bound (drop (i + 1) all) row more
   moves depth ss bound i all old row false more b s g = absurd (let q : false ≡ true = b in cc)
   moves depth ss bound i all old row true false b s g =
       let d = drop_at all i old (rows_after sig depth ss bound old) s.0 in
       let e : i + 1 ≡ suc i = omega arith in
-      rw e (d.1 ∙ no_first (rows_after sig depth ss bound old) (goes_false [] (first_of (rows_after sig depth ss bound old)) row false g refl).0)
+      rw e (d.1 ∙ no_first (rows_after sig depth ss bound old) (goes_false [] (slice_get (rows_after sig depth ss bound old) 0) row false g refl).0)
   moves depth ss bound i all old row true true b s g =
       let d = drop_at all i old (rows_after sig depth ss bound old) s.0 in
-      let w = goes_true [] (first_of (rows_after sig depth ss bound old)) row true g refl in
-      let f : first_of (rows_after sig depth ss bound old) ≡ Some row = w.1 ∙ ap (λ xs. Some xs) (sym w.2) in
-      let n = next_row sig depth ss bound old row s.1 f in
+      let w = goes_true [] (slice_get (rows_after sig depth ss bound old) 0) row true g refl in
+      let f : slice_get (rows_after sig depth ss bound old) 0 ≡ Some row = w.1 ∙ ap (λ xs. Some xs) (sym w.2) in
+      let n = next_row sig depth ss bound old row (in_contained (rows_within sig depth ss bound) old s.1) f in
       let e : i + 1 ≡ suc i = omega arith in
-      rw e (d.1 ∙ n.0, n.1)
+      rw e (d.1 ∙ n.0, contained_in (rows_within sig depth ss bound) row n.1)
 
-  pub at_row : (depth : ℕ) (ss : List SortId) (bound i : ℕ) (all : List (List Tree)) (row : List Tree) (more : Bool) → more ≡ true → IsAt depth ss bound (drop i all) row more → (slice_get all i ≡ Some row) × IsAmong (rows_within sig depth ss bound) row
+  pub at_row : (depth : ℕ) (ss : List SortId) (bound i : ℕ) (all : List (List Tree)) (row : List Tree) (more : Bool) → more ≡ true → IsAt depth ss bound (drop i all) row more → slice_get all i ≡ Some row
   at_row depth ss bound i all row false b s = absurd (let q : false ≡ true = b in cc)
-  at_row depth ss bound i all row true b s = ((drop_at all i row (rows_after sig depth ss bound row) s.0).0, s.1)
+  at_row depth ss bound i all row true b s = (drop_at all i row (rows_after sig depth ss bound row) s.0).0
 
   -- where the search ends: the list ends here, or the tries are used up
   pub ends : (depth : ℕ) (ss : List SortId) (bound i tries : ℕ) (all : List (List Tree)) (row : List Tree) (more : Bool) → IsAt depth ss bound (drop i all) row more → i ≤ length all → i ≤ tries → (more ≡ false) ⊎ (tries ≤ i) → (i ≡ min tries (length all)) × (more ≡ nat_lt tries (length all))

@@ -28,7 +28,8 @@ module _ (sig : Sig) where
 
   -- the constructor's applications of at most one more than this depth and at most so many symbols
   unfoldable pub applications : ℕ → ℕ → ℕ × List SortId → List Tree
-  applications depth bound c = map (λ ts. app c.0 (trees_of ts)) (rows_within sig depth c.1 (room_within bound))
+  applications depth bound c =
+      map (λ ts. app c.0 (trees_of ts)) (rows_within sig depth c.1 (room_within bound))
 
   -- the applications of the constructors from this number on
   unfoldable pub made_from : ℕ → SortId → ℕ → ℕ → List Tree
@@ -36,7 +37,8 @@ module _ (sig : Sig) where
 
   -- the rows that begin with one of the terms
   unfoldable pub rows_on : ℕ → List SortId → ℕ → List Tree → List (List Tree)
-  rows_on depth ss bound ts = flat_map (λ t. map (λ r. t ∷ r) (rows_within sig depth ss (bound - tree_size t))) ts
+  rows_on depth ss bound ts =
+      flat_map (λ t. map (λ r. t ∷ r) (rows_within sig depth ss (bound - tree_size t))) ts
 
   -- the room for the first value where the fewest symbols of the others are left free
   unfoldable pub room_before : ℕ → List SortId → ℕ → ℕ
@@ -46,13 +48,19 @@ module _ (sig : Sig) where
   abbrev pub rows_after_by : (SortId → ℕ → Tree → List Tree) → ℕ → List SortId → ℕ → List Tree → List (List Tree)
   rows_after_by later depth [] bound ts = []
   rows_after_by later depth (s ∷ ss) bound [] = []
-  rows_after_by later depth (s ∷ ss) bound (t ∷ ts) = map (λ r. t ∷ r) (rows_after_by later depth ss (bound - tree_size t) ts) ++ rows_on depth ss bound (later s (room_before depth ss bound) t)
+  rows_after_by later depth (s ∷ ss) bound (t ∷ ts) =
+      map (λ r. t ∷ r) (rows_after_by later depth ss (bound - tree_size t) ts)
+      ++ rows_on depth ss bound (later s (room_before depth ss bound) t)
 
   -- the values after this one
   unfoldable pub values_after : ℕ → SortId → ℕ → Tree → List Tree
   values_after zero s bound t = []
   values_after (suc depth) s bound (var n) = []
-  values_after (suc depth) s bound (app f ts) = map (λ r. app f (trees_of r)) (rows_after_by (λ u b t. values_after depth u b t) depth (args_of sig f) (room_within bound) (list_of ts)) ++ made_from depth s bound (f + 1)
+  values_after (suc depth) s bound (app f ts) =
+      map (λ r. app f (trees_of r))
+      (rows_after_by (λ u b t. values_after depth u b t) depth (args_of sig f)
+      (room_within bound) (list_of ts))
+      ++ made_from depth s bound (f + 1)
 
   -- the rows after this one
   unfoldable pub rows_after : ℕ → List SortId → ℕ → List Tree → List (List Tree)

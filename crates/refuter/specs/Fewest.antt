@@ -21,7 +21,8 @@ lowered_by f number (c ∷ cs) = lowered_by f (lowered number (1 + total f c.1))
 -- the fewest symbols of a value of the sort with at most this depth, or 4096 where there is no value
 unfoldable pub fewest : Sig → ℕ → SortId → ℕ
 fewest sig zero s = 4096
-fewest sig (suc depth) s = lowered_by (λ u. fewest sig depth u) (fewest sig depth s) (constructors_of sig s)
+fewest sig (suc depth) s =
+    lowered_by (λ u. fewest sig depth u) (fewest sig depth s) (constructors_of sig s)
 
 -- the numbers of a row, by sort
 abbrev pub number_in : List ℕ → SortId → ℕ
@@ -36,4 +37,5 @@ pub record IsRowOf (sig : Sig) (depth : ℕ) (row : List ℕ) : Type 0 where
 pub record AreRowsOf (sig : Sig) (rows : List (List ℕ)) : Type 0 where
   pub some : 0 < length rows
   pub each : (depth : ℕ) (row : List ℕ) → slice_get rows depth ≡ Some row → IsRowOf sig depth row
-  pub last : (s : SortId) → IsSort sig s → fewest sig (length rows) s ≡ fewest sig (length rows - 1) s
+  pub last : (s : SortId)
+      → IsSort sig s → fewest sig (length rows) s ≡ fewest sig (length rows - 1) s

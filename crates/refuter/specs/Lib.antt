@@ -1,6 +1,5 @@
 -- What a search answers, and how it goes from one substitution to the next.
 pub mod Finds
-pub mod Lists
 pub mod Bounded
 pub mod Fewest
 pub mod After

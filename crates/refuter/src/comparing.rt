@@ -61,7 +61,8 @@ fn are_below(sorts: &[SortId], number: u32) -> bool
 
 /// Whether these can be the constructors of a signature with so many sorts, `Bool` among them.
 fn are_fit(constructors: &[(Name, SymInfo)], sorts: u32) -> bool
-    ensures { IsTrue result → AllByRecursion (IsBelow sorts) constructors.now × AllByRecursion IsNotBool constructors.now }
+    ensures { IsTrue result → AllByRecursion (IsBelow sorts) constructors.now
+        × AllByRecursion IsNotBool constructors.now }
 {
     let Some((constructor, rest)) = front(constructors) else {
         return true;

@@ -5,12 +5,12 @@ ghost use Rattle.spec_core.specs.Sig.{IsSort, SortsAreInRange};
 ghost use Rattle.spec_core.specs.Order.{constructors_of};
 ghost use Rattle.refuter.specs.Fewest.{total, lowered_by, number_in, AreRowsOf};
 
-use spec_core::Signature;
+use spec_core::{SMALL_VALUE_SYMBOLS, Signature};
 use std::alloc::Global;
 use term_core::{OutOfMemory, Seq, SortId, SymId};
 
 /// The symbols of the largest value that is tried.
-pub(crate) const MOST_SYMBOLS: u32 = 255;
+pub(crate) const MOST_SYMBOLS: u32 = SMALL_VALUE_SYMBOLS as u32;
 
 /// Stands for the size of a value where there is none. Sixteen values have fewer symbols.
 pub(crate) const NO_VALUE: u32 = 4096;
@@ -42,7 +42,8 @@ fn lower_all(sig: &Signature, row: &[u32], next: &mut [u32]) -> bool
     requires in_range { SortsAreInRange sig.now }
     requires long { length row.now ≡ length sig.now.sorts }
     requires same { next.old ≡ row.now }
-    ensures each { (s : SortId) → IsSort sig.now s → number_in next.new s ≡ lowered_by (number_in row.now) (number_in row.now s) (constructors_of sig.now s) }
+    ensures each { (s : SortId) → IsSort sig.now s → number_in next.new s
+        ≡ lowered_by (number_in row.now) (number_in row.now s) (constructors_of sig.now s) }
     ensures few { sig.now.constructors < 2 ^ 32 }
     ensures fell { MatchBool result (sum next.new < sum row.now) (next.new ≡ row.now) }
 {

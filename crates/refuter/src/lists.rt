@@ -70,7 +70,8 @@ fn add_small(
     rows: &[Terms],
     found: &mut Terms,
 ) -> Result<(), OutOfMemory>
-    ensures { OnOk result (found.new ≡ found.old ++ filter is_small (map (λ ts. application sym.0 (trees_of ts)) rows.now)) }
+    ensures { OnOk result (found.new ≡ found.old
+        ++ filter is_small (map (λ ts. application sym.0 (trees_of ts)) rows.now)) }
 {
     for row in rows {
         let term = Term::app(sym, row.copy(alloc)?);
@@ -103,7 +104,8 @@ fn add_all_rows(
     rests: &[Terms],
     rows: &mut Seq<Terms>,
 ) -> Result<(), OutOfMemory>
-    ensures { OnOk result (rows.new ≡ rows.old ++ flat_map (λ x. map (λ ys. x ∷ ys) rests.now) firsts.now) }
+    ensures { OnOk result (rows.new ≡ rows.old
+        ++ flat_map (λ x. map (λ ys. x ∷ ys) rests.now) firsts.now) }
 {
     for first in firsts {
         add_rows(alloc, first, rests, rows)?;

@@ -1,8 +1,7 @@
-ghost use Rattle.std.specs.Prelude.{◌≡◌, ◌<◌, ◌≤◌, IfOk, length, take, drop};
-ghost use Rattle.std.specs.List.{AllByRecursion};
+ghost use Rattle.std.specs.Prelude.{◌≡◌, ◌<◌, ◌≤◌, IfOk, length, slice_get, take, drop};
+ghost use Rattle.std.specs.List.{AllByRecursion, Contains};
 ghost use Rattle.spec_core.specs.Sig.{IsSort, SortsAreInRange};
 ghost use Rattle.spec_core.specs.WellSorted.{HasFewArguments};
-ghost use Rattle.refuter.specs.Lists.{first_of, IsAmong};
 ghost use Rattle.refuter.specs.Bounded.{values_within, rows_within};
 ghost use Rattle.refuter.specs.Fewest.{IsRowOf, fewest};
 ghost use Rattle.refuter.specs.After.{room_before, made_from, values_after, rows_after};
@@ -84,7 +83,8 @@ impl<'a> Odometer<'a> {
     ) -> Result<bool, OutOfMemory>
         requires sorts { AllByRecursion (IsSort self.now) sorts.now }
         requires few { bound < 4096 }
-        ensures { IfOk result (GoesOn row.old.items (first_of (rows_within self.now depth sorts.now bound)) row.new.items) }
+        ensures { IfOk result (GoesOn row.old.items
+            (slice_get (rows_within self.now depth sorts.now bound) 0) row.new.items) }
     {
         let Some((sort, others)) = front(sorts) else {
             return Ok(true);
@@ -112,7 +112,7 @@ impl<'a> Odometer<'a> {
     ) -> Result<Option<Term>, OutOfMemory>
         requires sort { IsSort self.now sort }
         requires few { bound < 4096 }
-        ensures { IfOk result (λ r. r ≡ first_of (values_within self.now depth sort bound)) }
+        ensures { IfOk result (λ r. r ≡ slice_get (values_within self.now depth sort bound) 0) }
     {
         if self.fewest(depth, sort) > bound {
             return Ok(None);
@@ -131,7 +131,7 @@ impl<'a> Odometer<'a> {
         bound: u32,
         from: u32,
     ) -> Result<Option<Term>, OutOfMemory>
-        ensures { IfOk result (λ r. r ≡ first_of (made_from self.now depth sort bound from)) }
+        ensures { IfOk result (λ r. r ≡ slice_get (made_from self.now depth sort bound from) 0) }
     {
         let room = bound.min(MOST_SYMBOLS).saturating_sub(1);
         for number in from..self.sig.constructors() {
@@ -162,8 +162,11 @@ impl<'a> Odometer<'a> {
         requires sorts { AllByRecursion (IsSort self.now) sorts.now }
         requires few { bound < 4096 }
         requires place { place ≤ length row.old.items }
-        requires listed { IsAmong (rows_within self.now depth sorts.now bound) (drop place row.old.items) }
-        ensures { IfOk result (GoesOn (take place row.old.items) (first_of (rows_after self.now depth sorts.now bound (drop place row.old.items))) row.new.items) }
+        requires listed { Contains (rows_within self.now depth sorts.now bound)
+            (drop place row.old.items) }
+        ensures { IfOk result (GoesOn (take place row.old.items)
+            (slice_get (rows_after self.now depth sorts.now bound (drop place row.old.items)) 0)
+            row.new.items) }
     {
         let Some((sort, others)) = front(sorts) else {
             return Ok(false);
@@ -196,8 +199,8 @@ impl<'a> Odometer<'a> {
         bound: u32,
         value: Term,
     ) -> Result<Option<Term>, OutOfMemory>
-        requires { IsAmong (values_within self.now depth sort bound) value }
-        ensures { IfOk result (λ r. r ≡ first_of (values_after self.now depth sort bound value)) }
+        requires { Contains (values_within self.now depth sort bound) value }
+        ensures { IfOk result (λ r. r ≡ slice_get (values_after self.now depth sort bound value) 0) }
     {
         match value.node {
             Node::Var(_) => unreachable!(),

@@ -25,10 +25,12 @@ pub fn search(
 ) -> Result<Search, OutOfMemory>
     requires fine { IsWellSorted spec.now }
     requires listed { (k : ℕ) × (slice_get spec.now.goals k ≡ Some goal.now) }
-    ensures finds { IfOk result (λ r. NoOverlap spec.now → GroupsAreWhole spec.now → Finds spec.now goal.now budget tries (substitutions spec.now goal.now depth) r) }
+    ensures finds { IfOk result (λ r. NoOverlap spec.now → GroupsAreWhole spec.now
+        → Finds spec.now goal.now budget tries (substitutions spec.now goal.now depth) r) }
 
     // A counterexample is one also where left sides overlap or groups aren't whole.
-    ensures found { IfOk result (IsFalse spec.now goal.now tries (substitutions spec.now goal.now depth)) }
+    ensures found { IfOk result
+        (IsFalse spec.now goal.now tries (substitutions spec.now goal.now depth)) }
 {
     let evaluator = Evaluator::new(alloc, spec)?;
     let odometer = Odometer::new(alloc, &spec.sig)?;

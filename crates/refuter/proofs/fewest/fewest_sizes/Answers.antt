@@ -1,9 +1,10 @@
 use Rattle.std.proofs.Common.{arith, rules, Some, None, ◌≡◌, ◌+◌, ◌++◌, ◌∷◌, [], ap, sym, subst, ◌∙◌, length, take, drop, replicate}
 use Rattle.std.specs.Prelude.{slice_get}
 use Rattle.std.proofs.lemmas.Grind.{common_steps}
+use Rattle.std.proofs.lemmas.List.{length_push}
 use Rattle.spec_core.specs.Order.{constructors_of}
 use Rattle.refuter.specs.Fewest.{IsRowOf, lowered_by, number_in}
-use Rattle.refuter.proofs.Lowering.{row_more, rows_end, each_one, row_start, not_lowered, length_one}
+use Rattle.refuter.proofs.Lowering.{row_more, rows_end, each_one, row_start, not_lowered}
 use Rattle.refuter.proofs.fewest.fewest_sizes.Goals as goal
 
 pub loop-row-init : goal.loop-row-init
@@ -28,7 +29,7 @@ loop-row-preserved c =
     let row : c.deref-in-loop-row.result.now ≡ c.loop-row.row.items = search rules in
     let long : length c.lower_all-lowered.new.next ≡ length c.loop-row.row.items = grind (arith, common_steps) in
     let is : c.push.new.self ≡ c.loop-row.rows ++ c.loop-row.row.items ∷ [] = search rules in
-    let one : length c.push.new.self ≡ length c.loop-row.rows + 1 = ap (λ xs. length xs) is ∙ length_one c.loop-row.rows c.loop-row.row.items in
+    let one : length c.push.new.self ≡ length c.loop-row.rows + 1 = ap (λ xs. length xs) is ∙ length_push c.loop-row.rows c.loop-row.row.items in
     let r = row_more c.args.sig.now c.requires (length c.loop-row.rows) c.loop-row.row.items c.lower_all-lowered.new.next c.loop-row.invariant.here long (λ s k. c.lower_all-lowered.ensures.each s k ∙ ap (λ xs. lowered_by (number_in xs) (number_in xs s) (constructors_of c.args.sig.now s)) row) in
     record {
       each = λ depth x at. each_one c.args.sig.now c.loop-row.rows c.loop-row.row.items c.loop-row.invariant.each c.loop-row.invariant.here depth x (subst (λ xs. slice_get xs depth ≡ Some x) is at);

@@ -4,7 +4,8 @@ use Rattle.std.specs.List.{flat_map}
 use Rattle.term_core.specs.Tree.{Tree, app, trees_of}
 use Rattle.term_core.specs.declared.ids.SortId.{SortId}
 use Rattle.spec_core.specs.Order.{values, product, is_small}
-use Rattle.refuter.proofs.Rows.{constructor_here, constructor_other, made_more}
+use Rattle.spec_core.proofs.Constructors.{constructor_here, constructor_other}
+use Rattle.refuter.proofs.Rows.{made_more}
 use Rattle.refuter.proofs.lists.+values.Goals as goal
 
 pub values_of-loop-number-preserved-then-info-sort :

@@ -16,13 +16,13 @@ use Rattle.spec_core.specs.Verdict.{IsVerdict}
 use Rattle.spec_core.specs.Order.{substitutions}
 use Rattle.ground_eval.proofs.GoalSides.{goal_verdict-unique}
 use Rattle.refuter.specs.Finds.{SpentRows}
-use Rattle.refuter.specs.Lists.{first_of}
 use Rattle.refuter.specs.Bounded.{rows_within}
 use Rattle.refuter.specs.After.{rows_after}
 use Rattle.refuter.specs.Moves.{GoesOn}
 use Rattle.refuter.proofs.Members.{members_are}
 use Rattle.refuter.proofs.Progress.{starts, moves, at_row, ends, whole, one_spent, none_spent, variables_are}
-use Rattle.refuter.proofs.Rows.{all_at, below_more}
+use Rattle.term_core.proofs.Items.{all_at}
+use Rattle.refuter.proofs.Rows.{below_more}
 use Rattle.refuter.proofs.searching.search.Goals as goal
 use Rattle.refuter.proofs.searching.search.Goals.{In_ok-sorts, After-as_slice-in-loop-more, In_ok-verdict, in-Spent, in-Holds, then-loop-more-test+else-tried-tries, else-loop-more-test}
 use Rattle.spec_core.proofs.Ranges.{sorts_in_range}
@@ -46,7 +46,7 @@ loop-more-init c =
     let sig = c.args.spec.now.sig in
     let ss = sorts_of c.args.goal.now.vars in
     let bound = 255 * c.len.result in
-    let goes : GoesOn c.new-row.result.items (first_of (rows_within sig c.args.depth ss bound)) c.push_first.new.row.items c.in_ok-more.more = subst (λ us. GoesOn c.new-row.result.items (first_of (rows_within sig c.args.depth us bound)) c.push_first.new.row.items c.in_ok-more.more) (c.as_slice-2.ensures ∙ sorts b) (subst (λ (g : Sig). GoesOn c.new-row.result.items (first_of (rows_within g c.args.depth c.as_slice-2.result.now bound)) c.push_first.new.row.items c.in_ok-more.more) c.in_ok-odometer.ensures c.in_ok-more.ensures) in
+    let goes : GoesOn c.new-row.result.items (slice_get (rows_within sig c.args.depth ss bound) 0) c.push_first.new.row.items c.in_ok-more.more = subst (λ us. GoesOn c.new-row.result.items (slice_get (rows_within sig c.args.depth us bound) 0) c.push_first.new.row.items c.in_ok-more.more) (c.as_slice-2.ensures ∙ sorts b) (subst (λ (g : Sig). GoesOn c.new-row.result.items (slice_get (rows_within g c.args.depth c.as_slice-2.result.now bound) 0) c.push_first.new.row.items c.in_ok-more.more) c.in_ok-odometer.ensures c.in_ok-more.ensures) in
     record {
       at = starts sig c.args.depth ss bound (substitutions c.args.spec.now c.args.goal.now c.args.depth) c.new-row.result.items c.push_first.new.row.items c.in_ok-more.more (whole sig c.args.depth ss bound bound_is) c.new-row.ensures.items goes;
       within = omega arith;
@@ -57,10 +57,10 @@ loop-more-init c =
     }
 
 at : (c : After-as_slice-in-loop-more) → slice_get (substitutions c.args.spec.now c.args.goal.now c.args.depth) c.loop-more.tried ≡ Some c.loop-more.row.items
-at c = (at_row c.args.spec.now.sig c.args.depth (sorts_of c.args.goal.now.vars) (255 * c.len.result) c.loop-more.tried (substitutions c.args.spec.now c.args.goal.now c.args.depth) c.loop-more.row.items c.loop-more.more c.loop-more-test.true c.loop-more.invariant.at).0
+at c = at_row c.args.spec.now.sig c.args.depth (sorts_of c.args.goal.now.vars) (255 * c.len.result) c.loop-more.tried (substitutions c.args.spec.now c.args.goal.now c.args.depth) c.loop-more.row.items c.loop-more.more c.loop-more-test.true c.loop-more.invariant.at
 
 are_values : (c : After-as_slice-in-loop-more) → AreValuesOf c.args.spec.now (sorts_of c.args.goal.now.vars) c.loop-more.row.items
-are_values c = all_at (AreValuesOf c.args.spec.now (sorts_of c.args.goal.now.vars)) (substitutions c.args.spec.now c.args.goal.now c.args.depth) c.loop-more.tried c.loop-more.row.items (members_are c.args.spec.now c.args.goal.now c.args.depth) (at c)
+are_values c = all_at (AreValuesOf c.args.spec.now (sorts_of c.args.goal.now.vars)) (substitutions c.args.spec.now c.args.goal.now c.args.depth) (members_are c.args.spec.now c.args.goal.now c.args.depth) c.loop-more.tried c.loop-more.row.items (at c)
 
 pub verdict-requires-clause-values : goal.verdict-requires-clause-values
 verdict-requires-clause-values c =
@@ -105,7 +105,7 @@ loop-more-preserved c =
     let rows = substitutions spec goal_is c.args.depth in
     let here = at b.After-as_slice-in-loop-more in
     let values = are_values b.After-as_slice-in-loop-more in
-    let goes : GoesOn [] (first_of (rows_after sig c.args.depth ss bound c.loop-more.row.items)) c.advance.new.row.items c.in_ok-more-2.more = subst (λ us. GoesOn [] (first_of (rows_after sig c.args.depth us bound c.loop-more.row.items)) c.advance.new.row.items c.in_ok-more-2.more) (c.as_slice-in-loop-more-2.ensures ∙ sorts b.In_ok-sorts) (subst (λ (g : Sig). GoesOn [] (first_of (rows_after g c.args.depth c.as_slice-in-loop-more-2.result.now bound c.loop-more.row.items)) c.advance.new.row.items c.in_ok-more-2.more) c.in_ok-odometer.ensures c.in_ok-more-2.ensures) in
+    let goes : GoesOn [] (slice_get (rows_after sig c.args.depth ss bound c.loop-more.row.items) 0) c.advance.new.row.items c.in_ok-more-2.more = subst (λ us. GoesOn [] (slice_get (rows_after sig c.args.depth us bound c.loop-more.row.items) 0) c.advance.new.row.items c.in_ok-more-2.more) (c.as_slice-in-loop-more-2.ensures ∙ sorts b.In_ok-sorts) (subst (λ (g : Sig). GoesOn [] (slice_get (rows_after g c.args.depth c.as_slice-in-loop-more-2.result.now bound c.loop-more.row.items) 0) c.advance.new.row.items c.in_ok-more-2.more) c.in_ok-odometer.ensures c.in_ok-more-2.ensures) in
     let past : c.loop-more.tried < length rows = slice_get_within rows c.loop-more.tried c.loop-more.row.items here in
     let next = moves sig c.args.depth ss bound c.loop-more.tried rows c.loop-more.row.items c.advance.new.row.items c.loop-more.more c.in_ok-more-2.more c.loop-more-test.true c.loop-more.invariant.at goes in
     elim c.match-branch-6.branch [

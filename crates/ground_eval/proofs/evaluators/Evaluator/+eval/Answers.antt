@@ -1,4 +1,4 @@
-use Rattle.std.proofs.Common.{◌≡◌, ◌<◌, ◌≤◌, ◌+◌, ◌-◌, ◌*◌, [], length, Some, None, refl, sym, ap, ◌∙◌, arith, subst}
+use Rattle.std.proofs.Common.{◌≡◌, ◌<◌, ◌≤◌, ◌+◌, ◌-◌, ◌*◌, ℕ, [], length, get_or, Some, None, refl, sym, ap, ◌∙◌, arith, subst}
 use Rattle.std.specs.Prelude.{slice_get, IfOk}
 use Rattle.std.proofs.Math.Nat.{mul-le-mul_right}
 use Rattle.std.proofs.lemmas.Option.{slice_get_within}
@@ -17,12 +17,13 @@ use Rattle.ground_eval.specs.Index.{numbers_of}
 use Rattle.ground_eval.specs.Choices.{IsMatched, IsChoice, Applies, Follows}
 use Rattle.ground_eval.specs.Room.{room, room_from}
 use Rattle.ground_eval.proofs.Entries.{entry_gives}
-use Rattle.ground_eval.proofs.Arguments.{all_none, all_first_spent, all_rest_spent, all_more, applications_none, applications_variable, applications_more, owned_are, gathered_give, app_built, call_ready, app_called, app_call_spent}
-use Rattle.ground_eval.proofs.Calls.{left_is_application, try_nothing, number_within, rule_at, rules_more, none_matches, matched_built, right_has_sort, test_sorted, matched_too, test_spent, none_follows, next_held, applies, group_value, group_spent}
+use Rattle.ground_eval.proofs.Arguments.{all_none, all_first_spent, all_rest_spent, all_more, applications_none, applications_variable, applications_more, AreGathered, owned_are, gathered_are, app_built, call_ready, app_called, app_call_spent}
+use Rattle.ground_eval.proofs.Calls.{left_is_application, try_nothing, number_within, IsRuleAt, rule_at, rules_more, none_matches, matched_built, right_has_sort, test_sorted, matched_too, test_spent, none_follows, next_held, applies, group_value, group_spent}
 use Rattle.ground_eval.proofs.Falls.{less_budget, use_falls, right_falls, right_below_room, test_falls, step_falls}
 use Rattle.ground_eval.proofs.Lists.{item_at}
 use Rattle.ground_eval.proofs.Same.{eval_same, match_some}
 use Rattle.ground_eval.proofs.evaluators.Evaluator.+eval.Goals as goal
+use Rattle.ground_eval.proofs.evaluators.Evaluator.+eval.Goals.{apply-In_ok-values-in-Some, call-After-index-rules-number, choose-In-Some, use_group-In-Some}
 use Rattle.term_core.proofs.Items.{if_ok_map}
 
 pub eval_in-returns-in_ok-copy-in-Var : goal.eval_in-returns-in_ok-copy-in-Var
@@ -102,16 +103,24 @@ apply-gather-requires t c =
     let o = owned_are spec env args c.args.budget c.new-owned.result c.eval_applications.new.values c.as_slice.result.now n c.new-owned.ensures c.as_slice.ensures r in
     o.fits
 
+-- the values of a call's arguments, gathered
+gathered_values : {t : ℕ} (c : apply-In_ok-values-in-Some t) → AreGathered c.args.self.now c.args.env.now c.args.args.now c.args.budget c.in_ok-values-in-Some.values c.in-Some.steps
+gathered_values c =
+    let spec = c.args.self.now in
+    let env = c.args.env.now in
+    let args = c.args.args.now in
+    let r = subst (λ o. IsEvalOfApplications spec env args c.args.budget c.new-owned.result c.eval_applications.new.values o) c.in-Some.is c.in_ok-eval_applications.ensures in
+    let o = owned_are spec env args c.args.budget c.new-owned.result c.eval_applications.new.values c.as_slice.result.now c.in-Some.steps c.new-owned.ensures c.as_slice.ensures r in
+    gathered_are spec env args c.args.budget c.as_slice.result.now c.in_ok-values-in-Some.values c.in-Some.steps c.in_ok-values-in-Some.ensures o
+
 pub apply-call-requires : goal.apply-call-requires
 apply-call-requires t c =
     let spec = c.args.self.now in
     let env = c.args.env.now in
     let args = c.args.args.now in
     let n = c.in-Some.steps in
-    let r = subst (λ o. IsEvalOfApplications spec env args c.args.budget c.new-owned.result c.eval_applications.new.values o) c.in-Some.is c.in_ok-eval_applications.ensures in
-    let o = owned_are spec env args c.args.budget c.new-owned.result c.eval_applications.new.values c.as_slice.result.now n c.new-owned.ensures c.as_slice.ensures r in
-    let g = gathered_give spec env args c.as_slice.result.now c.in_ok-values-in-Some.values n c.in_ok-values-in-Some.ensures o.gives in
-    let q = call_ready spec c.requires.fine c.args.sym.0 (instances env (trees_of args)) c.requires.sorted.0 c.requires.sorted.1 g in
+    let g = gathered_values (goal.at.apply-call-requires t c).In_ok-values-in-Some in
+    let q = call_ready spec c.requires.fine c.args.sym.0 (instances env (trees_of args)) c.requires.sorted.0 c.requires.sorted.1 g.gives in
     let f = less_budget c.args.budget n (room spec.rules) in
     (omega arith, (c.requires.fine, (c.requires.function, (q.0, (c.requires.sorted.0, q.1)))))
 
@@ -121,10 +130,8 @@ apply-returns-in-Spent t c =
     let env = c.args.env.now in
     let args = c.args.args.now in
     let n = c.in-Some.steps in
-    let r = subst (λ o. IsEvalOfApplications spec env args c.args.budget c.new-owned.result c.eval_applications.new.values o) c.in-Some.is c.in_ok-eval_applications.ensures in
-    let o = owned_are spec env args c.args.budget c.new-owned.result c.eval_applications.new.values c.as_slice.result.now n c.new-owned.ensures c.as_slice.ensures r in
-    let g = gathered_give spec env args c.as_slice.result.now c.in_ok-values-in-Some.values n c.in_ok-values-in-Some.ensures o.gives in
-    app_call_spent spec c.requires.fine c.args.sym.0 (instances env (trees_of args)) c.args.budget c.requires.sorted.0 c.requires.function c.requires.sorted.1 g o.within (eval_same spec _ _ (c.args.budget - n) _ Spent refl c.in-Spent.is c.in_ok-call-in-Some.ensures)
+    let g = gathered_values (goal.at.apply-returns-in-Spent t c).In_ok-values-in-Some in
+    app_call_spent spec c.requires.fine c.args.sym.0 (instances env (trees_of args)) c.args.budget c.requires.sorted.0 c.requires.function c.requires.sorted.1 g.gives g.within (eval_same spec _ _ (c.args.budget - n) _ Spent refl c.in-Spent.is c.in_ok-call-in-Some.ensures)
 
 pub apply-returns : goal.apply-returns
 apply-returns t c =
@@ -132,10 +139,8 @@ apply-returns t c =
     let env = c.args.env.now in
     let args = c.args.args.now in
     let n = c.in-Some.steps in
-    let r = subst (λ o. IsEvalOfApplications spec env args c.args.budget c.new-owned.result c.eval_applications.new.values o) c.in-Some.is c.in_ok-eval_applications.ensures in
-    let o = owned_are spec env args c.args.budget c.new-owned.result c.eval_applications.new.values c.as_slice.result.now n c.new-owned.ensures c.as_slice.ensures r in
-    let g = gathered_give spec env args c.as_slice.result.now c.in_ok-values-in-Some.values n c.in_ok-values-in-Some.ensures o.gives in
-    app_called spec c.requires.fine c.args.sym.0 (instances env (trees_of args)) c.args.budget c.in-Value.more c.in-Value.value c.requires.sorted.0 c.requires.function c.requires.sorted.1 g o.within (eval_same spec _ _ (c.args.budget - n) _ (Value c.in-Value.value c.in-Value.more) refl c.in-Value.is c.in_ok-call-in-Some.ensures)
+    let g = gathered_values (goal.at.apply-returns t c).In_ok-values-in-Some in
+    app_called spec c.requires.fine c.args.sym.0 (instances env (trees_of args)) c.args.budget c.in-Value.more c.in-Value.value c.requires.sorted.0 c.requires.function c.requires.sorted.1 g.gives g.within (eval_same spec _ _ (c.args.budget - n) _ (Value c.in-Value.value c.in-Value.more) refl c.in-Value.is c.in_ok-call-in-Some.ensures)
 
 pub call-bounds-rules-number : goal.call-bounds-rules-number
 call-bounds-rules-number t c = number_within c.args.sym.0 c.args.self.now.rules c.rules-rules.result.now c.rules_of-number-items.result.now c.loop-number.number-index c.rules-rules.ensures c.rules_of-number-items.ensures c.loop-number-test.true
@@ -148,18 +153,22 @@ call-offset_bounds-rules-number t c =
 pub call-returns-then-budget-eq0 : goal.call-returns-then-budget-eq0
 call-returns-then-budget-eq0 t c = try_nothing c.args.self.now c.requires.fine c.args.sym.0 (trees_of c.args.args.now) c.args.budget c.requires.function c.if-budget-eq0.true
 
+-- the rule at which the walk over the function's rules is
+walked : {t : ℕ} (c : call-After-index-rules-number t) → IsRuleAt c.args.sym.0 c.args.self.now.rules c.loop-number.number-index (get_or c.rules_of-number-items.result.now c.loop-number.number-index 0) c.index-rules-number.result
+walked c = rule_at c.args.sym.0 c.args.self.now.rules c.rules-rules.result.now c.rules_of-number-items.result.now c.loop-number.number-index c.rules-rules.ensures c.rules_of-number-items.ensures c.loop-number-test.true c.index-rules-number.result c.index-rules-number.is
+
 pub call-match_left-requires-clause-numbered : goal.call-match_left-requires-clause-numbered
 call-match_left-requires-clause-numbered t c =
     let spec = c.args.self.now in
     let rule = c.index-rules-number.result in
-    let r = rule_at c.args.sym.0 spec.rules c.rules-rules.result.now c.rules_of-number-items.result.now c.loop-number.number-index c.rules-rules.ensures c.rules_of-number-items.ensures c.loop-number-test.true rule c.index-rules-number.is in
+    let r = walked (goal.at.call-match_left-requires-clause-numbered t c).After-index-rules-number in
     (_, (c.requires.fine.rules _ rule r.there).numbered)
 
 pub call-match_left-requires-clause-called : goal.call-match_left-requires-clause-called
 call-match_left-requires-clause-called t c =
     let spec = c.args.self.now in
     let rule = c.index-rules-number.result in
-    let r = rule_at c.args.sym.0 spec.rules c.rules-rules.result.now c.rules_of-number-items.result.now c.loop-number.number-index c.rules-rules.ensures c.rules_of-number-items.ensures c.loop-number-test.true rule c.index-rules-number.is in
+    let r = walked (goal.at.call-match_left-requires-clause-called t c).After-index-rules-number in
     left_is_application spec.sig rule.left (c.requires.fine.rules _ rule r.there).left
 
 pub call-loop-number-preserved : goal.call-loop-number-preserved
@@ -167,7 +176,7 @@ call-loop-number-preserved t c =
     let spec = c.args.self.now in
     let rule = c.index-rules-number.result in
     let args = c.args.args.now in
-    let r = rule_at c.args.sym.0 spec.rules c.rules-rules.result.now c.rules_of-number-items.result.now c.loop-number.number-index c.rules-rules.ensures c.rules_of-number-items.ensures c.loop-number-test.true rule c.index-rules-number.is in
+    let r = walked (goal.at.call-loop-number-preserved t c).After-index-rules-number in
     let none = subst (λ o. IsMatch rule.left (call_of rule.left args) o) c.in-None.is c.in_ok-match_left.ensures in
     rules_more (λ (x : Rule). IsMatch x.left (application c.args.sym.0 args) None) c.args.sym.0 spec.rules c.loop-number.number-index _ rule r c.loop-number.invariant (subst (λ f. IsMatch rule.left (application f args) None) r.function none)
 
@@ -176,7 +185,7 @@ call-use_group-requires t c =
     let spec = c.args.self.now in
     let rule = c.index-rules-number.result in
     let args = c.args.args.now in
-    let r = rule_at c.args.sym.0 spec.rules c.rules-rules.result.now c.rules_of-number-items.result.now c.loop-number.number-index c.rules-rules.ensures c.rules_of-number-items.ensures c.loop-number-test.true rule c.index-rules-number.is in
+    let r = walked (goal.at.call-use_group-requires t c).After-index-rules-number in
     let m = match_some rule.left (call_of rule.left args) c.in_ok-match_left.field-0 c.in-Some.env c.in-Some.is c.in_ok-match_left.ensures in
     let matched : IsMatched spec rule c.in-Some.env = record {
       number = _;
@@ -196,7 +205,7 @@ call-returns-in-Some t c =
     let spec = c.args.self.now in
     let rule = c.index-rules-number.result in
     let args = c.args.args.now in
-    let r = rule_at c.args.sym.0 spec.rules c.rules-rules.result.now c.rules_of-number-items.result.now c.loop-number.number-index c.rules-rules.ensures c.rules_of-number-items.ensures c.loop-number-test.true rule c.index-rules-number.is in
+    let r = walked (goal.at.call-returns-in-Some t c).After-index-rules-number in
     let m = match_some rule.left (call_of rule.left args) c.in_ok-match_left.field-0 c.in-Some.env c.in-Some.is c.in_ok-match_left.ensures in
     subst (λ x. IfOk c.use_group.result (IsEval spec x c.args.budget)) (m.1 ∙ ap (λ f. application f args) r.function) c.use_group.ensures
 
@@ -213,13 +222,17 @@ use_group-choose-requires t c =
     let f = use_falls c.args.budget r (room_from 0 c.args.self.now.rules) c.requires.some (omega arith) in
     (omega arith, (c.requires.fine, (c.requires.matched, ((0, no_guards, refl), omega arith))))
 
+-- the rule that was chosen applies
+applied : {t : ℕ} (c : use_group-In-Some t) → Applies c.args.self.now c.args.first.now.left c.args.env.now c.args.budget c.in-Some.rule.now c.in-Some.spent
+applied c = subst (λ o. IsChoice c.args.self.now c.args.first.now.left c.args.env.now c.args.budget o) c.in-Some.is c.in_ok-choose.ensures
+
 pub use_group-eval_in-requires : goal.use_group-eval_in-requires
 use_group-eval_in-requires t c =
     let spec = c.args.self.now in
     let first = c.args.first.now in
     let env = c.args.env.now in
     let rule = c.in-Some.rule.now in
-    let a : Applies spec first.left env c.args.budget rule c.in-Some.spent = subst (λ o. IsChoice spec first.left env c.args.budget o) c.in-Some.is c.in_ok-choose.ensures in
+    let a = applied (goal.at.use_group-eval_in-requires t c).In-Some in
     let m = matched_too spec c.requires.fine first env c.requires.matched rule a.number a.listed a.left_is in
     let w = right_below_room spec.rules a.number rule a.listed in
     let f = right_falls c.args.budget c.in-Some.spent (room spec.rules) (2 * weight rule.right + 1) (omega (arith, a.cost)) a.within w in
@@ -231,7 +244,7 @@ use_group-returns-in-Spent t c =
     let first = c.args.first.now in
     let env = c.args.env.now in
     let rule = c.in-Some.rule.now in
-    let a : Applies spec first.left env c.args.budget rule c.in-Some.spent = subst (λ o. IsChoice spec first.left env c.args.budget o) c.in-Some.is c.in_ok-choose.ensures in
+    let a = applied (goal.at.use_group-returns-in-Spent t c).In-Some in
     let one = eval_same spec _ _ (c.args.budget - c.in-Some.spent) _ Spent refl c.in-Spent.is c.in_ok-eval_in-in-Some.ensures in
     group_spent spec c.requires.fine first env c.requires.matched rule c.args.budget c.in-Some.spent a one
 
@@ -241,9 +254,13 @@ use_group-returns-in-Value t c =
     let first = c.args.first.now in
     let env = c.args.env.now in
     let rule = c.in-Some.rule.now in
-    let a : Applies spec first.left env c.args.budget rule c.in-Some.spent = subst (λ o. IsChoice spec first.left env c.args.budget o) c.in-Some.is c.in_ok-choose.ensures in
+    let a = applied (goal.at.use_group-returns-in-Value t c).In-Some in
     let one = eval_same spec _ _ (c.args.budget - c.in-Some.spent) _ (Value c.in-Value.value c.in-Value.steps) refl c.in-Value.is c.in_ok-eval_in-in-Some.ensures in
     group_value spec c.requires.fine first env c.requires.matched rule c.args.budget c.in-Some.spent a c.in-Value.steps c.in-Value.value one
+
+-- the guard whose test is evaluated next
+next_test : {t : ℕ} (c : choose-In-Some t) → slice_get c.args.rule.now.guards c.args.asked ≡ Some c.in-Some.guard.now
+next_test c = item_at c.as_slice.result.now c.args.rule.now.guards c.args.asked c.in-Some.guard.now c.as_slice.ensures c.in-Some.ensures.lookup.3.0 c.in-Some.ensures.lookup.1
 
 pub choose-eval_in-requires : goal.choose-eval_in-requires
 choose-eval_in-requires t c =
@@ -251,7 +268,7 @@ choose-eval_in-requires t c =
     let rule = c.args.rule.now in
     let env = c.args.env.now in
     let m = c.requires.matched in
-    let at : slice_get rule.guards c.args.asked ≡ Some c.in-Some.guard.now = item_at c.as_slice.result.now rule.guards c.args.asked c.in-Some.guard.now c.as_slice.ensures c.in-Some.ensures.lookup.3.0 c.in-Some.ensures.lookup.1 in
+    let at = next_test (goal.at.choose-eval_in-requires t c).In-Some in
     let f = test_falls spec.rules m.number rule m.listed c.args.asked c.in-Some.guard.now at ((c.args.budget - c.args.spent) * room spec.rules) in
     (omega arith, (c.requires.fine, (matched_built spec c.requires.fine rule env m, (bool_sort, test_sorted spec c.requires.fine rule env m c.args.asked c.in-Some.guard.now at))))
 
@@ -266,7 +283,7 @@ choose-returns-in-Spent t c =
     let spec = c.args.self.now in
     let rule = c.args.rule.now in
     let env = c.args.env.now in
-    let at : slice_get rule.guards c.args.asked ≡ Some c.in-Some.guard.now = item_at c.as_slice.result.now rule.guards c.args.asked c.in-Some.guard.now c.as_slice.ensures c.in-Some.ensures.lookup.3.0 c.in-Some.ensures.lookup.1 in
+    let at = next_test (goal.at.choose-returns-in-Spent t c).In-Some in
     test_spent spec c.requires.fine rule env c.requires.matched c.args.asked c.in-Some.guard.now at c.args.spent c.requires.held c.args.budget (eval_same spec _ _ (c.args.budget - c.args.spent) _ Spent refl c.in-Spent.is c.in_ok-eval_in-in-Some.ensures)
 
 pub choose-returns-in-None-follow : goal.choose-returns-in-None-follow
@@ -274,7 +291,7 @@ choose-returns-in-None-follow t c =
     let spec = c.args.self.now in
     let rule = c.args.rule.now in
     let env = c.args.env.now in
-    let at : slice_get rule.guards c.args.asked ≡ Some c.in-Some.guard.now = item_at c.as_slice.result.now rule.guards c.args.asked c.in-Some.guard.now c.as_slice.ensures c.in-Some.ensures.lookup.3.0 c.in-Some.ensures.lookup.1 in
+    let at = next_test (goal.at.choose-returns-in-None-follow t c).In-Some in
     let one = eval_same spec _ _ (c.args.budget - c.args.spent) _ (Value c.in-Value.value c.in-Value.steps) refl c.in-Value.is c.in_ok-eval_in-in-Some.ensures in
     none_follows spec c.requires.fine rule env c.requires.matched c.args.asked c.in-Some.guard.now at c.args.spent c.requires.held c.args.budget c.in-Value.value c.in-Value.steps _ one c.in-None-follow.ensures
 
@@ -287,7 +304,7 @@ choose-choose-requires t c =
     let guard = c.in-Some.guard.now in
     let next = c.in-Some-follow.next.now in
     let r = room spec.rules in
-    let at : slice_get rule.guards c.args.asked ≡ Some c.in-Some.guard.now = item_at c.as_slice.result.now rule.guards c.args.asked c.in-Some.guard.now c.as_slice.ensures c.in-Some.ensures.lookup.3.0 c.in-Some.ensures.lookup.1 in
+    let at = next_test (goal.at.choose-choose-requires t c).In-Some in
     let one = eval_same spec _ _ (c.args.budget - c.args.spent) _ (Value c.in-Value.value c.in-Value.steps) refl c.in-Value.is c.in_ok-eval_in-in-Some.ensures in
     let follows : Follows spec rule c.args.asked c.in-Value.value next = c.in-Some-follow.ensures in
     let held = next_held spec c.requires.fine rule env m c.args.asked guard at c.args.spent c.requires.held c.args.budget c.in-Value.value c.in-Value.steps _ one next follows in

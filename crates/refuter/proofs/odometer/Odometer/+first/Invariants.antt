@@ -1,5 +1,5 @@
 use Rattle.std.proofs.Common.{◌≡◌, ◌+◌, ◌*◌, length}
-use Rattle.refuter.specs.Lists.{first_of}
+use Rattle.std.specs.Prelude.{slice_get}
 use Rattle.refuter.specs.After.{made_from}
 use Rattle.refuter.proofs.odometer.Odometer.+first.Given as goal
 
@@ -13,4 +13,4 @@ abbrev pub decreases-first_made : goal.decreases-first_made
 decreases-first_made l = 10 * l.depth + 10
 
 abbrev pub invariant-first_made-loop-number : goal.invariant-first_made-loop-number
-invariant-first_made-loop-number l = first_of (made_from l.self l.depth l.sort l.bound l.number) ≡ first_of (made_from l.self l.depth l.sort l.bound l.from)
+invariant-first_made-loop-number l = slice_get (made_from l.self l.depth l.sort l.bound l.number) 0 ≡ slice_get (made_from l.self l.depth l.sort l.bound l.from) 0
