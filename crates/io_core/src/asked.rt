@@ -9,6 +9,5 @@ pub(crate) fn add_name(alloc: Global, asked: &mut Seq<Name>, name: &str) -> Resu
     ensures added { OnOk result (AddsName asked.old asked.new name.now) }
     ensures kept { OnErr result (asked.new ≡ asked.old) }
 {
-    let bytes = Vec::from_slice(alloc, name.as_bytes())?;
-    asked.push(Name::from_bytes(bytes))
+    asked.push(Name::of(alloc, name.as_bytes())?)
 }

@@ -25,8 +25,7 @@ use Rattle.spike_cli.specs.declared.claims.Outcome.TheVariants.{Refuted, Open}
 use Rattle.spike_cli.specs.declared.statuses.Status.{Status}
 use Rattle.spike_cli.specs.declared.statuses.Status.TheVariants as status
 use Rattle.spike_cli.specs.declared.bounds.SearchBounds.{SearchBounds}
-use Rattle.spike_cli.specs.Numbers.{named}
-use Rattle.spike_cli.specs.Claims.{outcome_of, IsClaimOn, AreFirstClaims, AreClaims, IsRefutable, SomeIsRefutable, IsStatusOfGoals, IsRefuted, SomeIsRefuted, IsStatusOfClaims}
+use Rattle.spike_cli.specs.Claims.{outcome_of, IsClaimOn, AreFirstClaims, AreClaims, IsRefutable, SomeIsRefutable, IsStatusOfGoals, IsRefuted, SomeIsRefuted, IsStatusOfClaims, named}
 use Rattle.spike_cli.specs.Ranges.{ArePrintable, IsPrintable}
 use Rattle.spike_cli.specs.Stops.{joined}
 

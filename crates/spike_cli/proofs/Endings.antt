@@ -20,7 +20,8 @@ use Rattle.spike_cli.specs.Refusals.{IsRefusalOf}
 use Rattle.spike_cli.specs.Tellings.{Tells, IsLineOf}
 use Rattle.spike_cli.specs.declared.refusals.Refusal.{Refusal}
 use Rattle.spike_cli.specs.declared.refusals.Refusal.TheVariants.{Line, OutOfMemory as NoMemory}
-use Rattle.spike_cli.specs.Runs.{IsEnd, MayWriteOn, MayWriteFor, refusal, on_spec, Ended, RefusedBytes, AreBytesOf, ReadsFile, MayWrite, for_file, Means, file_limit}
+use Rattle.spike_cli.specs.Runs.{IsEnd, MayWriteOn, MayWriteFor, refusal, on_spec, Ended, RefusedBytes, AreBytesOf, ReadsFile, MayWrite, for_file, Means}
+use Rattle.spec_grammar.specs.declared.limits.TheConstants.{MAX_FILE_BYTES}
 use Rattle.spike_cli.specs.Stops.{Stopped, Refuses, MeansFor, status_ended, status_of_stop}
 
 -- a part of a text of one kind is one of another kind
@@ -121,7 +122,7 @@ module _ (words : List (List ℕ)) (held : List ℕ → Option (List ℕ)) (read
   line_means s result line may done wrote ok err failed e = line_ends (Means words held reads reads' old new writes writes') (MayWrite words held) old new writes writes' (λ r p. (r, p)) (λ p. p) s result line may done wrote ok err failed e
 
   -- what was done on the bytes of the file that the words name
-  module _ (task : Task) (file bytes : List ℕ) (asks : Asks words file task) (read : AreBytesOf (held file) bytes) (within : length bytes ≤ file_limit) where
+  module _ (task : Task) (file bytes : List ℕ) (asks : Asks words file task) (read : AreBytesOf (held file) bytes) (within : length bytes ≤ MAX_FILE_BYTES) where
     with_file : (Holds : Task → List ℕ → Type 0) → Holds task bytes → ReadsFile words held Holds
     with_file Holds h = record { file = file; task = task; asked = asks; bytes = bytes; read = read; within = within; holds = h }
 

@@ -15,7 +15,7 @@ use Rattle.spike_cli.specs.Parts.{AppendsPartOf}
 use Rattle.io_core.specs.declared.faults.WriteError.{WriteError}
 use Rattle.io_core.specs.declared.faults.WriteError.TheVariants as write
 use Rattle.spike_cli.specs.Stops.{Stopped, stop_of}
-use Rattle.spike_cli.specs.Texts.{claim_text, header_text, begun_text}
+use Rattle.spike_cli.specs.ReportTexts.{claim_text, header_text, begun_text}
 use Rattle.io_core.proofs.Pieces.{Appended-append, AppendedPrefix-append}
 use Rattle.io_core.proofs.Counts.{Rose-after}
 

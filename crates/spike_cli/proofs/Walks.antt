@@ -3,7 +3,7 @@ use Rattle.std.proofs.Common.{◌≡◌, ◌≤◌, ◌<◌, ℕ, List, [], ◌�
 use Rattle.std.specs.Prelude.{map}
 use Rattle.term_core.specs.Tree.{Tree}
 use Rattle.spec_core.specs.declared.records.VarInfo.{VarInfo}
-use Rattle.spike_cli.specs.Numbers.{named}
+use Rattle.spike_cli.specs.Claims.{named}
 
 -- a list of two items through a view
 pub two_viewed : {X : Type 0} (view : X → List ℕ) (xs : List X) (a b : X) → 2 ≤ length xs → length xs < 3 → a ≡ get_or xs 0 a → b ≡ get_or xs 1 b → map view xs ≡ view a ∷ view b ∷ []

@@ -1,5 +1,5 @@
 -- What the evaluation of a term writes.
-use Rattle.std.specs.Prelude.{ℕ, ◌≤◌, List, [], ◌++◌, codes, cond, nat_le}
+use Rattle.std.specs.Prelude.{ℕ, ◌≤◌, List, [], ◌++◌, codes, if◌then◌else◌, nat_le}
 use Rattle.std.specs.Fmt.{decimal}
 use Rattle.term_core.specs.Tree.{Tree, tree_size}
 use Rattle.spec_core.specs.declared.records.Spec.{Spec}
@@ -10,29 +10,36 @@ use Rattle.spec_core.specs.Overlap.{NoOverlap}
 use Rattle.spec_core.specs.Groups.{GroupsAreWhole}
 use Rattle.spike_cli.specs.declared.statuses.Status.{Status}
 use Rattle.spike_cli.specs.declared.statuses.Status.TheVariants.{Done, Open, Refused}
-use Rattle.spike_cli.specs.Numbers.{most_symbols}
+use Rattle.spike_cli.specs.declared.evaluating.TheConstants.{MAX_SYMBOLS}
 use Rattle.spike_cli.specs.Meanings.{TermTextStandsFor}
 use Rattle.spike_cli.specs.Refusals.{IsTermRefusal}
 
--- the value's text, or `large` where it has more than the most symbols
+-- the value's text, or `large` where it has too many symbols
 abbrev pub value_text : Sig → Tree → List ℕ
-value_text sig v = cond (nat_le (tree_size v) most_symbols) (term_text sig [] v) (codes "large")
+value_text sig v =
+    if nat_le (tree_size v) MAX_SYMBOLS then term_text sig [] v else codes "large"
 
 -- `value V` and `steps N`
 abbrev pub value_lines : Sig → Tree → ℕ → List ℕ
-value_lines sig v n = codes "value " ++ value_text sig v ++ codes "\nsteps " ++ decimal n ++ codes "\n"
+value_lines sig v n =
+    codes "value " ++ value_text sig v ++ codes "\nsteps " ++ decimal n ++ codes "\n"
 
 -- `spent B`
 abbrev pub spent_line : ℕ → List ℕ
 spent_line steps = codes "spent " ++ decimal steps ++ codes "\n"
 
--- where left sides don't overlap and groups are whole, the term has no value at a cost of at most these steps
+-- where left sides don't overlap and groups are whole, the term has no value at a cost of at most
+-- these steps
 abbrev pub HasNoValueWithin : Spec → Tree → ℕ → Type 0
-HasNoValueWithin spec t steps = NoOverlap spec → GroupsAreWhole spec → (v : Tree) (n : ℕ) → Gives spec t v n → n ≤ steps → ⊥
+HasNoValueWithin spec t steps = NoOverlap spec → GroupsAreWhole spec
+    → (v : Tree) (n : ℕ) → Gives spec t v n → n ≤ steps → ⊥
 
--- what is written for the bytes of a term, and the status: its value and the cost within the steps; that there is none;
--- or the line of its first fault
+-- what is written for the bytes of a term, and the status: its value and the cost within the steps;
+-- that there is none; or the line of its first fault
 pub data IsEvaluation (spec : Spec) (bytes : List ℕ) (steps : ℕ) : List ℕ → Status → Type 0 where
-  valued : (t v : Tree) (n : ℕ) → TermTextStandsFor spec.sig bytes t → Gives spec t v n → n ≤ steps → IsEvaluation spec bytes steps (value_lines spec.sig v n) Done
-  spent : (t : Tree) → TermTextStandsFor spec.sig bytes t → HasNoValueWithin spec t steps → IsEvaluation spec bytes steps (spent_line steps) Open
-  refused : {line : List ℕ} → IsTermRefusal spec.sig bytes line → IsEvaluation spec bytes steps line Refused
+  valued : (t v : Tree) (n : ℕ) → TermTextStandsFor spec.sig bytes t → Gives spec t v n → n ≤ steps
+      → IsEvaluation spec bytes steps (value_lines spec.sig v n) Done
+  spent : (t : Tree) → TermTextStandsFor spec.sig bytes t → HasNoValueWithin spec t steps
+      → IsEvaluation spec bytes steps (spent_line steps) Open
+  refused : {line : List ℕ} → IsTermRefusal spec.sig bytes line
+      → IsEvaluation spec bytes steps line Refused

@@ -3,7 +3,7 @@ pub mod Numbers
 pub mod Options
 pub mod Words
 pub mod Claims
-pub mod Texts
+pub mod ReportTexts
 pub mod Meanings
 pub mod Refusals
 pub mod Reports

@@ -1,5 +1,5 @@
 -- What texts stand for.
-use Rattle.std.specs.Prelude.{ℕ, List, []}
+use Rattle.std.specs.Prelude.{ℕ, List}
 use Rattle.term_core.specs.Tree.{Tree}
 use Rattle.spec_core.specs.declared.records.Spec.{Spec}
 use Rattle.spec_core.specs.Sig.{Sig}
@@ -7,14 +7,14 @@ use Rattle.spec_grammar.specs.Derives.{TextDerives}
 use Rattle.spec_grammar.specs.Grammar.{IsSpecText, IsTermText}
 use Rattle.spec_grammar.specs.RawTree.{RawTree}
 use Rattle.spec_grammar.specs.declared.raw.RawSpec.{RawSpec}
-use Rattle.sort_check.specs.FirstFault.{HasNoFault, TermHasNoFault}
-use Rattle.sort_check.specs.StandsFor.{StandsFor}
-use Rattle.sort_check.specs.Terms.{TermStands}
+use Rattle.sort_check.specs.StandsFor.{StandsFor, TermStandsFor}
 
--- the text derives a raw specification that has no fault and stands for this one
+-- the text derives a raw specification that stands for this one
 abbrev pub TextStandsFor : List ℕ → Spec → Type 0
-TextStandsFor bytes spec = (raw : RawSpec) × TextDerives IsSpecText bytes raw × HasNoFault raw × StandsFor raw spec
+TextStandsFor bytes spec =
+    (raw : RawSpec) × TextDerives IsSpecText bytes raw × StandsFor raw spec
 
--- the text derives a raw term that has no fault over the signature and stands for this one, without variables
+-- the text derives a raw term that stands over the signature for this one, without variables
 abbrev pub TermTextStandsFor : Sig → List ℕ → Tree → Type 0
-TermTextStandsFor sig bytes t = (raw : RawTree) × TextDerives IsTermText bytes raw × TermHasNoFault sig raw × TermStands sig [] raw t
+TermTextStandsFor sig bytes t =
+    (raw : RawTree) × TextDerives IsTermText bytes raw × TermStandsFor sig raw t

@@ -7,16 +7,23 @@ use Rattle.spec_core.specs.Declarations.{IsDeclared}
 use Rattle.spike_cli.specs.Meanings.{TextStandsFor, TermTextStandsFor}
 use Rattle.spike_cli.specs.Refusals.{IsRefusalOf, IsTermRefusal}
 
--- over a declared signature a term's text stands for one term at most, and none where it has a line of refusal; it has
--- one such line at most
+-- over a declared signature a term's text stands for one term at most, and none where it has a line
+-- of refusal; it has one such line at most
 pub record OneTermEnding : Type 0 where
-  pub one_term : (sig : Sig) (bytes : List ℕ) (t other : Tree) → IsDeclared sig → TermTextStandsFor sig bytes t → TermTextStandsFor sig bytes other → t ≡ other
-  pub no_refusal : (sig : Sig) (bytes line : List ℕ) (t : Tree) → TermTextStandsFor sig bytes t → IsTermRefusal sig bytes line → ⊥
-  pub one_refusal : (sig : Sig) (bytes line other : List ℕ) → IsTermRefusal sig bytes line → IsTermRefusal sig bytes other → line ≡ other
+  pub one_term : (sig : Sig) (bytes : List ℕ) (t other : Tree) → IsDeclared sig
+      → TermTextStandsFor sig bytes t → TermTextStandsFor sig bytes other → t ≡ other
+  pub no_refusal : (sig : Sig) (bytes line : List ℕ) (t : Tree)
+      → TermTextStandsFor sig bytes t → IsTermRefusal sig bytes line → ⊥
+  pub one_refusal : (sig : Sig) (bytes line other : List ℕ)
+      → IsTermRefusal sig bytes line → IsTermRefusal sig bytes other → line ≡ other
 
--- a text stands for one specification at most, and none where it has a line of refusal; it has one such line at most
+-- a text stands for one specification at most, and none where it has a line of refusal; it has one
+-- such line at most
 pub record OneEnding : Type 0 where
-  pub one_specification : (bytes : List ℕ) (spec other : Spec) → TextStandsFor bytes spec → TextStandsFor bytes other → spec ≡ other
-  pub no_refusal : (bytes line : List ℕ) (spec : Spec) → TextStandsFor bytes spec → IsRefusalOf bytes line → ⊥
-  pub one_refusal : (bytes line other : List ℕ) → IsRefusalOf bytes line → IsRefusalOf bytes other → line ≡ other
+  pub one_specification : (bytes : List ℕ) (spec other : Spec)
+      → TextStandsFor bytes spec → TextStandsFor bytes other → spec ≡ other
+  pub no_refusal : (bytes line : List ℕ) (spec : Spec)
+      → TextStandsFor bytes spec → IsRefusalOf bytes line → ⊥
+  pub one_refusal : (bytes line other : List ℕ)
+      → IsRefusalOf bytes line → IsRefusalOf bytes other → line ≡ other
   pub terms : OneTermEnding

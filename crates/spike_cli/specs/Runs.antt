@@ -5,6 +5,7 @@ use Rattle.io_core.specs.Count.{Rose}
 use Rattle.io_core.specs.Piece.{Appended}
 use Rattle.spike_cli.specs.declared.statuses.Status.{Status}
 use Rattle.spike_cli.specs.declared.statuses.Status.TheVariants.{Done, Refuted, Open, Refused, No, ReadFault, WriteFault, Usage, OutOfMemory}
+use Rattle.spec_grammar.specs.declared.limits.TheConstants.{MAX_FILE_BYTES}
 use Rattle.spike_cli.specs.Parts.{AppendsPartOf}
 use Rattle.spike_cli.specs.Words.{Task, refuting, evaluating, Asks, AskNothing}
 use Rattle.spike_cli.specs.Meanings.{TextStandsFor}
@@ -12,10 +13,7 @@ use Rattle.spike_cli.specs.Refusals.{too_long_line, IsRefusalOf}
 use Rattle.spike_cli.specs.Reports.{BeginsReport, IsReport}
 use Rattle.spike_cli.specs.Evaluations.{IsEvaluation}
 
--- the most bytes of a specification
-abbrev pub file_limit : ℕ
-file_limit = 1048576
-
+-- the line for words that are no command
 abbrev pub usage_line : List ℕ
 usage_line = codes "usage: spike check|eval|prove|refute|replay|load\n"
 
@@ -24,16 +22,19 @@ abbrev pub IsEnd : Task → Spec → List ℕ → Status → Type 0
 IsEnd (refuting bounds) spec text status = IsReport bounds spec text status
 IsEnd (evaluating term steps) spec text status = IsEvaluation spec term steps text status
 
--- a text that a task may write on a specification: what a report begins with, or the whole text of an evaluation
+-- a text that a task may write on a specification: what a report begins with, or the whole text of
+-- an evaluation
 abbrev pub MayWriteOn : Task → Spec → List ℕ → Type 0
 MayWriteOn (refuting bounds) spec text = BeginsReport bounds spec text
-MayWriteOn (evaluating term steps) spec text = (status : Status) × IsEvaluation spec term steps text status
+MayWriteOn (evaluating term steps) spec text =
+    (status : Status) × IsEvaluation spec term steps text status
 
 module _ (task : Task) (bytes : List ℕ) where
   -- a text that a task may write for the bytes of a file
   pub data MayWriteFor : List ℕ → Type 0 where
     refusal : {line : List ℕ} → IsRefusalOf bytes line → MayWriteFor line
-    on_spec : (spec : Spec) {text : List ℕ} → TextStandsFor bytes spec → MayWriteOn task spec text → MayWriteFor text
+    on_spec : (spec : Spec) {text : List ℕ}
+        → TextStandsFor bytes spec → MayWriteOn task spec text → MayWriteFor text
 
   module _ (old new : Option (List ℕ)) where
     -- the task's whole text on the bytes' specification was appended, with this status
@@ -44,51 +45,66 @@ module _ (task : Task) (bytes : List ℕ) where
       pub is_end : IsEnd task spec text status
       pub appended : Appended old new text
 
-    -- the line for bytes that stand for no specification was appended, or the one that the task writes
+    -- the line for bytes that stand for no specification was appended, or the one that the task
+    -- writes
     abbrev pub RefusedBytes : Type 0
-    RefusedBytes = ((line : List ℕ) × IsRefusalOf bytes line × Appended old new line) ⊎ Ended Refused
+    RefusedBytes =
+        ((line : List ℕ) × IsRefusalOf bytes line × Appended old new line) ⊎ Ended Refused
 
 -- the bytes are those of the file, where the store tells them
 abbrev pub AreBytesOf : Option (List ℕ) → List ℕ → Type 0
 AreBytesOf held bytes = IfSome held (λ told. bytes ≡ told)
 
 module _ (words : List (List ℕ)) (held : List ℕ → Option (List ℕ)) where
-  -- the words ask for a task on a file of at most the limit's bytes, and this is so of the task and the bytes
+  -- the words ask for a task on a file of at most the limit's bytes, and this is so of the task and
+  -- the bytes
   pub record ReadsFile (Holds : Task → List ℕ → Type 0) : Type 0 where
     pub file : List ℕ
     pub task : Task
     pub asked : Asks words file task
     pub bytes : List ℕ
     pub read : AreBytesOf (held file) bytes
-    pub within : length bytes ≤ file_limit
+    pub within : length bytes ≤ MAX_FILE_BYTES
     pub holds : Holds task bytes
 
   -- the words ask for a file that has more bytes, where the store tells them
   abbrev pub IsTooLong : Type 0
-  IsTooLong = (file : List ℕ) × (task : Task) × Asks words file task × IfSome (held file) (λ told. file_limit < length told)
+  IsTooLong =
+      (file : List ℕ) × (task : Task) × Asks words file task
+      × IfSome (held file) (λ told. MAX_FILE_BYTES < length told)
 
   -- a text that the program may write for these words and files
   pub data MayWrite : List ℕ → Type 0 where
     usage : AskNothing words → MayWrite usage_line
     too_long : IsTooLong → MayWrite too_long_line
-    for_file : {text : List ℕ} → ReadsFile (λ task bytes. MayWriteFor task bytes text) → MayWrite text
+    for_file : {text : List ℕ}
+        → ReadsFile (λ task bytes. MayWriteFor task bytes text) → MayWrite text
 
   -- the line for a file that is longer than the limit, or the one for its text or for the term
   abbrev pub RefusedCall : Option (List ℕ) → Option (List ℕ) → Type 0
-  RefusedCall old new = (IsTooLong × Appended old new too_long_line) ⊎ ReadsFile (λ task bytes. RefusedBytes task bytes old new)
+  RefusedCall old new =
+      (IsTooLong × Appended old new too_long_line)
+      ⊎ ReadsFile (λ task bytes. RefusedBytes task bytes old new)
 
   -- what was appended, and which count rose, by the status
   abbrev pub Means : ℕ → ℕ → Option (List ℕ) → Option (List ℕ) → ℕ → ℕ → Status → Type 0
-  Means reads reads' old new writes writes' Done = ReadsFile (λ task bytes. Ended task bytes old new Done)
-  Means reads reads' old new writes writes' Refuted = ReadsFile (λ task bytes. Ended task bytes old new Refuted)
-  Means reads reads' old new writes writes' Open = ReadsFile (λ task bytes. Ended task bytes old new Open)
+  Means reads reads' old new writes writes' Done =
+      ReadsFile (λ task bytes. Ended task bytes old new Done)
+  Means reads reads' old new writes writes' Refuted =
+      ReadsFile (λ task bytes. Ended task bytes old new Refuted)
+  Means reads reads' old new writes writes' Open =
+      ReadsFile (λ task bytes. Ended task bytes old new Open)
   Means reads reads' old new writes writes' Refused = RefusedCall old new
   Means reads reads' old new writes writes' No = ⊥
-  Means reads reads' old new writes writes' ReadFault = ((file : List ℕ) × (task : Task) × Asks words file task) × Rose reads reads' × (new ≡ old)
-  Means reads reads' old new writes writes' WriteFault = Rose writes writes' × AppendsPartOf MayWrite old new
+  Means reads reads' old new writes writes' ReadFault =
+      ((file : List ℕ) × (task : Task) × Asks words file task) × Rose reads reads' × (new ≡ old)
+  Means reads reads' old new writes writes' WriteFault =
+      Rose writes writes' × AppendsPartOf MayWrite old new
   Means reads reads' old new writes writes' Usage = AskNothing words × Appended old new usage_line
   Means reads reads' old new writes writes' OutOfMemory = AppendsPartOf MayWrite old new
 
 -- the names that were asked for are a prefix of the command's
 abbrev pub AskedPrefix : List (List ℕ) → List (List ℕ) → List (List ℕ) → Type 0
-AskedPrefix words old new = (new ≡ old) ⊎ ((file : List ℕ) × (task : Task) × Asks words file task × (new ≡ old ++ file ∷ []))
+AskedPrefix words old new =
+    (new ≡ old)
+    ⊎ ((file : List ℕ) × (task : Task) × Asks words file task × (new ≡ old ++ file ∷ []))

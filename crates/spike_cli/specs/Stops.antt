@@ -1,5 +1,5 @@
 -- What was appended when a command that writes a report ended or stopped.
-use Rattle.std.specs.Prelude.{◌≡◌, ℕ, List, Option, Result, Ok, Err}
+use Rattle.std.specs.Prelude.{◌≡◌, ℕ, List, Option, Result, Ok, Err, codes}
 use Rattle.spec_core.specs.declared.records.Spec.{Spec}
 use Rattle.io_core.specs.Count.{Rose}
 use Rattle.io_core.specs.Piece.{Appended}
@@ -15,15 +15,22 @@ use Rattle.spec_core.specs.declared.records.Goal.{Goal}
 use Rattle.spike_cli.specs.declared.bounds.SearchBounds.{SearchBounds}
 use Rattle.spike_cli.specs.declared.claims.Claim.{Claim}
 use Rattle.spike_cli.specs.Claims.{IsClaimOn}
-use Rattle.spike_cli.specs.Texts.{claim_text, header_text}
+use Rattle.spike_cli.specs.ReportTexts.{claim_text, header_text}
 use Rattle.spike_cli.specs.Parts.{AppendsPartOf}
 use Rattle.spike_cli.specs.Words.{Task}
 use Rattle.spike_cli.specs.Runs.{IsEnd, MayWriteOn, Ended, RefusedBytes, MayWriteFor}
 
+-- the words for a command that stopped
+abbrev pub stop_text : Stop → List ℕ
+stop_text WriteFault = codes "the output can't be written"
+stop_text OutOfMemory = codes "out of memory"
+
+-- why a command stops where bytes aren't written
 abbrev pub stop_of : WriteError → Stop
 stop_of write.Failed = WriteFault
 stop_of write.OutOfMemory = OutOfMemory
 
+-- the status of a command that stops
 abbrev pub status_of_stop : Stop → Status
 status_of_stop WriteFault = status.WriteFault
 status_of_stop OutOfMemory = status.OutOfMemory
@@ -34,24 +41,34 @@ joined status.Refuted outcome = status.Refuted
 joined s (Refuted index values) = status.Refuted
 joined s (Open budget) = status.Open
 
+-- the text of a claim on the goal
+abbrev pub IsTextOnGoal : SearchBounds → Spec → Goal → List ℕ → Type 0
+IsTextOnGoal bounds spec goal text =
+    (claim : Claim) × IsClaimOn bounds spec goal claim × (text ≡ claim_text spec.sig claim)
+
 module _ (old new : Option (List ℕ)) (writes writes' : ℕ) where
-  -- a part of one of these texts was appended, and the count of faults rose where that was why it stopped
+  -- a part of one of these texts was appended, and the count of faults rose where that was why it
+  -- stopped
   abbrev pub Stopped : (List ℕ → Type 0) → Stop → Type 0
   Stopped IsText WriteFault = Rose writes writes' × AppendsPartOf IsText old new
   Stopped IsText OutOfMemory = AppendsPartOf IsText old new
 
+  -- the first two lines were appended
   abbrev pub WritesHeader : ℕ → Result Unit Stop → Type 0
   WritesHeader steps (Ok u) = Appended old new (header_text steps)
   WritesHeader steps (Err stop) = Stopped (λ text. text ≡ header_text steps) stop
 
   -- the claim on the goal was appended, and this is the status with it
   abbrev pub WritesClaim : SearchBounds → Spec → Goal → Status → Result Status Stop → Type 0
-  WritesClaim bounds spec goal before (Ok after) = (claim : Claim) × IsClaimOn bounds spec goal claim × Appended old new (claim_text spec.sig claim) × (after ≡ joined before claim.outcome)
-  WritesClaim bounds spec goal before (Err stop) = Stopped (λ text. (claim : Claim) × IsClaimOn bounds spec goal claim × (text ≡ claim_text spec.sig claim)) stop
+  WritesClaim bounds spec goal before (Ok after) =
+      (claim : Claim) × IsClaimOn bounds spec goal claim
+      × Appended old new (claim_text spec.sig claim) × (after ≡ joined before claim.outcome)
+  WritesClaim bounds spec goal before (Err stop) = Stopped (IsTextOnGoal bounds spec goal) stop
 
   -- a task's whole text was appended, with its status
   abbrev pub Finishes : Task → Spec → Result Status Stop → Type 0
-  Finishes task spec (Ok after) = (text : List ℕ) × IsEnd task spec text after × Appended old new text
+  Finishes task spec (Ok after) =
+      (text : List ℕ) × IsEnd task spec text after × Appended old new text
   Finishes task spec (Err stop) = Stopped (MayWriteOn task spec) stop
 
 -- one of these texts was appended as a refusal, or a part of one where the command stopped

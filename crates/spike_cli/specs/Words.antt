@@ -28,12 +28,14 @@ pub record AreSteps (words : List (List ℕ)) (steps : ℕ) : Type 0 where
 -- the words are `refute`, the name of a file and its options
 abbrev pub AsksToRefute : List (List ℕ) → List ℕ → SearchBounds → Type 0
 AsksToRefute words file bounds =
-    (options : List (List ℕ)) × (words ≡ codes "refute" ∷ file ∷ options) × (BeginsWithDash file → ⊥) × AreBounds options bounds
+    (options : List (List ℕ)) × (words ≡ codes "refute" ∷ file ∷ options)
+    × (BeginsWithDash file → ⊥) × AreBounds options bounds
 
 -- the words are `eval`, the name of a file, a term and its options
 abbrev pub AsksToEval : List (List ℕ) → List ℕ → List ℕ → ℕ → Type 0
 AsksToEval words file term steps =
-    (options : List (List ℕ)) × (words ≡ codes "eval" ∷ file ∷ term ∷ options) × (BeginsWithDash file → ⊥) × (BeginsWithDash term → ⊥) × AreSteps options steps
+    (options : List (List ℕ)) × (words ≡ codes "eval" ∷ file ∷ term ∷ options)
+    × (BeginsWithDash file → ⊥) × (BeginsWithDash term → ⊥) × AreSteps options steps
 
 -- what is done with the specification of a file
 pub data Task : Type 0 where

@@ -1,7 +1,7 @@
 /// How far the search for counterexamples goes.
 #[derive(Clone, Copy, Debug, PartialEq, Eq)]
 pub struct SearchBounds {
-    /// The greatest depth of the values that are tried, at most 8.
+    /// The greatest depth of the values that are tried.
     pub depth: u32,
     /// How many substitutions of each goal are tried.
     pub tries: u32,

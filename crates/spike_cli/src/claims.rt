@@ -1,7 +1,6 @@
 ghost use Rattle.std.specs.Prelude.{◌≡◌, ℕ, Some, IfOk, slice_get};
 ghost use Rattle.spec_core.specs.WellSorted.{IsWellSorted};
-ghost use Rattle.spike_cli.specs.Claims.{IsClaimOn};
-ghost use Rattle.spike_cli.specs.Numbers.{named};
+ghost use Rattle.spike_cli.specs.Claims.{IsClaimOn, named};
 
 use crate::bounds::SearchBounds;
 use refuter::{Search, search};
@@ -74,7 +73,7 @@ pub fn claim_on(
         }),
     };
     Ok(Claim {
-        goal: copy_of(alloc, &goal.name)?,
+        goal: goal.name.copy(alloc)?,
         outcome,
     })
 }
@@ -89,13 +88,7 @@ fn named_values(
 {
     let mut pairs = Seq::new(alloc);
     for (var, value) in vars.iter().zip(values) {
-        pairs.push((copy_of(alloc, &var.name)?, value.copy(alloc)?))?;
+        pairs.push((var.name.copy(alloc)?, value.copy(alloc)?))?;
     }
     Ok(pairs)
-}
-
-fn copy_of(alloc: Global, name: &Name) -> Result<Name, OutOfMemory>
-    ensures { IfOk result (λ r. r ≡ name.now) }
-{
-    Ok(Name::from_bytes(Vec::from_slice(alloc, name.as_bytes())?))
 }

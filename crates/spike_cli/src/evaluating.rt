@@ -1,15 +1,17 @@
 ghost use Rattle.std.specs.Prelude.{◌≡◌, ◌≤◌, ◌++◌, IfOk, OnOk};
 ghost use Rattle.spec_core.specs.TermText.{SymbolsAreInRange};
 ghost use Rattle.spec_core.specs.WellSorted.{IsWellSorted};
-ghost use Rattle.spike_cli.specs.Evaluations.{IsEvaluation, value_text, value_lines as lines_of_value, spent_line as line_of_spent};
+ghost use Rattle.spike_cli.specs.Evaluations.{IsEvaluation, value_text};
+ghost use Rattle.spike_cli.specs.Evaluations.{value_lines as lines_of_value};
+ghost use Rattle.spike_cli.specs.Evaluations.{spent_line as line_of_spent};
 ghost use Rattle.spike_cli.specs.Stops.{Finishes};
 ghost use Rattle.spike_cli.specs.Tellings.{IsLineOf};
 ghost use Rattle.spike_cli.specs.Words.{evaluating};
 
+use crate::reading::ground_term;
 use crate::refusals::Refusal;
 use crate::statuses::Status;
 use crate::stops::Stop;
-use crate::texts::ground_term;
 use ground_eval::{Eval, Evaluator};
 use io_core::{Sink, write_all};
 use spec_core::{Signature, Spec};
@@ -17,7 +19,7 @@ use std::alloc::Global;
 use term_core::{OutOfMemory, Term};
 
 /// The most symbols of a value that is written.
-const MOST_SYMBOLS: u32 = 10_000;
+const MAX_SYMBOLS: u32 = 10_000;
 
 /// What is written for a term, and the status with it.
 #[derive(Drop)]
@@ -35,7 +37,8 @@ pub fn evaluate<S: Sink>(
     out: &mut S,
 ) -> Result<Status, Stop>
     requires { IsWellSorted spec.now }
-    ensures finishes { Finishes (S.written out.old) (S.written out.new) (S.faults out.old) (S.faults out.new) (evaluating term.now steps) spec.now result }
+    ensures finishes { Finishes (S.written out.old) (S.written out.new)
+        (S.faults out.old) (S.faults out.new) (evaluating term.now steps) spec.now result }
     ensures writes { S.faults out.old ≤ S.faults out.new }
 {
     let evaluation = evaluation_of(alloc, spec, term, steps)?;
@@ -110,7 +113,7 @@ fn append_value(
     requires { SymbolsAreInRange sig.now value.now }
     ensures { OnOk result (text.new.items ≡ text.old.items ++ value_text sig.now value.now) }
 {
-    if value.size(MOST_SYMBOLS + 1) <= MOST_SYMBOLS {
+    if value.size(MAX_SYMBOLS + 1) <= MAX_SYMBOLS {
         sig.print(alloc, &[], value, text)?;
     } else {
         text.extend_from_slice(b"large")?;

@@ -4,11 +4,12 @@ ghost use Rattle.spec_core.specs.Linear.{LeftSidesAreLinear};
 ghost use Rattle.spec_core.specs.WellSorted.{IsWellSorted};
 ghost use Rattle.coverage_check.specs.GroupTree.{IsRuleNumber};
 
-use crate::texts::{ground_term, specification};
+use crate::reading::{ground_term, specification};
 use coverage_check::{Coverage, Tree, covers, rows_of, tree};
 use overlap_check::{Linear, Overlap, linear, overlap};
 use spec_core::{Signature, Spec};
-use std::alloc::{AllocError, Global};
+use std::alloc::Global;
+use std::process::Abort;
 use std::test::Fail;
 use term_core::{OutOfMemory, Term, VarId};
 
@@ -24,8 +25,8 @@ fun four(Nat, Nat, Nat, Nat) : Nat
 /// The two rules and the values that are named for rules over these declarations.
 type Named = Option<(u32, u32, &'static [&'static str])>;
 
-/// By hand: the most general unifier of the two left sides, whose variables are apart, with zero for
-/// each variable that is left.
+/// By hand: the most general unifier of the two left sides, whose variables are apart, with zero
+/// for each variable that is left.
 const OVERLAPS: [(&str, Named); 11] = [
     ("", None),
     (
@@ -222,18 +223,22 @@ fn is(alloc: Global, sig: &Signature, value: &Term, text: &str) -> bool {
     }
 }
 
-fn with_rules(alloc: Global, rules: &str) -> Result<String, AllocError> {
-    format!(in alloc; "{DECLARATIONS}{rules}")
+/// The specification of these rules behind the declarations.
+fn with_rules(rt: &impl Abort, alloc: Global, rules: &str) -> Result<Spec, Fail>
+    ensures { IfOk result IsWellSorted }
+{
+    let text = format!(in alloc; "{DECLARATIONS}{rules}")?;
+    let Ok(spec) = specification(alloc, text.as_bytes()) else {
+        panic!(rt; "{rules}");
+    };
+    Ok(spec)
 }
 
 #[test]
 fn the_first_overlap_is_named(rt: HostRuntime) -> Result<(), Fail> {
     let alloc = rt.alloc();
     for (rules, wanted) in OVERLAPS {
-        let text = with_rules(alloc, rules)?;
-        let Ok(spec) = specification(alloc, text.as_bytes()) else {
-            panic!(rt; "{rules}");
-        };
+        let spec = with_rules(&rt, alloc, rules)?;
         let found = overlap(alloc, &spec)?;
         match (found, wanted) {
             (Overlap::Fine, None) => continue,
@@ -274,10 +279,7 @@ fn has_name(spec: &Spec, rule: u32, var: VarId, name: &str) -> bool {
 fn the_first_repeated_variable_is_named(rt: HostRuntime) -> Result<(), Fail> {
     let alloc = rt.alloc();
     for (rules, wanted) in REPETITIONS {
-        let text = with_rules(alloc, rules)?;
-        let Ok(spec) = specification(alloc, text.as_bytes()) else {
-            panic!(rt; "{rules}");
-        };
+        let spec = with_rules(&rt, alloc, rules)?;
         let found = linear(alloc, &spec)?;
         match (found, wanted) {
             (Linear::Fine, None) => continue,
@@ -308,10 +310,7 @@ fn coverage_of(alloc: Global, spec: &Spec, name: &[u8]) -> Result<Option<Coverag
 fn missing_values_are_named(rt: HostRuntime) -> Result<(), Fail> {
     let alloc = rt.alloc();
     for (rules, (name, wanted)) in COVERAGES {
-        let text = with_rules(alloc, rules)?;
-        let Ok(spec) = specification(alloc, text.as_bytes()) else {
-            panic!(rt; "{rules}");
-        };
+        let spec = with_rules(&rt, alloc, rules)?;
         let Linear::Fine = linear(alloc, &spec)? else {
             panic!(rt; "{rules}");
         };
@@ -346,10 +345,7 @@ fn rules_among(alloc: Global, spec: &Spec, numbers: &[u32]) -> Result<Vec<u32>, 
 fn decision_trees_are_told(rt: HostRuntime) -> Result<(), Fail> {
     let alloc = rt.alloc();
     for (rules, numbers, wanted) in TREES {
-        let text = with_rules(alloc, rules)?;
-        let Ok(spec) = specification(alloc, text.as_bytes()) else {
-            panic!(rt; "{rules}");
-        };
+        let spec = with_rules(&rt, alloc, rules)?;
         let group = rules_among(alloc, &spec, numbers)?;
         assert_eq!(rt; tree(alloc, &spec, &group)?, wanted, "at {rules}");
     }

@@ -1,9 +1,10 @@
-//! The program `spike`: it reads a file of sorts, functions, rules and goals, and writes a report on
-//! the goals or the value of a term.
+//! The program `spike`: it reads a file of sorts, functions, rules and goals, and writes a report
+//! on the goals or the value of a term.
 //!
-//! `refute FILE` looks for counterexamples of the goals, as far as `--depth`, `--tries` and `--steps`
-//! say, and `eval FILE TERM` evaluates a term without variables within `--steps` rule uses. A file or a term that isn't one gets a line of refusal, which
-//! says what its first fault is.
+//! `refute FILE` looks for counterexamples of the goals, as far as `--depth`, `--tries` and
+//! `--steps` say, and `eval FILE TERM` evaluates a term without variables within `--steps` rule
+//! uses. A file or a term that isn't one gets a line of refusal, which says what its first fault
+//! is.
 //!
 //! It stands on all the other crates. [`run`] is the whole program over a store of files and a
 //! sink, and its contract is what the program promises; `main` hands it the words after the
@@ -17,6 +18,7 @@ mod laws;
 #[cfg(test)]
 mod left_side_tests;
 mod options;
+mod reading;
 mod refusals;
 mod refuting;
 mod reports;
@@ -27,7 +29,6 @@ mod statuses;
 mod stops;
 #[cfg(test)]
 mod tests;
-mod texts;
 mod words;
 
 pub use bounds::SearchBounds;
@@ -39,9 +40,7 @@ pub use statuses::Status;
 use std::process::ExitCode;
 use std::{env, io};
 
-/// The statuses with which `main` ends before it calls `run`.
-const NO_MEMORY_FOR_WORDS: u8 = 8;
-
+/// The exit status where a word isn't UTF-8, so that `run` isn't called.
 const WORDS_NOT_UTF8: u8 = 9;
 
 fn main(rt: HostRuntime) -> ExitCode {
@@ -55,15 +54,15 @@ fn main(rt: HostRuntime) -> ExitCode {
     ExitCode::from(status.code())
 }
 
-/// The words after the program's name, or the status to end with.
+/// The words after the program's name, or the exit status where they can't be had.
 fn words_of(rt: &(impl env::Env + AllocGlobal)) -> Result<Vec<String>, u8> {
     let mut words = Vec::new(rt.alloc());
     let args = env::args(rt).map_err(|error| match error.kind() {
         io::ErrorKind::InvalidData => WORDS_NOT_UTF8,
-        _ => NO_MEMORY_FOR_WORDS,
+        _ => Status::OutOfMemory.code(),
     })?;
     for word in args.skip(1) {
-        words.push(word).map_err(|_| NO_MEMORY_FOR_WORDS)?;
+        words.push(word).map_err(|_| Status::OutOfMemory.code())?;
     }
     Ok(words)
 }

@@ -1,7 +1,9 @@
-ghost use Rattle.std.specs.Prelude.{◌≡◌, ◌∷◌, [], ◌↔◌, ℕ, List, IsTrue, MatchOption, get_or, map, string_bytes};
+ghost use Rattle.std.specs.Prelude.{◌≡◌, ◌∷◌, [], ◌↔◌, ℕ, List, IsTrue, MatchOption, get_or, map};
+ghost use Rattle.std.specs.Prelude.{string_bytes};
 ghost use Rattle.std.specs.Bool.{MatchBool};
-ghost use Rattle.spike_cli.specs.Numbers.{name_of, least_of, most_of, usual_of};
-ghost use Rattle.spike_cli.specs.Options.{IsNumberOf, IsNameAmong, IsAbsent, HasNumber, AreKnown, option_words};
+ghost use Rattle.spike_cli.specs.Numbers.{name_of, numbers_of};
+ghost use Rattle.spike_cli.specs.Options.{IsNumberOf, IsNameAmong, IsAbsent, HasNumber};
+ghost use Rattle.spike_cli.specs.Options.{AreKnown, option_words};
 
 use term_core::front;
 
@@ -16,17 +18,46 @@ pub enum NumberOption {
     Steps,
 }
 
+/// The numbers that an option takes, and the one where no word gives it one.
+#[derive(Clone, Copy, Debug, PartialEq, Eq)]
+pub struct Numbers {
+    pub least: u32,
+    pub most: u32,
+    pub usual: u32,
+}
+
+const DEPTHS: Numbers = Numbers {
+    least: 0,
+    most: 8,
+    usual: 3,
+};
+
+const TRIES: Numbers = Numbers {
+    least: 1,
+    most: 1_000_000,
+    usual: 10_000,
+};
+
+const STEPS: Numbers = Numbers {
+    least: 1,
+    most: 2_000,
+    usual: 1_000,
+};
+
 impl NumberOption {
     /// The number that the words give this option, or the usual one. None where they give it twice,
     /// or none of its numbers.
     pub fn among(self, words: &[String]) -> Option<u32>
-        ensures { (options : List (List ℕ × List ℕ)) → map string_bytes words.now ≡ option_words options → MatchOption result ((n : ℕ) → HasNumber self options n → ⊥) (HasNumber self options) }
+        ensures { (options : List (List ℕ × List ℕ))
+            → map string_bytes words.now ≡ option_words options
+            → MatchOption result
+            ((n : ℕ) → HasNumber self options n → ⊥) (HasNumber self options) }
     {
         let Some((name, others)) = front(words) else {
-            return Some(self.usual());
+            return Some(self.numbers().usual);
         };
         let Some((word, rest)) = front(others) else {
-            return Some(self.usual());
+            return Some(self.numbers().usual);
         };
         if !self.is_named(name.as_str()) {
             return self.among(rest);
@@ -39,7 +70,10 @@ impl NumberOption {
 
     /// Whether the words give this option.
     fn is_given(self, words: &[String]) -> bool
-        ensures { (options : List (List ℕ × List ℕ)) → map string_bytes words.now ≡ option_words options → MatchBool result (IsAbsent (name_of self) options → ⊥) (IsAbsent (name_of self) options) }
+        ensures { (options : List (List ℕ × List ℕ))
+            → map string_bytes words.now ≡ option_words options
+            → MatchBool result
+            (IsAbsent (name_of self) options → ⊥) (IsAbsent (name_of self) options) }
     {
         let Some((name, others)) = front(words) else {
             return false;
@@ -52,13 +86,15 @@ impl NumberOption {
 
     /// The number that the word is, within the option's range.
     fn number_of(self, word: &str) -> Option<u32>
-        ensures { MatchOption result ((n : ℕ) → IsNumberOf self word.now n → ⊥) (IsNumberOf self word.now) }
+        ensures { MatchOption result
+            ((n : ℕ) → IsNumberOf self word.now n → ⊥) (IsNumberOf self word.now) }
     {
         if word.len() > 7 || begins_with_plus(word.as_bytes()) {
             return None;
         }
+        let numbers = self.numbers();
         match word.parse::<u32>() {
-            Ok(number) if self.least() <= number && number <= self.most() => Some(number),
+            Ok(number) if numbers.least <= number && number <= numbers.most => Some(number),
             Ok(_) => None,
             Err(_) => None,
         }
@@ -75,33 +111,13 @@ impl NumberOption {
         }
     }
 
-    fn least(self) -> u32
-        ensures { result ≡ least_of self }
+    fn numbers(self) -> Numbers
+        ensures { result ≡ numbers_of self }
     {
         match self {
-            NumberOption::Depth => 0,
-            NumberOption::Tries | NumberOption::Steps => 1,
-        }
-    }
-
-    fn most(self) -> u32
-        ensures { result ≡ most_of self }
-    {
-        match self {
-            NumberOption::Depth => 8,
-            NumberOption::Tries => 1_000_000,
-            NumberOption::Steps => 2_000,
-        }
-    }
-
-    /// The number where no word gives one.
-    fn usual(self) -> u32
-        ensures { result ≡ usual_of self }
-    {
-        match self {
-            NumberOption::Depth => 3,
-            NumberOption::Tries => 10_000,
-            NumberOption::Steps => 1_000,
+            NumberOption::Depth => DEPTHS,
+            NumberOption::Tries => TRIES,
+            NumberOption::Steps => STEPS,
         }
     }
 }
@@ -109,8 +125,10 @@ impl NumberOption {
 /// Whether the words are options of these, each a name before one word more.
 pub fn are_options(known: &[NumberOption], words: &[String]) -> bool
     ensures { MatchBool result
-        ((options : List (List ℕ × List ℕ)) × (map string_bytes words.now ≡ option_words options) × AreKnown known.now options)
-        ((options : List (List ℕ × List ℕ)) → map string_bytes words.now ≡ option_words options → AreKnown known.now options → ⊥) }
+        ((options : List (List ℕ × List ℕ))
+        × (map string_bytes words.now ≡ option_words options) × AreKnown known.now options)
+        ((options : List (List ℕ × List ℕ))
+        → map string_bytes words.now ≡ option_words options → AreKnown known.now options → ⊥) }
 {
     let Some((name, others)) = front(words) else {
         return true;

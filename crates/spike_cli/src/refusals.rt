@@ -1,6 +1,8 @@
 ghost use Rattle.std.specs.Prelude.{◌≡◌, ◌++◌, IfOk, OnOk, codes};
 ghost use Rattle.std.specs.Fmt.{decimal};
-ghost use Rattle.spike_cli.specs.Refusals.{limit_word as word_of_limit, kind_text as text_of_kind, subject_text, IsFaultLine, IsSortLine};
+ghost use Rattle.spec_grammar.specs.Limits.{limit_word as word_of_limit};
+ghost use Rattle.sort_check.specs.Texts.{kind_text as text_of_kind};
+ghost use Rattle.spike_cli.specs.Refusals.{subject_text, IsFaultLine, IsSortLine};
 ghost use Rattle.spike_cli.specs.Tellings.{Tells};
 
 use sort_check::{SortFault, SortKind};

@@ -20,7 +20,8 @@ pub fn refute<S: Sink>(
     out: &mut S,
 ) -> Result<Status, Stop>
     requires { IsWellSorted spec.now }
-    ensures finishes { Finishes (S.written out.old) (S.written out.new) (S.faults out.old) (S.faults out.new) (refuting bounds) spec.now result }
+    ensures finishes { Finishes (S.written out.old) (S.written out.new)
+        (S.faults out.old) (S.faults out.new) (refuting bounds) spec.now result }
     ensures writes { S.faults out.old ≤ S.faults out.new }
 {
     write_header(alloc, bounds.steps, out)?;
@@ -34,7 +35,8 @@ pub fn refute<S: Sink>(
 
 /// Writes the first two lines of a report.
 fn write_header<S: Sink>(alloc: Global, steps: u32, out: &mut S) -> Result<(), Stop>
-    ensures header { WritesHeader (S.written out.old) (S.written out.new) (S.faults out.old) (S.faults out.new) steps result }
+    ensures header { WritesHeader (S.written out.old) (S.written out.new)
+        (S.faults out.old) (S.faults out.new) steps result }
     ensures writes { S.faults out.old ≤ S.faults out.new }
 {
     let text = header(alloc, steps)?;
@@ -53,7 +55,8 @@ fn write_claim<S: Sink>(
 ) -> Result<Status, Stop>
     requires fine { IsWellSorted spec.now }
     requires listed { (k : ℕ) × (slice_get spec.now.goals k ≡ Some goal.now) }
-    ensures claim { WritesClaim (S.written out.old) (S.written out.new) (S.faults out.old) (S.faults out.new) bounds spec.now goal.now status result }
+    ensures claim { WritesClaim (S.written out.old) (S.written out.new)
+        (S.faults out.old) (S.faults out.new) bounds spec.now goal.now status result }
     ensures writes { S.faults out.old ≤ S.faults out.new }
 {
     let claim = claim_on(alloc, spec, goal, bounds)?;

@@ -1,7 +1,8 @@
 ghost use Rattle.std.specs.Prelude.{◌≡◌, ◌++◌, [], ℕ, List, IfOk, OnOk, codes, length};
 ghost use Rattle.std.specs.Fmt.{decimal};
 ghost use Rattle.std.specs.List.{flat_map};
-ghost use Rattle.spike_cli.specs.Texts.{claim_text as text_of_claim, outcome_text, budget_text, value_line, header_text};
+ghost use Rattle.spike_cli.specs.ReportTexts.{claim_text as text_of_claim, header_text};
+ghost use Rattle.spike_cli.specs.ReportTexts.{outcome_text, budget_text, value_line};
 ghost use Rattle.spike_cli.specs.Ranges.{IsPrintable, ArePrintable};
 
 use crate::claims::{Budget, Claim, Outcome};
@@ -44,7 +45,8 @@ fn append_refuted(
     count: usize,
     text: &mut Vec<u8>,
 ) -> Result<(), OutOfMemory>
-    ensures { OnOk result (text.new.items ≡ text.old.items ++ (codes "refuted " ++ goal.now ++ codes " index " ++ decimal index ++ codes " with " ++ decimal count ++ codes "\n")) }
+    ensures { OnOk result (text.new.items ≡ text.old.items ++ (codes "refuted " ++ goal.now
+        ++ codes " index " ++ decimal index ++ codes " with " ++ decimal count ++ codes "\n")) }
 {
     text.extend_from_slice(b"refuted ")?;
     text.extend_from_slice(goal)?;
@@ -64,7 +66,8 @@ fn append_values(
     text: &mut Vec<u8>,
 ) -> Result<(), OutOfMemory>
     requires { ArePrintable sig.now values.now }
-    ensures { OnOk result (text.new.items ≡ text.old.items ++ flat_map (value_line sig.now) values.now) }
+    ensures { OnOk result
+        (text.new.items ≡ text.old.items ++ flat_map (value_line sig.now) values.now) }
 {
     for (name, value) in values {
         text.extend_from_slice(name.as_bytes())?;
@@ -82,7 +85,8 @@ fn append_open(
     budget: &Budget,
     text: &mut Vec<u8>,
 ) -> Result<(), OutOfMemory>
-    ensures { OnOk result (text.new.items ≡ text.old.items ++ (codes "open " ++ goal.now ++ codes " " ++ budget_text budget.now ++ codes "\n")) }
+    ensures { OnOk result (text.new.items ≡ text.old.items ++ (codes "open " ++ goal.now
+        ++ codes " " ++ budget_text budget.now ++ codes "\n")) }
 {
     text.extend_from_slice(b"open ")?;
     text.extend_from_slice(goal)?;

@@ -6,24 +6,25 @@ ghost use Rattle.spike_cli.specs.Stops.{MeansFor, Refuses, Finishes, status_ende
 ghost use Rattle.spike_cli.specs.Tellings.{IsLineOf};
 
 use crate::evaluating::evaluate;
+use crate::reading::specification;
 use crate::refusals::Refusal;
 use crate::refuting::refute;
 use crate::statuses::Status;
 use crate::stops::Stop;
-use crate::texts::specification;
 use crate::words::{Command, command_of};
 use io_core::{Files, ReadError, Sink, WriteError, write_all};
 use spec_core::Spec;
+use spec_grammar::MAX_FILE_BYTES;
 use std::alloc::Global;
-
-/// The most bytes of a specification.
-const FILE_LIMIT: usize = 1_048_576;
 
 /// Does all that the program does: carries out the command that the words ask for, reads its file
 /// from `files` and appends its text to `out`.
 pub fn run<F: Files, S: Sink>(alloc: Global, words: &[String], files: &mut F, out: &mut S) -> Status
-    ensures means { Means (map string_bytes words.now) (F.held files.old) (F.faults files.old) (F.faults files.new) (S.written out.old) (S.written out.new) (S.faults out.old) (S.faults out.new) result }
-    ensures asked { AskedPrefix (map string_bytes words.now) (F.asked files.old) (F.asked files.new) }
+    ensures means { Means (map string_bytes words.now) (F.held files.old)
+        (F.faults files.old) (F.faults files.new) (S.written out.old) (S.written out.new)
+        (S.faults out.old) (S.faults out.new) result }
+    ensures asked { AskedPrefix (map string_bytes words.now)
+        (F.asked files.old) (F.asked files.new) }
     ensures stays { (name : List ℕ) → F.held files.new name ≡ F.held files.old name }
     ensures reads { F.faults files.old ≤ F.faults files.new }
     ensures writes { S.faults out.old ≤ S.faults out.new }
@@ -36,7 +37,7 @@ pub fn run<F: Files, S: Sink>(alloc: Global, words: &[String], files: &mut F, ou
         );
         return ended(Status::Usage, wrote);
     };
-    match files.read(alloc, command.file(), FILE_LIMIT) {
+    match files.read(alloc, command.file(), MAX_FILE_BYTES) {
         Ok(bytes) => carry_out(alloc, &command, &bytes, out),
         Err(ReadError::TooLong) => ended(
             Status::Refused,
@@ -49,7 +50,8 @@ pub fn run<F: Files, S: Sink>(alloc: Global, words: &[String], files: &mut F, ou
 
 /// Carries out a command on the bytes of its file.
 fn carry_out<S: Sink>(alloc: Global, command: &Command, bytes: &[u8], out: &mut S) -> Status
-    ensures means { MeansFor (task_of command.now) bytes.now (S.written out.old) (S.written out.new) (S.faults out.old) (S.faults out.new) result }
+    ensures means { MeansFor (task_of command.now) bytes.now
+        (S.written out.old) (S.written out.new) (S.faults out.old) (S.faults out.new) result }
     ensures writes { S.faults out.old ≤ S.faults out.new }
 {
     match specification(alloc, bytes) {
@@ -69,7 +71,8 @@ fn finish<S: Sink>(
     out: &mut S,
 ) -> Result<Status, Stop>
     requires { IsWellSorted spec.now }
-    ensures finishes { Finishes (S.written out.old) (S.written out.new) (S.faults out.old) (S.faults out.new) (task_of command.now) spec.now result }
+    ensures finishes { Finishes (S.written out.old) (S.written out.new)
+        (S.faults out.old) (S.faults out.new) (task_of command.now) spec.now result }
     ensures writes { S.faults out.old ≤ S.faults out.new }
 {
     match command {
@@ -80,7 +83,8 @@ fn finish<S: Sink>(
 
 /// Writes the line of a refusal.
 fn refuse<S: Sink>(alloc: Global, refusal: Refusal, out: &mut S) -> Status
-    ensures refuses { Refuses (IsLineOf refusal) (S.written out.old) (S.written out.new) (S.faults out.old) (S.faults out.new) result }
+    ensures refuses { Refuses (IsLineOf refusal) (S.written out.old) (S.written out.new)
+        (S.faults out.old) (S.faults out.new) result }
     ensures writes { S.faults out.old ≤ S.faults out.new }
 {
     match refusal {

@@ -4,10 +4,11 @@ use std::alloc::{AllocError, Global};
 use std::process::Abort;
 use std::test::Fail;
 
-/// Lines behind the declarations of naturals, each with the place and the kind of its one fault. The
-/// declarations have 125 bytes, and the first word of a rule stands 5 bytes behind its line's
-/// beginning, that of a clause without bindings 9.
-const FAULTS: [(&str, &str); 25] = [
+/// Lines behind the declarations of naturals, each with the place and the kind of its first fault.
+/// The declarations have 125 bytes, and the first word of a rule stands 5 bytes behind its line's
+/// beginning, that of a clause without bindings 9. Each kind of fault stands alone in some line, but
+/// for numbers that pass a limit.
+const FAULTS: [(&str, &str); 32] = [
     ("goal g : foo(zero) = zero", "134: unknown name"),
     ("goal g(x : Net) : x = zero", "136: unknown name"),
     ("rule foo(x) = x", "130: unknown name"),
@@ -45,6 +46,43 @@ const FAULTS: [(&str, &str); 25] = [
     ("rule x = x", "130: left side is no function"),
     ("rule plus(x, y) = x if plus(x, y)", "148: guard not Bool"),
     ("rule plus(x, y) = x unless x", "152: guard not Bool"),
+    // The first fault in the order of the tests stands behind another one: in a goal come the sides
+    // that are no variables, then equations with one, then those of two, then variables without a
+    // sort.
+    ("goal g : x = y | zero = true", "149: wrong sort"),
+    (
+        "goal g(x : Nat) : x = true | succ = zero",
+        "154: wrong number of arguments",
+    ),
+    (
+        "goal g(x : Nat, y : Bool) : x = y | x = true",
+        "161: wrong sort",
+    ),
+    (
+        "goal g(x : Nat, y : Bool) : u = v | x = y",
+        "165: wrong sort",
+    ),
+    ("goal g : x = y => zero = foo(zero)", "150: unknown name"),
+    (
+        "goal g : succ(x) = y | y = true | zero = succ",
+        "166: wrong number of arguments",
+    ),
+    ("goal g(x : Nat) : u = v => true = x", "159: wrong sort"),
+];
+
+/// Lines behind the first one of a file, which has 8 bytes.
+const SORT_FAULTS: [(&str, &str); 10] = [
+    ("sort S = c(T)", "19: unknown name"),
+    ("sort Bool = b", "13: repeated name"),
+    ("sort S = true", "17: repeated name"),
+    ("sort S = c fun c : S", "23: repeated name"),
+    ("sort S = c(S)", "13: no small value"),
+    ("sort S = c fun f : T", "27: unknown name"),
+    // Names of sorts come before their constructors, and constructors before small values.
+    ("sort S = c(T) sort S = d", "27: repeated name"),
+    ("sort S = c(S) sort T = c", "31: repeated name"),
+    ("sort S = c(S) sort Bool = b", "27: repeated name"),
+    ("sort S = c(S) sort T = d(U)", "33: unknown name"),
 ];
 
 /// Goals without a conclusion, each with the number and the first values of its variables.
@@ -83,6 +121,18 @@ fn refuse(rt: &impl Abort, alloc: Global, text: &str, why: &str) -> Result<(), F
     expect(rt, alloc, &["refute", "a"], text, Status::Refused, &want)
 }
 
+/// Asserts that the text is taken, with these claims on its goals.
+fn take(
+    rt: &impl Abort,
+    alloc: Global,
+    text: &str,
+    status: Status,
+    claims: &str,
+) -> Result<(), Fail> {
+    let want = format!(in alloc; "spike-report 1\nsteps 1000\n{claims}done\n")?;
+    expect(rt, alloc, &["refute", "a"], text, status, &want)
+}
+
 /// `zero` under so many of `succ`.
 fn numeral(alloc: Global, number: usize) -> Result<String, AllocError> {
     let open = "succ(".repeat(alloc, number)?;
@@ -90,77 +140,26 @@ fn numeral(alloc: Global, number: usize) -> Result<String, AllocError> {
     format!(in alloc; "{open}zero{close}")
 }
 
-/// Each kind of fault, alone in its text, but for numbers that pass a limit.
 #[test]
-fn each_kind_of_fault_is_told(rt: HostRuntime) -> Result<(), Fail> {
+fn the_first_fault_is_told(rt: HostRuntime) -> Result<(), Fail> {
     let alloc = rt.alloc();
     for (line, why) in FAULTS {
         refuse(&rt, alloc, &format!(in alloc; "{NATURALS}{line}\n")?, why)?;
     }
-    let sorts = [
-        ("sort S = c(T)", "19: unknown name"),
-        ("sort Bool = b", "13: repeated name"),
-        ("sort S = true", "17: repeated name"),
-        ("sort S = c fun c : S", "23: repeated name"),
-        ("sort S = c(S)", "13: no small value"),
-        ("sort S = c fun f : T", "27: unknown name"),
-    ];
-    for (line, why) in sorts {
+    for (line, why) in SORT_FAULTS {
         refuse(&rt, alloc, &format!(in alloc; "spike 1\n{line}\n")?, why)?;
-    }
-    Ok(())
-}
-
-/// The first fault in the order of the tests stands behind another one in the text: names of sorts
-/// before their constructors, constructors before small values, and in a goal the sides that are no
-/// variables, then equations with one, then those of two, then variables without a sort.
-#[test]
-fn the_first_fault_in_order_is_told(rt: HostRuntime) -> Result<(), Fail> {
-    let alloc = rt.alloc();
-    let sorts = [
-        ("sort S = c(T) sort S = d", "27: repeated name"),
-        ("sort S = c(S) sort T = c", "31: repeated name"),
-        ("sort S = c(S) sort Bool = b", "27: repeated name"),
-        ("sort S = c(S) sort T = d(U)", "33: unknown name"),
-    ];
-    for (line, why) in sorts {
-        refuse(&rt, alloc, &format!(in alloc; "spike 1\n{line}\n")?, why)?;
-    }
-    let goals = [
-        ("goal g : x = y | zero = true", "149: wrong sort"),
-        (
-            "goal g(x : Nat) : x = true | succ = zero",
-            "154: wrong number of arguments",
-        ),
-        (
-            "goal g(x : Nat, y : Bool) : x = y | x = true",
-            "161: wrong sort",
-        ),
-        (
-            "goal g(x : Nat, y : Bool) : u = v | x = y",
-            "165: wrong sort",
-        ),
-        ("goal g : x = y => zero = foo(zero)", "150: unknown name"),
-        (
-            "goal g : succ(x) = y | y = true | zero = succ",
-            "166: wrong number of arguments",
-        ),
-        ("goal g(x : Nat) : u = v => true = x", "159: wrong sort"),
-    ];
-    for (line, why) in goals {
-        refuse(&rt, alloc, &format!(in alloc; "{NATURALS}{line}\n")?, why)?;
     }
     Ok(())
 }
 
 /// The greatest number that is taken, and the first that isn't: variables, rules of a function, and
 /// words of a left side. Sixteen of `plus(` and their variables stand before the 17th, nine of them
-/// with 9 bytes and seven with 10; a rule has 20 bytes.
+/// with 9 bytes and seven with 10; a rule has 20 bytes. The deepest term that is taken has 63 of
+/// `succ` above `zero`.
 #[test]
 fn numbers_are_limited(rt: HostRuntime) -> Result<(), Fail> {
     let alloc = rt.alloc();
-    let want = "spike-report 1\nsteps 1000\ndone\n";
-    for (number, why) in [(15, None), (16, Some("285: too many variables"))] {
+    for (number, why) in [(15, "296: wrong sort"), (16, "285: too many variables")] {
         let mut line = String::from_str(alloc, "goal g : ")?;
         for n in 0..number {
             let variable = n + 1;
@@ -169,30 +168,30 @@ fn numbers_are_limited(rt: HostRuntime) -> Result<(), Fail> {
         let close = ")".repeat(alloc, number)?;
         let last = number + 1;
         let text = format!(in alloc; "{NATURALS}{line}x{last}{close} = true\n")?;
-        match why {
-            Some(why) => refuse(&rt, alloc, &text, why)?,
-            None => refuse(&rt, alloc, &text, "296: wrong sort")?,
-        }
+        refuse(&rt, alloc, &text, why)?;
     }
-    for (number, why) in [(62, None), (63, Some("1370: too many rules"))] {
-        let rules = "rule plus(x, y) = x\n".repeat(alloc, number)?;
-        let text = format!(in alloc; "{NATURALS}{rules}")?;
-        match why {
-            Some(why) => refuse(&rt, alloc, &text, why)?,
-            None => expect(&rt, alloc, &["refute", "a"], &text, Status::Done, want)?,
-        }
-    }
+    let rule = "rule plus(x, y) = x\n";
+    let rules = rule.repeat(alloc, 62)?;
+    let most = format!(in alloc; "{NATURALS}{rules}")?;
+    take(&rt, alloc, &most, Status::Done, "")?;
+    let more = format!(in alloc; "{most}{rule}")?;
+    refuse(&rt, alloc, &more, "1370: too many rules")?;
     let four = "spike 1\nsort Nat = zero | succ(Nat)\nfun f(Nat, Nat, Nat, Nat) : Nat\n";
-    let side = numeral(alloc, 49)?;
-    for (last, why) in [(48, None), (49, Some("73: left side too large"))] {
-        let last = numeral(alloc, last)?;
-        let text = format!(in alloc; "{four}rule f({side}, {side}, {side}, {last}) = zero\n")?;
-        match why {
-            Some(why) => refuse(&rt, alloc, &text, why)?,
-            None => expect(&rt, alloc, &["refute", "a"], &text, Status::Done, want)?,
-        }
-    }
-    Ok(())
+    let short = numeral(alloc, 48)?;
+    let long = numeral(alloc, 49)?;
+    let most = format!(in alloc; "{four}rule f({long}, {long}, {long}, {short}) = zero\n")?;
+    take(&rt, alloc, &most, Status::Done, "")?;
+    let more = format!(in alloc; "{four}rule f({long}, {long}, {long}, {long}) = zero\n")?;
+    refuse(&rt, alloc, &more, "73: left side too large")?;
+    let deep = numeral(alloc, 63)?;
+    let text = format!(in alloc; "{NATURALS}goal g : {deep} = zero\n")?;
+    take(
+        &rt,
+        alloc,
+        &text,
+        Status::Refuted,
+        "refuted g index 0 with 0\n",
+    )
 }
 
 /// Each goal is false at the first value of each variable, which shows its sort: `true`, `zero` or
@@ -216,10 +215,8 @@ rule length(cons(x, l)) = succ(length(l))
         let text = format!(in alloc;
             "spike 1\nsort Nat = zero | succ(Nat)\n{declarations}goal {goal} => zero = succ(zero)\n"
         )?;
-        let want = format!(in alloc;
-            "spike-report 1\nsteps 1000\nrefuted g index 0 with {claim}\ndone\n"
-        )?;
-        expect(&rt, alloc, &["refute", "a"], &text, Status::Refuted, &want)?;
+        let claims = format!(in alloc; "refuted g index 0 with {claim}\n")?;
+        take(&rt, alloc, &text, Status::Refuted, &claims)?;
     }
     Ok(())
 }

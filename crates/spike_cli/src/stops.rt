@@ -4,6 +4,8 @@ ghost use Rattle.spike_cli.specs.declared.stops.Stop.TheVariants.{OutOfMemory as
 
 use crate::statuses::Status;
 use io_core::WriteError;
+use std::error::Error;
+use std::fmt;
 use term_core::OutOfMemory;
 
 /// Why a command that writes a report stopped before its end.
@@ -23,6 +25,22 @@ impl Stop {
         }
     }
 }
+
+impl fmt::Display for Stop {
+    ghost use Rattle.std.specs.Prelude.{Some};
+    ghost use Rattle.spike_cli.specs.Stops.{stop_text};
+
+    ghost output = { λ stop. Some (stop_text stop) };
+
+    fn fmt<W: fmt::Write>(&self, f: &mut fmt::Formatter<W>) -> fmt::Result {
+        match self {
+            Stop::WriteFault => f.write_str("the output can't be written"),
+            Stop::OutOfMemory => f.write_str("out of memory"),
+        }
+    }
+}
+
+impl Error for Stop {}
 
 impl From<WriteError> for Stop {
     ghost from_gives = { λ error stop. stop ≡ stop_of error };

@@ -3,7 +3,7 @@ use io_core::{MemFiles, MemSink};
 use std::alloc::{AllocError, Global};
 use std::process::Abort;
 use std::test::Fail;
-use term_core::{Name, Seq};
+use term_core::{Name, OutOfMemory, Seq};
 
 /// Naturals with addition.
 pub(crate) const NATURALS: &str = "spike 1
@@ -23,210 +23,72 @@ rule plus(succ(x), y) = succ(plus(x, y))
 
 const USAGE: &str = "usage: spike check|eval|prove|refute|replay|load\n";
 
-/// Goals over naturals, with the status and the claims of their report. They are worked out by hand
-/// from the order of the search: x is slower than y, and zero comes before succ(zero).
-const REPORTS: [(&str, Status, &str); 8] = [
+/// The words behind `refute` and the file, goals, and of their report the status, the steps and the
+/// claims.
+type Report = (
+    &'static [&'static str],
+    &'static str,
+    Status,
+    &'static str,
+    &'static str,
+);
+
+/// Reports on goals over naturals. They are worked out by hand from the order of the search: x is
+/// slower than y, and zero comes before succ(zero). The values of depth 3 are the first three
+/// naturals, and to add something to `succ(zero)` costs 2.
+const REPORTS: [Report; 15] = [
     (
+        &[],
         "goal bad(x : Nat, y : Nat) : plus(x, y) = plus(x, x)\n\
          goal plus_zero(x : Nat) : plus(x, zero) = x\n",
         Status::Refuted,
+        "1000",
         "refuted bad index 1 with 2\nx = zero\ny = succ(zero)\n\
          open plus_zero depth 3 tried 3 skipped 0 cut no plain 0 nodes 0\n",
     ),
     (
+        &[],
         "goal bad : plus(x, y) = plus(x, x)\n",
         Status::Refuted,
+        "1000",
         "refuted bad index 1 with 2\nx = zero\ny = succ(zero)\n",
     ),
     (
+        &[],
         "goal g(x : Nat, y : Nat) : x = y\n",
         Status::Refuted,
+        "1000",
         "refuted g index 1 with 2\nx = zero\ny = succ(zero)\n",
     ),
     (
+        &[],
         "goal g : plus(succ(zero), zero) = zero\n",
         Status::Refuted,
+        "1000",
         "refuted g index 0 with 0\n",
     ),
     (
+        &[],
         "goal g : x = zero\n",
         Status::Refuted,
+        "1000",
         "refuted g index 1 with 1\nx = succ(zero)\n",
     ),
     (
+        &[],
         "goal g(x : Nat) : x = zero => x = x\n",
         Status::Open,
+        "1000",
         "open g depth 3 tried 3 skipped 0 cut no plain 0 nodes 0\n",
     ),
     (
+        &[],
         "goal assoc(x : Nat, y : Nat, z : Nat) : plus(plus(x, y), z) = plus(x, plus(y, z))\n",
         Status::Open,
+        "1000",
         "open assoc depth 3 tried 27 skipped 0 cut no plain 0 nodes 0\n",
     ),
-    ("", Status::Done, ""),
-];
-
-/// Declarations over naturals and trees, with guards.
-const TREES: &str = "spike 1
-sort Nat = zero | succ(Nat)
-sort Tree = leaf | node(Tree, Tree)
-fun plus(Nat, Nat) : Nat
-fun isz(Nat) : Bool
-fun pick(Nat) : Nat
-fun twice(Tree) : Tree
-fun grow(Nat) : Tree
-rule plus(zero, y) = y
-rule plus(succ(x), y) = succ(plus(x, y))
-rule isz(zero) = true
-rule isz(succ(x)) = false
-rule pick(x) = succ(x) if isz(x)
-rule pick(x) = x unless isz(x)
-rule twice(t) = node(t, t)
-rule grow(zero) = leaf
-rule grow(succ(x)) = twice(grow(x))
-";
-
-/// The words behind `eval` and the file, with the status and the output. The costs are worked out by
-/// hand: one for each use of a rule, and those of its guards and its right side. A tree of 13 levels
-/// above its leaves has 16,383 symbols.
-const VALUES: [(&[&str], Status, &str); 10] = [
-    (
-        &["plus(succ(zero), zero)"],
-        Status::Done,
-        "value succ(zero)\nsteps 2\n",
-    ),
-    (
-        &["plus(succ(zero), zero)", "--steps", "1"],
-        Status::Open,
-        "spent 1\n",
-    ),
-    (
-        &["plus(succ(zero), zero)", "--steps", "0000001"],
-        Status::Open,
-        "spent 1\n",
-    ),
-    (
-        &["plus(succ(zero), zero)", "--steps", "2000"],
-        Status::Done,
-        "value succ(zero)\nsteps 2\n",
-    ),
-    (
-        &["zero", "--steps", "1"],
-        Status::Done,
-        "value zero\nsteps 0\n",
-    ),
-    (&["isz(zero)"], Status::Done, "value true\nsteps 1\n"),
-    (
-        &["pick(succ(zero))"],
-        Status::Done,
-        "value succ(zero)\nsteps 2\n",
-    ),
-    (&["pick(zero)"], Status::Done, "value succ(zero)\nsteps 2\n"),
-    (
-        &["grow(succ(zero))"],
-        Status::Done,
-        "value node(leaf, leaf)\nsteps 3\n",
-    ),
-    (
-        &[
-            "grow(succ(succ(succ(succ(succ(succ(succ(succ(succ(succ(succ(succ(succ(zero))))))))))))))",
-        ],
-        Status::Done,
-        "value large\nsteps 27\n",
-    ),
-];
-
-/// The file `a` with these bytes.
-fn one_file(alloc: Global, text: &[u8]) -> Result<Seq<(Name, Seq<u8>)>, AllocError> {
-    let mut files = Vec::new(alloc);
-    let name = Name::from_bytes(Vec::from_slice(alloc, b"a")?);
-    files.push((name, Seq::from_vec(Vec::from_slice(alloc, text)?)))?;
-    Ok(Seq::from_vec(files))
-}
-
-fn owned(alloc: Global, words: &[&str]) -> Result<Vec<String>, AllocError> {
-    let mut all = Vec::new(alloc);
-    for word in words {
-        all.push(word.to_string(alloc)?)?;
-    }
-    Ok(all)
-}
-
-/// The status and the output of a call over the file `a`, where these calls fail, counted from 1.
-fn call(
-    alloc: Global,
-    words: &[&str],
-    text: &[u8],
-    reads_that_fail: &[u64],
-    writes_that_fail: &[u64],
-) -> Result<(Status, Vec<u8>), AllocError> {
-    let fails = Seq::from_vec(Vec::from_slice(alloc, reads_that_fail)?);
-    let mut files = MemFiles::new(one_file(alloc, text)?, fails);
-    let mut out = MemSink::new(
-        alloc,
-        Seq::from_vec(Vec::from_slice(alloc, writes_that_fail)?),
-    );
-    let words = owned(alloc, words)?;
-    let status = run(alloc, &words, &mut files, &mut out);
-    let written = Vec::from_slice(alloc, out.bytes())?;
-    Ok((status, written))
-}
-
-/// Asserts what a command on this text writes.
-pub(crate) fn expect(
-    rt: &impl Abort,
-    alloc: Global,
-    words: &[&str],
-    text: &str,
-    status: Status,
-    want: &str,
-) -> Result<(), Fail> {
-    let (got, written) = call(alloc, words, text.as_bytes(), &[], &[])?;
-    assert_eq!(rt; got, status, "at {words:?} {text}");
-    assert_eq!(rt; written.as_slice(), want.as_bytes(), "at {words:?} {text}");
-    Ok(())
-}
-
-#[test]
-fn goals_are_refuted_or_left_open(rt: HostRuntime) -> Result<(), Fail> {
-    let alloc = rt.alloc();
-    for (goals, status, claims) in REPORTS {
-        let want = format!(in alloc; "spike-report 1\nsteps 1000\n{claims}done\n")?;
-        for naturals in [NATURALS, WIDE_NATURALS] {
-            let text = format!(in alloc; "{naturals}{goals}")?;
-            expect(&rt, alloc, &["refute", "a"], &text, status, &want)?;
-        }
-    }
-    Ok(())
-}
-
-/// No natural is above its successor: each of three values was tried.
-#[test]
-fn goals_without_conclusions_are_tried(rt: HostRuntime) -> Result<(), Fail> {
-    let alloc = rt.alloc();
-    let text = "spike 1
-sort Nat = zero | succ(Nat)
-fun plus(Nat, Nat) : Nat
-fun le(Nat, Nat) : Bool
-rule plus(zero, y) = y
-rule plus(succ(x), y) = succ(plus(x, y))
-rule le(zero, y) = true
-rule le(succ(x), zero) = false
-rule le(succ(x), succ(y)) = le(x, y)
-goal no : le(succ(x), x) = true =>
-";
-    let want = "spike-report 1
-steps 1000
-open no depth 3 tried 3 skipped 0 cut no plain 0 nodes 0
-done
-";
-    expect(&rt, alloc, &["refute", "a"], text, Status::Open, want)
-}
-
-/// The words behind `refute` and the file, goals over naturals, the status, the steps and the claims.
-/// By hand: the values of depth 3 are the first three naturals, and the one side that isn't a value
-/// costs 2 where `succ(zero)` is added.
-const BOUNDED: [(&[&str], &str, Status, &str, &str); 7] = [
+    (&[], "", Status::Done, "1000", ""),
     (
         &["--tries", "2"],
         "goal plus_zero : plus(x, zero) = x\n",
@@ -281,15 +143,202 @@ const BOUNDED: [(&[&str], &str, Status, &str, &str); 7] = [
     ),
 ];
 
+/// Functions over naturals and trees. `pick` has guards, and `ack` is Ackermann's function.
+const FUNCTIONS: &str = "spike 1
+sort Nat = zero | succ(Nat)
+sort Tree = leaf | node(Tree, Tree)
+fun plus(Nat, Nat) : Nat
+fun le(Nat, Nat) : Bool
+fun ack(Nat, Nat) : Nat
+fun isz(Nat) : Bool
+fun pick(Nat) : Nat
+fun twice(Tree) : Tree
+fun grow(Nat) : Tree
+rule plus(zero, y) = y
+rule plus(succ(x), y) = succ(plus(x, y))
+rule le(zero, y) = true
+rule le(succ(x), zero) = false
+rule le(succ(x), succ(y)) = le(x, y)
+rule ack(zero, y) = succ(y)
+rule ack(succ(x), zero) = ack(x, succ(zero))
+rule ack(succ(x), succ(y)) = ack(x, ack(succ(x), y))
+rule isz(zero) = true
+rule isz(succ(x)) = false
+rule pick(x) = succ(x) if isz(x)
+rule pick(x) = x unless isz(x)
+rule twice(t) = node(t, t)
+rule grow(zero) = leaf
+rule grow(succ(x)) = twice(grow(x))
+";
+
+/// Reports on goals over these functions. By hand: no natural is above its successor, and three are
+/// tried. Of the 25 pairs of naturals below 5, the calls of `ack` at (3, 3), (3, 4) and at (4, 1)
+/// to (4, 4) cost more than 1,000 rule uses, so that these six pairs are skipped.
+const FUNCTION_REPORTS: [Report; 2] = [
+    (
+        &[],
+        "goal no : le(succ(x), x) = true =>\n",
+        Status::Open,
+        "1000",
+        "open no depth 3 tried 3 skipped 0 cut no plain 0 nodes 0\n",
+    ),
+    (
+        &["--depth", "5"],
+        "goal grows : le(y, ack(x, y)) = true\n",
+        Status::Open,
+        "1000",
+        "open grows depth 5 tried 25 skipped 6 cut no plain 0 nodes 0\n",
+    ),
+];
+
+/// The words behind `eval` and the file, with the status and the output. The costs are worked out
+/// by hand: one for each use of a rule, and those of its guards and its right side. A tree of 13
+/// levels above its leaves has 16,383 symbols. How many calls the definition of Ackermann's
+/// function makes is known: 541 at (3, 2), 2,432 at (3, 3) and 107 at (4, 0), the first included.
+const VALUES: [(&[&str], Status, &str); 13] = [
+    (
+        &["plus(succ(zero), zero)"],
+        Status::Done,
+        "value succ(zero)\nsteps 2\n",
+    ),
+    (
+        &["plus(succ(zero), zero)", "--steps", "1"],
+        Status::Open,
+        "spent 1\n",
+    ),
+    (
+        &["plus(succ(zero), zero)", "--steps", "0000001"],
+        Status::Open,
+        "spent 1\n",
+    ),
+    (
+        &["plus(succ(zero), zero)", "--steps", "2000"],
+        Status::Done,
+        "value succ(zero)\nsteps 2\n",
+    ),
+    (
+        &["zero", "--steps", "1"],
+        Status::Done,
+        "value zero\nsteps 0\n",
+    ),
+    (&["isz(zero)"], Status::Done, "value true\nsteps 1\n"),
+    (
+        &["pick(succ(zero))"],
+        Status::Done,
+        "value succ(zero)\nsteps 2\n",
+    ),
+    (&["pick(zero)"], Status::Done, "value succ(zero)\nsteps 2\n"),
+    (
+        &["grow(succ(zero))"],
+        Status::Done,
+        "value node(leaf, leaf)\nsteps 3\n",
+    ),
+    (
+        &[
+            "grow(succ(succ(succ(succ(succ(succ(succ(succ(succ(succ(succ(succ(succ(zero))))))))))))))",
+        ],
+        Status::Done,
+        "value large\nsteps 27\n",
+    ),
+    (
+        &["ack(succ(succ(succ(zero))), succ(succ(zero)))"],
+        Status::Done,
+        "value succ(succ(succ(succ(succ(succ(succ(succ(succ(succ(succ(succ(succ(succ(\
+         succ(succ(succ(succ(succ(succ(succ(succ(succ(succ(succ(succ(succ(succ(succ(\
+         zero)))))))))))))))))))))))))))))\nsteps 541\n",
+    ),
+    (
+        &[
+            "ack(succ(succ(succ(zero))), succ(succ(succ(zero))))",
+            "--steps",
+            "2000",
+        ],
+        Status::Open,
+        "spent 2000\n",
+    ),
+    (
+        &["ack(succ(succ(succ(succ(zero)))), zero)"],
+        Status::Done,
+        "value succ(succ(succ(succ(succ(succ(succ(succ(succ(succ(succ(succ(succ(zero\
+         )))))))))))))\nsteps 107\n",
+    ),
+];
+
+/// The file `a` with these bytes.
+fn one_file(alloc: Global, text: &[u8]) -> Result<Seq<(Name, Seq<u8>)>, OutOfMemory> {
+    let mut files = Seq::new(alloc);
+    let bytes = Seq::from_vec(Vec::from_slice(alloc, text)?);
+    files.push((Name::of(alloc, b"a")?, bytes))?;
+    Ok(files)
+}
+
+fn owned(alloc: Global, words: &[&str]) -> Result<Vec<String>, AllocError> {
+    let mut all = Vec::new(alloc);
+    for word in words {
+        all.push(word.to_string(alloc)?)?;
+    }
+    Ok(all)
+}
+
+/// The status and the output of a call over the file `a`, where these calls fail, counted from 1.
+fn call(
+    alloc: Global,
+    words: &[&str],
+    text: &[u8],
+    reads_that_fail: &[u64],
+    writes_that_fail: &[u64],
+) -> Result<(Status, Vec<u8>), OutOfMemory> {
+    let fails = Seq::from_vec(Vec::from_slice(alloc, reads_that_fail)?);
+    let mut files = MemFiles::new(one_file(alloc, text)?, fails);
+    let mut out = MemSink::new(
+        alloc,
+        Seq::from_vec(Vec::from_slice(alloc, writes_that_fail)?),
+    );
+    let words = owned(alloc, words)?;
+    let status = run(alloc, &words, &mut files, &mut out);
+    let written = Vec::from_slice(alloc, out.bytes())?;
+    Ok((status, written))
+}
+
+/// Asserts what a command on this text writes.
+pub(crate) fn expect(
+    rt: &impl Abort,
+    alloc: Global,
+    words: &[&str],
+    text: &str,
+    status: Status,
+    want: &str,
+) -> Result<(), Fail> {
+    let (got, written) = call(alloc, words, text.as_bytes(), &[], &[])?;
+    assert_eq!(rt; got, status, "at {words:?} {text}");
+    assert_eq!(rt; written.as_slice(), want.as_bytes(), "at {words:?} {text}");
+    Ok(())
+}
+
+/// Asserts what is written of the goals of a report behind these declarations.
+fn expect_report(
+    rt: &impl Abort,
+    alloc: Global,
+    declarations: &str,
+    report: &Report,
+) -> Result<(), Fail> {
+    let (options, goals, status, steps, claims) = report;
+    let mut words = Vec::from_slice(alloc, &["refute", "a"])?;
+    words.extend_from_slice(options)?;
+    let text = format!(in alloc; "{declarations}{goals}")?;
+    let want = format!(in alloc; "spike-report 1\nsteps {steps}\n{claims}done\n")?;
+    expect(rt, alloc, &words, &text, *status, &want)
+}
+
 #[test]
-fn options_bound_the_search(rt: HostRuntime) -> Result<(), Fail> {
+fn goals_are_reported(rt: HostRuntime) -> Result<(), Fail> {
     let alloc = rt.alloc();
-    for (options, goals, status, steps, claims) in BOUNDED {
-        let mut words = Vec::from_slice(alloc, &["refute", "a"])?;
-        words.extend_from_slice(options)?;
-        let text = format!(in alloc; "{NATURALS}{goals}")?;
-        let want = format!(in alloc; "spike-report 1\nsteps {steps}\n{claims}done\n")?;
-        expect(&rt, alloc, &words, &text, status, &want)?;
+    for report in &REPORTS {
+        expect_report(&rt, alloc, NATURALS, report)?;
+        expect_report(&rt, alloc, WIDE_NATURALS, report)?;
+    }
+    for report in &FUNCTION_REPORTS {
+        expect_report(&rt, alloc, FUNCTIONS, report)?;
     }
     Ok(())
 }
@@ -323,79 +372,34 @@ done
     )
 }
 
-/// By hand: the 25 pairs of naturals below 5 are tried. The calls of `ack` at (3, 3), (3, 4) and at
-/// (4, 1) to (4, 4) cost more than 1,000 rule uses, so that these six pairs are skipped.
-#[test]
-fn costly_substitutions_are_skipped(rt: HostRuntime) -> Result<(), Fail> {
-    let alloc = rt.alloc();
-    let text = "spike 1
-sort Nat = zero | succ(Nat)
-fun le(Nat, Nat) : Bool
-fun ack(Nat, Nat) : Nat
-rule le(zero, y) = true
-rule le(succ(x), zero) = false
-rule le(succ(x), succ(y)) = le(x, y)
-rule ack(zero, y) = succ(y)
-rule ack(succ(x), zero) = ack(x, succ(zero))
-rule ack(succ(x), succ(y)) = ack(x, ack(succ(x), y))
-goal grows : le(y, ack(x, y)) = true
-";
-    let want = "spike-report 1
-steps 1000
-open grows depth 5 tried 25 skipped 6 cut no plain 0 nodes 0
-done
-";
-    expect(
-        &rt,
-        alloc,
-        &["refute", "a", "--depth", "5"],
-        text,
-        Status::Open,
-        want,
-    )
-}
+/// Calls over a file without goals in which these reads and writes fail, counted from 1, with the
+/// status and the output.
+const CALLS: [(&[&str], &[u64], &[u64], Status, &str); 6] = [
+    (
+        &["refute", "a"],
+        &[],
+        &[],
+        Status::Done,
+        "spike-report 1\nsteps 1000\ndone\n",
+    ),
+    (
+        &["refute", "a"],
+        &[],
+        &[2],
+        Status::WriteFault,
+        "spike-report 1\nsteps 1000\n",
+    ),
+    (&["refute", "a"], &[], &[1], Status::WriteFault, ""),
+    (&["refute", "a"], &[1], &[], Status::ReadFault, ""),
+    (&["refute", "b"], &[], &[], Status::ReadFault, ""),
+    (&["refuted", "a"], &[], &[1], Status::WriteFault, ""),
+];
 
-/// Faults of the store and the sink, and words that are no command.
 #[test]
 fn calls_end_with_the_status_of_their_cause(rt: HostRuntime) -> Result<(), Fail> {
     let alloc = rt.alloc();
-    let two_lines = "spike-report 1\nsteps 1000\n";
-    let empty = "spike 1\n";
-    let rows: [(&[&str], &str, &[u64], &[u64], Status, &str); 10] = [
-        (
-            &["refute", "a"],
-            empty,
-            &[],
-            &[],
-            Status::Done,
-            "spike-report 1\nsteps 1000\ndone\n",
-        ),
-        (
-            &["refute", "a"],
-            empty,
-            &[],
-            &[2],
-            Status::WriteFault,
-            two_lines,
-        ),
-        (&["refute", "a"], empty, &[], &[1], Status::WriteFault, ""),
-        (&["refute", "a"], empty, &[1], &[], Status::ReadFault, ""),
-        (&["refute", "b"], empty, &[], &[], Status::ReadFault, ""),
-        (&[], empty, &[], &[], Status::Usage, USAGE),
-        (
-            &["prove", "a", "--depth", "9"],
-            empty,
-            &[],
-            &[],
-            Status::Usage,
-            USAGE,
-        ),
-        (&["refute", "-a"], empty, &[], &[], Status::Usage, USAGE),
-        (&["refute", "a", "b"], empty, &[], &[], Status::Usage, USAGE),
-        (&["refuted", "a"], empty, &[], &[1], Status::WriteFault, ""),
-    ];
-    for (words, text, reads, writes, status, want) in rows {
-        let (got, written) = call(alloc, words, text.as_bytes(), reads, writes)?;
+    for (words, reads, writes, status, want) in CALLS {
+        let (got, written) = call(alloc, words, b"spike 1\n", reads, writes)?;
         assert_eq!(rt; got, status, "at {words:?}");
         assert_eq!(rt; written.as_slice(), want.as_bytes(), "at {words:?}");
     }
@@ -407,11 +411,8 @@ fn calls_end_with_the_status_of_their_cause(rt: HostRuntime) -> Result<(), Fail>
 #[test]
 fn texts_are_refused(rt: HostRuntime) -> Result<(), Fail> {
     let alloc = rt.alloc();
-    let mut nested = String::from_str(alloc, "goal g : ")?;
-    for _ in 0..64 {
-        nested.push_str("succ(")?;
-    }
-    let deep = format!(in alloc; "{NATURALS}{nested}zero")?;
+    let above = "succ(".repeat(alloc, 64)?;
+    let deep = format!(in alloc; "{NATURALS}goal g : {above}zero")?;
     let guarded = format!(in alloc; "{NATURALS}rule plus(x, y) = x if plus(x, y)\n")?;
     let unknown = format!(in alloc; "{NATURALS}rule plus(x, y) = z\n")?;
     let rows = [
@@ -442,38 +443,17 @@ fn texts_are_refused(rt: HostRuntime) -> Result<(), Fail> {
     Ok(())
 }
 
-/// A term of depth 64 is read: 63 of `succ` are above `zero`.
-#[test]
-fn deep_terms_are_read(rt: HostRuntime) -> Result<(), Fail> {
-    let alloc = rt.alloc();
-    let mut text = format!(in alloc; "{NATURALS}goal g : ")?;
-    for _ in 0..63 {
-        text.push_str("succ(")?;
-    }
-    text.push_str("zero")?;
-    for _ in 0..63 {
-        text.push_str(")")?;
-    }
-    text.push_str(" = zero\n")?;
-    let (got, _) = call(alloc, &["refute", "a"], text.as_bytes(), &[], &[])?;
-    assert_eq!(rt; got, Status::Refuted);
-    Ok(())
-}
-
-/// A file of the most bytes is read, and one with a byte more isn't.
+/// The greatest file, in which a comment stands behind the declarations, and one with a byte more.
 #[test]
 fn long_files_are_refused(rt: HostRuntime) -> Result<(), Fail> {
     let alloc = rt.alloc();
+    let done = "spike-report 1\nsteps 1000\ndone\n";
     for (length, status, want) in [
-        (
-            1_048_576usize,
-            Status::Done,
-            "spike-report 1\nsteps 1000\ndone\n",
-        ),
+        (1_048_576usize, Status::Done, done),
         (1_048_577, Status::Refused, "refused length\n"),
     ] {
-        let mut text = Vec::from_slice(alloc, b"spike 1\n")?;
-        text.extend_from_slice(&vec![in alloc; b'#'; length - 8]?)?;
+        let mut text = Vec::from_slice(alloc, NATURALS.as_bytes())?;
+        text.extend_from_slice(&vec![in alloc; b'#'; length - NATURALS.len()]?)?;
         let (got, written) = call(alloc, &["refute", "a"], &text, &[], &[])?;
         assert_eq!(rt; got, status, "at {length}");
         assert_eq!(rt; written.as_slice(), want.as_bytes(), "at {length}");
@@ -487,7 +467,7 @@ fn terms_are_evaluated(rt: HostRuntime) -> Result<(), Fail> {
     for (words, status, want) in VALUES {
         let mut all = Vec::from_slice(alloc, &["eval", "a"])?;
         all.extend_from_slice(words)?;
-        expect(&rt, alloc, &all, TREES, status, want)?;
+        expect(&rt, alloc, &all, FUNCTIONS, status, want)?;
     }
     Ok(())
 }
@@ -496,11 +476,8 @@ fn terms_are_evaluated(rt: HostRuntime) -> Result<(), Fail> {
 #[test]
 fn terms_are_refused(rt: HostRuntime) -> Result<(), Fail> {
     let alloc = rt.alloc();
-    let mut deep = String::from_str(alloc, "")?;
-    for _ in 0..64 {
-        deep.push_str("succ(")?;
-    }
-    deep.push_str("zero")?;
+    let above = "succ(".repeat(alloc, 64)?;
+    let deep = format!(in alloc; "{above}zero")?;
     let rows = [
         ("", "syntax at 0"),
         ("plus(zero", "syntax at 9"),
@@ -526,43 +503,49 @@ fn terms_are_refused(rt: HostRuntime) -> Result<(), Fail> {
 
 /// Words that are no command: a number too small or too large, eight digits, no digits, an option
 /// that is given twice or isn't known, and words that are missing or too many.
+const NO_COMMANDS: [&[&str]; 34] = [
+    &[],
+    &["prove"],
+    &["prove", "a", "--depth", "9"],
+    &["refute", "-a"],
+    &["refute", "a", "b"],
+    &["refute", "a", "--depth", "9"],
+    &["refute", "a", "--depth"],
+    &["refute", "a", "--depth", "x"],
+    &["refute", "a", "--depth", "-1"],
+    &["refute", "a", "--depth=1"],
+    &["refute", "a", "--tries", "0"],
+    &["refute", "a", "--tries", "1000001"],
+    &["refute", "a", "--steps", "0"],
+    &["refute", "a", "--steps", "2001"],
+    &["refute", "a", "--depth", "1", "--depth", "1"],
+    &[
+        "refute", "a", "--depth", "1", "--steps", "1", "--depth", "2",
+    ],
+    &["refute", "a", "--plain", "1"],
+    &["refute", "--depth", "1", "a"],
+    &["refute", "a", "--depth", "1", "b"],
+    &["eval", "a", "b", "--depth", "1"],
+    &["eval"],
+    &["eval", "a"],
+    &["eval", "a", "b", "--steps"],
+    &["eval", "a", "b", "--steps", "0"],
+    &["eval", "a", "b", "--steps", "2001"],
+    &["eval", "a", "b", "--steps", "12345678"],
+    &["eval", "a", "b", "--steps", "00000001"],
+    &["eval", "a", "b", "--steps", "x"],
+    &["eval", "a", "b", "--steps", "+1"],
+    &["eval", "a", "b", "--steps", ""],
+    &["eval", "-a", "b"],
+    &["eval", "a", "-b"],
+    &["eval", "a", "b", "--steps", "1", "--steps", "1"],
+    &["eval", "a", "b", "c"],
+];
+
 #[test]
 fn words_are_checked(rt: HostRuntime) -> Result<(), Fail> {
     let alloc = rt.alloc();
-    let rows: [&[&str]; 29] = [
-        &["refute", "a", "--depth", "9"],
-        &["refute", "a", "--depth"],
-        &["refute", "a", "--depth", "x"],
-        &["refute", "a", "--depth", "-1"],
-        &["refute", "a", "--depth=1"],
-        &["refute", "a", "--tries", "0"],
-        &["refute", "a", "--tries", "1000001"],
-        &["refute", "a", "--steps", "0"],
-        &["refute", "a", "--steps", "2001"],
-        &["refute", "a", "--depth", "1", "--depth", "1"],
-        &[
-            "refute", "a", "--depth", "1", "--steps", "1", "--depth", "2",
-        ],
-        &["refute", "a", "--plain", "1"],
-        &["refute", "--depth", "1", "a"],
-        &["refute", "a", "--depth", "1", "b"],
-        &["eval", "a", "b", "--depth", "1"],
-        &["eval"],
-        &["eval", "a"],
-        &["eval", "a", "b", "--steps"],
-        &["eval", "a", "b", "--steps", "0"],
-        &["eval", "a", "b", "--steps", "2001"],
-        &["eval", "a", "b", "--steps", "12345678"],
-        &["eval", "a", "b", "--steps", "00000001"],
-        &["eval", "a", "b", "--steps", "x"],
-        &["eval", "a", "b", "--steps", "+1"],
-        &["eval", "a", "b", "--steps", ""],
-        &["eval", "-a", "b"],
-        &["eval", "a", "-b"],
-        &["eval", "a", "b", "--steps", "1", "--steps", "1"],
-        &["eval", "a", "b", "c"],
-    ];
-    for words in rows {
+    for words in NO_COMMANDS {
         expect(&rt, alloc, words, NATURALS, Status::Usage, USAGE)?;
     }
     Ok(())

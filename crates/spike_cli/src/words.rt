@@ -1,4 +1,5 @@
-ghost use Rattle.std.specs.Prelude.{◌≡◌, ◌↔◌, ◌∷◌, ℕ, IsTrue, MatchOption, codes, map, string_bytes};
+ghost use Rattle.std.specs.Prelude.{◌≡◌, ◌↔◌, ◌∷◌, ℕ, IsTrue, MatchOption, codes, map};
+ghost use Rattle.std.specs.Prelude.{string_bytes};
 ghost use Rattle.spike_cli.specs.Words.{BeginsWithDash, AreBounds, AreSteps};
 ghost use Rattle.spike_cli.specs.Commands.{IsAsked, file_of};
 
@@ -94,7 +95,9 @@ fn eval_command(rest: &[String]) -> Option<Command<'_>>
 
 /// How far the options of `refute` let the search go.
 fn bounds_of(options: &[String]) -> Option<SearchBounds>
-    ensures { MatchOption result ((bounds : SearchBounds) → AreBounds (map string_bytes options.now) bounds → ⊥) (AreBounds (map string_bytes options.now)) }
+    ensures { MatchOption result
+        ((bounds : SearchBounds) → AreBounds (map string_bytes options.now) bounds → ⊥)
+        (AreBounds (map string_bytes options.now)) }
 {
     let known = [
         NumberOption::Depth,
@@ -113,7 +116,9 @@ fn bounds_of(options: &[String]) -> Option<SearchBounds>
 
 /// The steps that the options of `eval` allow.
 fn steps_of(options: &[String]) -> Option<u32>
-    ensures { MatchOption result ((steps : ℕ) → AreSteps (map string_bytes options.now) steps → ⊥) (AreSteps (map string_bytes options.now)) }
+    ensures { MatchOption result
+        ((steps : ℕ) → AreSteps (map string_bytes options.now) steps → ⊥)
+        (AreSteps (map string_bytes options.now)) }
 {
     if !are_options(&[NumberOption::Steps], options) {
         return None;

@@ -1,7 +1,7 @@
 use Rattle.std.proofs.Common.{◌≡◌, ◌++◌}
 use Rattle.std.specs.Slice.Iter.{iter_rest}
 use Rattle.std.specs.Iterator.Adapters.{zip_first, zip_second}
-use Rattle.spike_cli.specs.Numbers.{named}
+use Rattle.spike_cli.specs.Claims.{named}
 use Rattle.spike_cli.proofs.claims.named_values.Given as goal
 
 abbrev pub invariant-loop-var : goal.invariant-loop-var

@@ -7,7 +7,7 @@ use Rattle.io_core.specs.Piece.{Appended}
 use Rattle.spec_core.specs.declared.records.Goal.{Goal}
 use Rattle.spike_cli.specs.declared.claims.Claim.{Claim}
 use Rattle.spike_cli.specs.Claims.{IsClaimOn, AreClaims, AreFirstClaims, IsStatusOfClaims}
-use Rattle.spike_cli.specs.Texts.{claim_text, header_text, begun_text}
+use Rattle.spike_cli.specs.ReportTexts.{claim_text, header_text, begun_text}
 use Rattle.spike_cli.specs.Reports.{BeginsReport, begun, whole}
 use Rattle.spike_cli.specs.Words.{refuting}
 use Rattle.spike_cli.specs.Stops.{Finishes, stop_of}

@@ -2,7 +2,7 @@ use Rattle.std.proofs.Common.{◌≤◌, List, take}
 use Rattle.io_core.specs.Piece.{Appended}
 use Rattle.spike_cli.specs.declared.claims.Claim.{Claim}
 use Rattle.spike_cli.specs.Claims.{AreClaims, IsStatusOfClaims}
-use Rattle.spike_cli.specs.Texts.{begun_text}
+use Rattle.spike_cli.specs.ReportTexts.{begun_text}
 use Rattle.spike_cli.proofs.refuting.refute.Given as goal
 
 -- the claims so far are on the goals so far, and their report was begun

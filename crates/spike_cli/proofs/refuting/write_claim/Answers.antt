@@ -1,7 +1,7 @@
 use Rattle.std.proofs.Common.{◌≡◌, ◌∙◌, List, ℕ}
 use Rattle.spike_cli.specs.declared.claims.Claim.{Claim}
 use Rattle.spike_cli.specs.Claims.{IsClaimOn}
-use Rattle.spike_cli.specs.Texts.{claim_text}
+use Rattle.spike_cli.specs.ReportTexts.{claim_text}
 use Rattle.spike_cli.specs.Stops.{WritesClaim, stop_of}
 use Rattle.spike_cli.proofs.ClaimLemmas.{claim_printable}
 use Rattle.spike_cli.proofs.Pieces.{piece_stopped, at_error}

@@ -1,6 +1,6 @@
 use Rattle.std.proofs.Common.{◌≡◌, ◌++◌, drop}
 use Rattle.std.specs.List.{flat_map}
-use Rattle.spike_cli.specs.Texts.{value_line}
+use Rattle.spike_cli.specs.ReportTexts.{value_line}
 use Rattle.spike_cli.specs.Ranges.{ArePrintable}
 use Rattle.spike_cli.proofs.reports.append_values.Given as goal
 

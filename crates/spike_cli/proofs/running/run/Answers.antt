@@ -3,7 +3,8 @@ use Rattle.std.specs.Prelude.{Err, IfSome, ◌<◌, length, string_bytes}
 use Rattle.spike_cli.specs.Commands.{file_of, task_of}
 use Rattle.spike_cli.specs.declared.statuses.Status.TheVariants.{Refused, Usage}
 use Rattle.spike_cli.specs.Refusals.{too_long_line}
-use Rattle.spike_cli.specs.Runs.{IsTooLong, usage, too_long, usage_line, file_limit}
+use Rattle.spike_cli.specs.Runs.{IsTooLong, usage, too_long, usage_line}
+use Rattle.spec_grammar.specs.declared.limits.TheConstants.{MAX_FILE_BYTES}
 use Rattle.spike_cli.specs.Stops.{MeansFor}
 use Rattle.spike_cli.proofs.Endings.{line_means, file_means}
 use Rattle.spike_cli.proofs.running.run.Goals as goal
@@ -23,5 +24,5 @@ pub returns-in-Err-TooLong-clause-means : goal.returns-in-Err-TooLong-clause-mea
 returns-in-Err-TooLong-clause-means g c =
     let e = c.write_all.ensures in
     let long = c.in-Err-TooLong.ensures.too_long (ap (λ e. Err e) c.in-Err-TooLong.field-0-is) in
-    let is : IsTooLong (map string_bytes c.args.words.now) (g.F.Files.held c.args.files.now) = (file_of c.in-Some.command, task_of c.in-Some.command, c.in-Some.ensures, subst (λ (f : List ℕ). IfSome (g.F.Files.held c.args.files.now f) (λ told. file_limit < length told)) c.file.ensures long) in
+    let is : IsTooLong (map string_bytes c.args.words.now) (g.F.Files.held c.args.files.now) = (file_of c.in-Some.command, task_of c.in-Some.command, c.in-Some.ensures, subst (λ (f : List ℕ). IfSome (g.F.Files.held c.args.files.now f) (λ told. MAX_FILE_BYTES < length told)) c.file.ensures long) in
     line_means (map string_bytes c.args.words.now) (g.F.Files.held c.args.files.now) _ _ _ _ _ _ Refused c.ended-in-Err-TooLong.result too_long_line (too_long is) (λ a. inl (is, a)) c.write_all.result e.appended e.prefix e.failed c.ended-in-Err-TooLong.ensures

@@ -1,6 +1,7 @@
 use Rattle.std.proofs.Common.{◌≡◌, ℕ, ◌∷◌, refl, inl, ap, sym, ◌∙◌, subst, map, false, true}
 use Rattle.std.specs.Prelude.{string_bytes, MatchOption}
 use Rattle.std.specs.Bool.{MatchBool}
+use Rattle.spike_cli.specs.declared.options.Numbers.{Numbers}
 use Rattle.spike_cli.specs.Numbers.{name_of}
 use Rattle.spike_cli.specs.Options.{IsNumberOf, IsAbsent, HasNumber}
 use Rattle.spike_cli.proofs.OptionLemmas.{not_true, no_options, no_single_word, begins, number_also, number_behind, number_here, only_number, found_behind, found_here}
@@ -9,7 +10,7 @@ use Rattle.spike_cli.proofs.options.NumberOption.+among.Goals as goal
 pub returns-in_default : goal.returns-in_default
 returns-in_default t c options e =
     let none = no_options options (sym (ap (map string_bytes) c.in_default.ensures) ∙ e) in
-    subst (λ os. HasNumber c.args.self os c.usual.result) (sym none) (inl (tt, c.usual.ensures))
+    subst (λ os. HasNumber c.args.self os c.numbers.result.usual) (sym none) (inl (tt, ap (λ (numbers : Numbers). numbers.usual) c.numbers.ensures))
 
 pub returns-in_default-front : goal.returns-in_default-front
 returns-in_default-front t c options e =

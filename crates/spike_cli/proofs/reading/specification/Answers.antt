@@ -6,7 +6,7 @@ use Rattle.sort_check.specs.FirstFault.{HasFirstFault}
 use Rattle.spike_cli.specs.declared.refusals.Subject.TheVariants.{File}
 use Rattle.sort_check.proofs.FewDeclarations.{few_declarations}
 use Rattle.spike_cli.proofs.Told.{syntax_told, sort_told}
-use Rattle.spike_cli.proofs.texts.specification.Goals as goal
+use Rattle.spike_cli.proofs.reading.specification.Goals as goal
 
 pub elaborate-requires : goal.elaborate-requires
 elaborate-requires c = record { few = few_declarations c.in-Ok.raw (keeps_limits c.args.bytes.now c.in-Ok.raw c.in-Ok.ensures.derived) }
