@@ -1,0 +1,20 @@
+ghost use Rattle.std.specs.Prelude.{◌≤◌, IsTrue};
+ghost use Rattle.term_core.specs.Tree.{Tree, tree_size};
+ghost use Rattle.path_order.specs.Laws.{IsTermOrder};
+
+use term_core::Term;
+
+/// An order on terms, with its test.
+pub trait TermOrder {
+    /// `above o t s`: t is above s.
+    ghost above: { Self → Tree → Tree → Type 0 };
+
+    /// Whether `t` is above `s`. Of larger terms it may say no where it is.
+    fn greater(&self, t: &Term, s: &Term) -> bool
+        ensures sound { IsTrue result → above self.now t.now s.now }
+        ensures complete { tree_size t.now ≤ 4294967295 → tree_size s.now ≤ 4294967295 →
+            above self.now t.now s.now → IsTrue result };
+
+    /// What is above is kept by substitutions, parts and contexts.
+    ghost laws: { (o : Self) → IsTermOrder (above o) };
+}
