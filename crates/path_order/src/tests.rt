@@ -98,7 +98,7 @@ fn compares_parts(rt: HostRuntime) -> Result<(), Fail> {
 }
 
 /// By hand; the sum of a successor is the rule of Peano, and the product of a sum the rule of
-/// distribution in Dershowitz 1982.
+/// distribution.
 #[test]
 fn compares_heads(rt: HostRuntime) -> Result<(), Fail> {
     let a = rt.alloc();
@@ -168,8 +168,8 @@ fn compares_arguments(rt: HostRuntime) -> Result<(), Fail> {
     Ok(())
 }
 
-/// The rules of associativity, of the inverse of a product and of Ackermann's function, as in
-/// Baader and Nipkow 1998: each left side is above its right side.
+/// The rules of associativity, of the inverse of a product and of Ackermann's function, by hand:
+/// each left side is above its right side.
 #[test]
 fn compares_rules(rt: HostRuntime) -> Result<(), Fail> {
     let a = rt.alloc();
