@@ -14,5 +14,4 @@ pub mod Symbols
 pub mod Deciding
 pub mod NamedValues
 pub mod Matrices
-pub mod Samples
 mod LeftSides

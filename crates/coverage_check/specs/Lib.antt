@@ -14,5 +14,3 @@ pub mod GroupTree
 pub mod Columns
 pub mod Decisions
 pub mod GuardLists
--- What tests speak of.
-pub mod Samples

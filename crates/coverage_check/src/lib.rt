@@ -17,8 +17,6 @@ mod left_sides;
 mod naming;
 mod openings;
 mod rows;
-#[cfg(test)]
-mod tests;
 
 pub use answers::{Coverage, Tree};
 pub use coverage::covers;

@@ -12,5 +12,3 @@ pub mod Calls
 pub mod Falls
 pub mod Walks
 pub mod Same
--- What the tests evaluate.
-pub mod Samples

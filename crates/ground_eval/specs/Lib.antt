@@ -10,5 +10,3 @@ pub mod Arguments
 pub mod Choices
 pub mod Room
 pub mod Sides
--- What the tests evaluate.
-pub mod Samples

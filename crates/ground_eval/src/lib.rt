@@ -14,8 +14,6 @@ mod groups;
 mod index;
 mod laws;
 mod matching;
-#[cfg(test)]
-mod tests;
 mod verdicts;
 
 pub use answers::Eval;

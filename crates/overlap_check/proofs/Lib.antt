@@ -1,4 +1,4 @@
-mod Counting
+pub mod Counting
 mod Instances
 mod Constructors
 mod SmallEntries
@@ -10,4 +10,3 @@ mod OneNaming
 mod OneAnswer
 mod LinearSums
 mod OverlappingSums
-mod SampleRules

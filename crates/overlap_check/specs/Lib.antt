@@ -14,5 +14,3 @@ pub mod Examples
 pub mod Occurrences
 pub mod Clashes
 pub mod Searches
--- What the tests check.
-pub mod Samples

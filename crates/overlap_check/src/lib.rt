@@ -11,8 +11,6 @@ mod common_values;
 mod laws;
 mod linearity;
 mod overlaps;
-#[cfg(test)]
-mod tests;
 
 pub use answers::{Linear, Overlap};
 pub use laws::{both_overlap, one_answer, one_naming, worked_examples};

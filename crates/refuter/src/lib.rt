@@ -9,15 +9,9 @@
 #![tactic(auto)]
 
 mod answers;
-#[cfg(test)]
-mod comparing;
 mod fewest;
-#[cfg(test)]
-mod lists;
 mod odometer;
 mod searching;
-#[cfg(test)]
-mod tests;
 
 pub use answers::Search;
 pub use searching::search;

@@ -8,8 +8,6 @@
 
 mod laws;
 mod printing;
-#[cfg(test)]
-mod tests;
 
 pub use laws::printed_examples;
 pub use printing::print;

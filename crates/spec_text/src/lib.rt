@@ -12,8 +12,6 @@ mod characters;
 mod laws;
 mod names;
 mod scanner;
-#[cfg(test)]
-mod tests;
 mod tokens;
 
 pub use laws::{one_list, spans, worked_examples, written_scans};

@@ -9,8 +9,6 @@
 
 mod laws;
 mod subst;
-#[cfg(test)]
-mod tests;
 
 pub use laws::{instances_keep_sorts, worked_examples};
 pub use subst::Subst;

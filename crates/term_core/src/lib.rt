@@ -13,8 +13,6 @@ mod memory;
 mod names;
 mod places;
 mod references;
-#[cfg(test)]
-mod tests;
 mod tree;
 mod variables;
 

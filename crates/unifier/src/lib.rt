@@ -11,8 +11,6 @@
 mod laws;
 mod matching;
 mod shifting;
-#[cfg(test)]
-mod tests;
 mod unification;
 
 pub use laws::{shifted_are_apart, worked_examples};

@@ -8,8 +8,6 @@ use std::alloc::Global;
 use substitutions::Subst;
 use term_core::{Node, OutOfMemory, Term, VarId, front};
 
-#[cfg(test)]
-mod tests;
 
 /// The substitution of the pattern's variables that makes it the term, or None where none does. A
 /// variable that occurs twice in the pattern must meet the same tree. Each bound term is copied

@@ -6,8 +6,6 @@ mod answer;
 mod closure;
 mod graph;
 mod occurs;
-#[cfg(test)]
-mod tests;
 
 use answer::entries;
 use closure::close;

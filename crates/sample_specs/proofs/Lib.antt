@@ -1,4 +1,0 @@
-mod Shared
-pub mod SortedComparison
-pub mod SortedLists
-pub mod SortedInsertion

@@ -1,6 +1,0 @@
-use Rattle.sample_specs.proofs.SortedComparison.{naturals_declared}
-use Rattle.sample_specs.proofs.adding.naturals_signature.Goals as goal
-
-pub signature_of-requires-clause-declarations : goal.signature_of-requires-clause-declarations
-signature_of-requires-clause-declarations c =
-    rw (c.in_ok-nat_sort.ensures, c.in_ok-constructors.ensures, c.in_ok-functions.ensures) naturals_declared
