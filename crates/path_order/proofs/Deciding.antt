@@ -12,35 +12,45 @@ use Rattle.path_order.specs.declared.path.Standing.{Standing}
 use Rattle.path_order.specs.declared.path.Standing.TheVariants.{Same, Greater, Neither}
 use Rattle.path_order.specs.Above.{Above, SomeReaches, AboveAll, Falls, by_argument, by_head, by_arguments, this_is, this_above, later, all_none, all_some, here, further}
 use Rattle.path_order.specs.Standing.{Stands, HaveOneHead}
-use Rattle.path_order.specs.Each.{Each, each-map, each-before, each-at, each-after}
+use Rattle.path_order.specs.Each.{each-map, each-before, each-at, each-after}
 use Rattle.path_order.specs.Irreflexive.{each-above, arguments-above, Reaches, reaches-arguments, irreflexive, unreached, same-arguments, same-symbol, same-first, same-rest}
 use Rattle.path_order.specs.InOneContext.{behind-reaches, falls-around, reach-cases}
 
 -- answers of a comparison
 pub is_greater : (t s : Tree) (r : Standing) → Stands t s r → (r ≡ Greater) ↔ Above t s
-is_greater t s Same e = (λ q. absurd (let p : Same ≡ Greater = q in cc), λ a. absurd (irreflexive t (subst (λ x. Above t x) (sym e) a)))
+is_greater t s Same e =
+    (λ q. absurd (let p : Same ≡ Greater = q in cc), λ a. absurd (irreflexive t (subst (λ x. Above t x) (sym e) a)))
 is_greater t s Greater a = (λ q. a, λ q. refl)
 is_greater t s Neither n = (λ q. absurd (let p : Neither ≡ Greater = q in cc), λ a. absurd (n.1 a))
 
 pub is_not_neither : (t s : Tree) (r : Standing) → Stands t s r → (r ≢ Neither) ↔ Reaches t s
 is_not_neither t s Same e = (λ q. inl e, λ q p. let w : Same ≡ Neither = p in cc)
 is_not_neither t s Greater a = (λ q. inr a, λ q p. let w : Greater ≡ Neither = p in cc)
-is_not_neither t s Neither n = (λ q. absurd (q refl), λ q. absurd (elim q [ inl e ↦ n.0 e | inr a ↦ n.1 a ]))
+is_not_neither t s Neither n =
+    (λ q. absurd (q refl), λ q. absurd (elim q [ inl e ↦ n.0 e | inr a ↦ n.1 a ]))
 
-stands_by : (t s : Tree) (b : Bool) → IsTrue b ↔ Above t s → t ≢ s → Stands t s (if b then Greater else Neither)
+stands_by :
+    (t s : Tree) (b : Bool) → IsTrue b ↔ Above t s → t ≢ s →
+    Stands t s (if b then Greater else Neither)
 stands_by t s true h n = h.0 refl
 stands_by t s false h n = (n, λ a. false≢true (h.1 a))
 
-pub stands : (t s : Tree) (b : Bool) (r : Standing) → r ≡ (if b then Greater else Neither) → IsTrue b ↔ Above t s → t ≢ s → Stands t s r
+pub stands :
+    (t s : Tree) (b : Bool) (r : Standing) → r ≡ (if b then Greater else Neither) →
+    IsTrue b ↔ Above t s → t ≢ s → Stands t s r
 stands t s b r e h n = subst (λ x. Stands t s x) (sym e) (stands_by t s b h n)
 
 -- a test for an answer
-pub greater_test : (t s : Tree) (b : Bool) (r : Standing) → IsTrue b ↔ (r ≡ Greater) → Stands t s r → IsTrue b ↔ Above t s
+pub greater_test :
+    (t s : Tree) (b : Bool) (r : Standing) → IsTrue b ↔ (r ≡ Greater) → Stands t s r →
+    IsTrue b ↔ Above t s
 greater_test t s b r h g =
     let k = is_greater t s r g in
     (λ q. k.0 (h.0 q), λ a. h.1 (k.1 a))
 
-pub neither_test : (t s : Tree) (b : Bool) (r : Standing) → IsTrue b ↔ (r ≢ Neither) → Stands t s r → IsTrue b ↔ Reaches t s
+pub neither_test :
+    (t s : Tree) (b : Bool) (r : Standing) → IsTrue b ↔ (r ≢ Neither) → Stands t s r →
+    IsTrue b ↔ Reaches t s
 neither_test t s b r h g =
     let k = is_not_neither t s r g in
     (λ q. k.0 (h.0 q), λ a. h.1 (k.1 a))
@@ -58,13 +68,17 @@ reach-first : (t s : Tree) (ts : Trees) → Reaches t s → SomeReaches (some t 
 reach-first t s ts (inl e) = subst (λ x. SomeReaches (some t ts) x) e this_is
 reach-first t s ts (inr a) = this_above a
 
-pub all-front : (t : Tree) (ss : List Tree) (x : Tree) → 1 ≤ length ss → x ≡ get_or ss 0 x → AboveAll t (trees_of ss) ↔ (Above t x × AboveAll t (trees_of (take (length ss - 1) (drop 1 ss))))
+pub all-front :
+    (t : Tree) (ss : List Tree) (x : Tree) → 1 ≤ length ss → x ≡ get_or ss 0 x →
+    AboveAll t (trees_of ss) ↔ (Above t x × AboveAll t (trees_of (take (length ss - 1) (drop 1 ss))))
 all-front t ss x l e =
     let rest : Trees = trees_of (take (length ss - 1) (drop 1 ss)) in
     let p : trees_of ss ≡ some x rest = ap trees_of (slice_front ss x l e) in
     (λ a. all-parts (subst (λ us. AboveAll t us) p a), λ a. subst (λ us. AboveAll t us) (sym p) (all_some a.0 a.1))
 
-pub some-front : (ts : List Tree) (s x : Tree) → 1 ≤ length ts → x ≡ get_or ts 0 x → SomeReaches (trees_of ts) s ↔ (Reaches x s ⊎ SomeReaches (trees_of (take (length ts - 1) (drop 1 ts))) s)
+pub some-front :
+    (ts : List Tree) (s x : Tree) → 1 ≤ length ts → x ≡ get_or ts 0 x →
+    SomeReaches (trees_of ts) s ↔ (Reaches x s ⊎ SomeReaches (trees_of (take (length ts - 1) (drop 1 ts))) s)
 some-front ts s x l e =
     let rest : Trees = trees_of (take (length ts - 1) (drop 1 ts)) in
     let p : trees_of ts ≡ some x rest = ap trees_of (slice_front ts x l e) in
@@ -85,7 +99,10 @@ length-trees ts = ap (λ us. length us) (list_of-trees_of ts)
 pub only-argument : {f x : ℕ} {ts : Trees} → Above (app f ts) (var x) → SomeReaches ts (var x)
 only-argument (by_argument r) = r
 
-pub variable : (t s : Tree) (f x : ℕ) (ts : List Tree) (b : Bool) (r : Standing) → app f (trees_of ts) ≡ t → var x ≡ s → IsTrue b ↔ SomeReaches (trees_of ts) s → r ≡ (if b then Greater else Neither) → Stands t s r
+pub variable :
+    (t s : Tree) (f x : ℕ) (ts : List Tree) (b : Bool) (r : Standing) → app f (trees_of ts) ≡ t →
+    var x ≡ s → IsTrue b ↔ SomeReaches (trees_of ts) s → r ≡ (if b then Greater else Neither) →
+    Stands t s r
 variable t s f x ts b r p q h e =
     let u = app f (trees_of ts) in
     let g : IsTrue b ↔ Above u (var x) = (λ a. by_argument (subst (λ z. SomeReaches (trees_of ts) z) (sym q) (h.0 a)), λ a. h.1 (subst (λ z. SomeReaches (trees_of ts) z) q (only-argument a))) in
@@ -93,7 +110,10 @@ variable t s f x ts b r p q h e =
     subst (λ z. Stands z s r) p (subst (λ z. Stands u z r) q (stands u (var x) b r e g apart))
 
 -- the head of s is smaller: only its arguments count
-pub smaller-head : (t s : Tree) (f g : ℕ) (ts ss : List Tree) (b : Bool) (r : Standing) → app f (trees_of ts) ≡ t → app g (trees_of ss) ≡ s → g < f → IsTrue b ↔ AboveAll t (trees_of ss) → r ≡ (if b then Greater else Neither) → Stands t s r
+pub smaller-head :
+    (t s : Tree) (f g : ℕ) (ts ss : List Tree) (b : Bool) (r : Standing) → app f (trees_of ts) ≡ t →
+    app g (trees_of ss) ≡ s → g < f → IsTrue b ↔ AboveAll t (trees_of ss) →
+    r ≡ (if b then Greater else Neither) → Stands t s r
 smaller-head t s f g ts ss b r p q l h e =
     let u = app f (trees_of ts) in
     let v = app g (trees_of ss) in
@@ -107,12 +127,17 @@ falls-length (here e p a) = omega (arith, e)
 falls-length (further w) = omega (arith, falls-length w)
 
 -- the heads differ otherwise, or the numbers of arguments: only the first case is left
-other-case : {f g : ℕ} {ts ss : Trees} → Above (app f ts) (app g ss) → (g < f → ⊥) → (f ≡ g → length (list_of ts) ≡ length (list_of ss) → ⊥) → SomeReaches ts (app g ss)
+other-case :
+    {f g : ℕ} {ts ss : Trees} → Above (app f ts) (app g ss) → (g < f → ⊥) →
+    (f ≡ g → length (list_of ts) ≡ length (list_of ss) → ⊥) → SomeReaches ts (app g ss)
 other-case (by_argument r) h n = r
 other-case (by_head l a) h n = absurd (h l)
 other-case (by_arguments w) h n = absurd (n refl (falls-length w))
 
-pub other-head : (t s : Tree) (f g : ℕ) (ts ss : List Tree) (b : Bool) (r : Standing) → app f (trees_of ts) ≡ t → app g (trees_of ss) ≡ s → (g < f → ⊥) → (f ≡ g → length ts ≡ length ss → ⊥) → IsTrue b ↔ SomeReaches (trees_of ts) s → r ≡ (if b then Greater else Neither) → Stands t s r
+pub other-head :
+    (t s : Tree) (f g : ℕ) (ts ss : List Tree) (b : Bool) (r : Standing) → app f (trees_of ts) ≡ t →
+    app g (trees_of ss) ≡ s → (g < f → ⊥) → (f ≡ g → length ts ≡ length ss → ⊥) →
+    IsTrue b ↔ SomeReaches (trees_of ts) s → r ≡ (if b then Greater else Neither) → Stands t s r
 other-head t s f g ts ss b r p q l n h e =
     let u = app f (trees_of ts) in
     let v = app g (trees_of ss) in
@@ -123,32 +148,48 @@ other-head t s f g ts ss b r p q l n h e =
     subst (λ z. Stands z s r) p (subst (λ z. Stands u z r) q (stands u v b r e k apart))
 
 -- one head, and a place before which the arguments are the same
-trees-around : (before : List Tree) (a : Tree) (after : List Tree) → trees_of (before ++ a ∷ after) ≡ around (trees_of before) a (trees_of after)
+trees-around :
+    (before : List Tree) (a : Tree) (after : List Tree) →
+    trees_of (before ++ a ∷ after) ≡ around (trees_of before) a (trees_of after)
 trees-around [] a after = refl
 trees-around (b ∷ before) a after = ap (λ x. some b x) (trees-around before a after)
 
-place-of : (ts : List Tree) (i : ℕ) (x : Tree) → i < length ts → x ≡ get_or ts i x → trees_of ts ≡ around (trees_of (take i ts)) x (trees_of (drop (i + 1) ts))
+place-of :
+    (ts : List Tree) (i : ℕ) (x : Tree) → i < length ts → x ≡ get_or ts i x →
+    trees_of ts ≡ around (trees_of (take i ts)) x (trees_of (drop (i + 1) ts))
 place-of ts i x l e =
     ap trees_of (sym (parted_at ts i x l e)) ∙ ap (λ k. trees_of (take i ts ++ x ∷ drop k ts)) (let k : suc i ≡ i + 1 = omega arith in k) ∙ trees-around (take i ts) x (drop (i + 1) ts)
 
-place-differs : {t : Tree} {us vs : Trees} → Falls t us vs → (before : Trees) (a b : Tree) (ts ss : Trees) → us ≡ around before a ts → vs ≡ around before b ss → a ≢ b → Above a b
-place-differs (here {a = c} {b = d} e p q) none a b ts ss x y n = subst (λ z. Above z b) (same-first x) (subst (λ z. Above c z) (same-first y) p)
+place-differs :
+    {t : Tree} {us vs : Trees} → Falls t us vs → (before : Trees) (a b : Tree) (ts ss : Trees) →
+    us ≡ around before a ts → vs ≡ around before b ss → a ≢ b → Above a b
+place-differs (here {a = c} {b = d} e p q) none a b ts ss x y n =
+    subst (λ z. Above z b) (same-first x) (subst (λ z. Above c z) (same-first y) p)
 place-differs (further w) none a b ts ss x y n = absurd (n (sym (same-first x) ∙ same-first y))
-place-differs (here {a = c} {b = d} e p q) (some u before) a b ts ss x y n = absurd (irreflexive u (subst (λ z. Above z u) (same-first x) (subst (λ z. Above c z) (same-first y) p)))
-place-differs (further w) (some u before) a b ts ss x y n = place-differs w before a b ts ss (same-rest x) (same-rest y) n
+place-differs (here {a = c} {b = d} e p q) (some u before) a b ts ss x y n =
+    absurd (irreflexive u (subst (λ z. Above z u) (same-first x) (subst (λ z. Above c z) (same-first y) p)))
+place-differs (further w) (some u before) a b ts ss x y n =
+    place-differs w before a b ts ss (same-rest x) (same-rest y) n
 
-around-differ : (before : Trees) (a b : Tree) (ts ss : Trees) → around before a ts ≡ around before b ss → a ≡ b
+around-differ :
+    (before : Trees) (a b : Tree) (ts ss : Trees) → around before a ts ≡ around before b ss → a ≡ b
 around-differ none a b ts ss e = same-first e
 around-differ (some u before) a b ts ss e = around-differ before a b ts ss (same-rest e)
 
 -- where the arguments there fall, t is above each later argument of s; where they don't, a later one of t reaches s
-pub place-falls : (f : ℕ) (before : Trees) (a b : Tree) (ts ss : Trees) → length (list_of ts) ≡ length (list_of ss) → Above a b → Above (app f (around before a ts)) (app f (around before b ss)) ↔ AboveAll (app f (around before a ts)) ss
+pub place-falls :
+    (f : ℕ) (before : Trees) (a b : Tree) (ts ss : Trees) →
+    length (list_of ts) ≡ length (list_of ss) → Above a b →
+    Above (app f (around before a ts)) (app f (around before b ss)) ↔ AboveAll (app f (around before a ts)) ss
 place-falls f before a b ts ss e p = (
   λ q. each-above (app f (around before a ts)) ss (each-after (Above (app f (around before a ts))) before b ss (arguments-above q)),
   λ q. by_arguments (falls-around (app f (around before a ts)) before a b ts ss e p q),
 )
 
-pub later-only : (f : ℕ) (before : Trees) (a b : Tree) (ts ss : Trees) → a ≢ b → (Above a b → ⊥) → {t v : Tree} → Above t v → t ≡ app f (around before a ts) → v ≡ app f (around before b ss) → SomeReaches ts (app f (around before b ss))
+pub later-only :
+    (f : ℕ) (before : Trees) (a b : Tree) (ts ss : Trees) → a ≢ b → (Above a b → ⊥) → {t v : Tree} →
+    Above t v → t ≡ app f (around before a ts) → v ≡ app f (around before b ss) →
+    SomeReaches ts (app f (around before b ss))
 later-only f before a b ts ss differ fails {v = v} (by_argument {ts = us} r) x y =
     let all = around before b ss in
     let s = app f all in
@@ -156,23 +197,31 @@ later-only f before a b ts ss differ fails {v = v} (by_argument {ts = us} r) x y
     (each-map (λ u n q. absurd (n q)) before (each-before (λ u. Reaches u s → ⊥) before b ss (unreached f all)))
     (λ q. absurd (fails (each-at (Above a) before b ss (reaches-arguments a f all q))))
     (λ q. q)
-later-only f before a b ts ss differ fails (by_head l q) x y = absurd (omega (arith, l, same-symbol x, same-symbol y))
-later-only f before a b ts ss differ fails (by_arguments w) x y = absurd (fails (place-differs w before a b ts ss (same-arguments x) (same-arguments y) differ))
+later-only f before a b ts ss differ fails (by_head l q) x y =
+    absurd (omega (arith, l, same-symbol x, same-symbol y))
+later-only f before a b ts ss differ fails (by_arguments w) x y =
+    absurd (fails (place-differs w before a b ts ss (same-arguments x) (same-arguments y) differ))
 
 module _ (t s : Tree) (ts ss : List Tree) (one : HaveOneHead t ts s ss) (i : ℕ) (l : i < length ts) (w : take i ts ≡ take i ss) (x y : Tree) (ix : x ≡ get_or ts i x) (iy : y ≡ get_or ss i y) where
   left_is : t ≡ app one.0 (around (trees_of (take i ts)) x (trees_of (drop (i + 1) ts)))
   left_is = one.1 ∙ ap (λ us. app one.0 us) (place-of ts i x l ix)
 
   right_is : s ≡ app one.0 (around (trees_of (take i ts)) y (trees_of (drop (i + 1) ss)))
-  right_is = one.2 ∙ ap (λ us. app one.0 us) (place-of ss i y (omega (arith, l, one.3)) iy ∙ ap (λ us. around (trees_of us) y (trees_of (drop (i + 1) ss))) (sym w))
+  right_is =
+      one.2 ∙ ap (λ us. app one.0 us) (place-of ss i y (omega (arith, l, one.3)) iy ∙ ap (λ us. around (trees_of us) y (trees_of (drop (i + 1) ss))) (sym w))
 
   rests : length (list_of (trees_of (drop (i + 1) ts))) ≡ length (list_of (trees_of (drop (i + 1) ss)))
-  rests = omega (arith, one.3, length-trees (drop (i + 1) ts), length-trees (drop (i + 1) ss), length-drop (i + 1) ts, length-drop (i + 1) ss)
+  rests =
+      omega (arith, one.3, length-trees (drop (i + 1) ts), length-trees (drop (i + 1) ss), length-drop (i + 1) ts, length-drop (i + 1) ss)
 
   apart : x ≢ y → t ≢ s
-  apart n same = n (around-differ (trees_of (take i ts)) x y (trees_of (drop (i + 1) ts)) (trees_of (drop (i + 1) ss)) (same-arguments (sym left_is ∙ same ∙ right_is)))
+  apart n same =
+      n (around-differ (trees_of (take i ts)) x y (trees_of (drop (i + 1) ts)) (trees_of (drop (i + 1) ss)) (same-arguments (sym left_is ∙ same ∙ right_is)))
 
-  pub at_greater : Above x y → (b : Bool) (r : Standing) → IsTrue b ↔ AboveAll t (trees_of (take (length ss - (i + 1)) (drop (i + 1) ss))) → r ≡ (if b then Greater else Neither) → Stands t s r
+  pub at_greater :
+      Above x y → (b : Bool) (r : Standing) →
+      IsTrue b ↔ AboveAll t (trees_of (take (length ss - (i + 1)) (drop (i + 1) ss))) →
+      r ≡ (if b then Greater else Neither) → Stands t s r
   at_greater a b r h e =
       let later : Trees = trees_of (drop (i + 1) ss) in
       let there : trees_of (take (length ss - (i + 1)) (drop (i + 1) ss)) ≡ later = ap trees_of (behind ss (i + 1)) in
@@ -181,7 +230,10 @@ module _ (t s : Tree) (ts ss : List Tree) (one : HaveOneHead t ts s ss) (i : ℕ
       let m : IsTrue b ↔ Above t s = (λ q. g.1 (subst (λ us. AboveAll t us) there (h.0 q)), λ q. h.1 (subst (λ us. AboveAll t us) (sym there) (g.0 q))) in
       stands t s b r e m (apart (λ same. irreflexive x (subst (λ z. Above x z) (sym same) a)))
 
-  pub at_neither : x ≢ y → (Above x y → ⊥) → (b : Bool) (r : Standing) → IsTrue b ↔ SomeReaches (trees_of (take (length ts - (i + 1)) (drop (i + 1) ts))) s → r ≡ (if b then Greater else Neither) → Stands t s r
+  pub at_neither :
+      x ≢ y → (Above x y → ⊥) → (b : Bool) (r : Standing) →
+      IsTrue b ↔ SomeReaches (trees_of (take (length ts - (i + 1)) (drop (i + 1) ts))) s →
+      r ≡ (if b then Greater else Neither) → Stands t s r
   at_neither n fails b r h e =
       let later : Trees = trees_of (drop (i + 1) ts) in
       let there : trees_of (take (length ts - (i + 1)) (drop (i + 1) ts)) ≡ later = ap trees_of (behind ts (i + 1)) in
@@ -195,17 +247,24 @@ weight_positive : (t : Tree) → 1 ≤ weight t
 weight_positive (var n) = omega arith
 weight_positive (app f ts) = omega arith
 
-pub list-falls : (xs : List Tree) (i : ℕ) (x : Tree) → i < length xs → x ≡ get_or xs i x → weight x + list_weight (take (length xs - (i + 1)) (drop (i + 1) xs)) < list_weight xs
-list-falls xs i x l e = subst (λ us. weight x + list_weight us < list_weight xs) (sym (behind xs (i + 1))) (falls-there xs i x l e)
+pub list-falls :
+    (xs : List Tree) (i : ℕ) (x : Tree) → i < length xs → x ≡ get_or xs i x →
+    weight x + list_weight (take (length xs - (i + 1)) (drop (i + 1) xs)) < list_weight xs
+list-falls xs i x l e =
+    subst (λ us. weight x + list_weight us < list_weight xs) (sym (behind xs (i + 1))) (falls-there xs i x l e)
   where
-    falls-there : (xs : List Tree) (i : ℕ) (x : Tree) → i < length xs → x ≡ get_or xs i x → weight x + list_weight (drop (i + 1) xs) < list_weight xs
+    falls-there :
+        (xs : List Tree) (i : ℕ) (x : Tree) → i < length xs → x ≡ get_or xs i x →
+        weight x + list_weight (drop (i + 1) xs) < list_weight xs
     falls-there [] i x l e = absurd (omega (arith, l))
     falls-there (y ∷ ys) zero x l e = let w : weight x ≡ weight y = ap (λ t. weight t) e in omega (arith, w)
     falls-there (y ∷ ys) (suc i) x l e =
         let k : suc (i + 1) ≡ suc i + 1 = omega arith in
         subst (λ j. weight x + list_weight (drop j (y ∷ ys)) < list_weight (y ∷ ys)) k (omega (arith, falls-there ys i x (omega (arith, l)) e))
 
-pub head-weight : (t s : Tree) (ts ss : List Tree) → HaveOneHead t ts s ss → (weight t ≡ list_weight ts + 1) × (weight s ≡ list_weight ss + 1)
+pub head-weight :
+    (t s : Tree) (ts ss : List Tree) → HaveOneHead t ts s ss →
+    (weight t ≡ list_weight ts + 1) × (weight s ≡ list_weight ss + 1)
 head-weight t s ts ss one =
     let p : weight t ≡ weight (app one.0 (trees_of ts)) = ap (λ u. weight u) one.1 in
     let q : weight s ≡ weight (app one.0 (trees_of ss)) = ap (λ u. weight u) one.2 in
@@ -215,22 +274,34 @@ pub positive : (t : Tree) → 1 ≤ weight t
 positive t = weight_positive t
 
 -- a test of the first term, and then of the others
-pub all-then : (t : Tree) (ss : List Tree) (x : Tree) (a b : Bool) → 1 ≤ length ss → x ≡ get_or ss 0 x → IsTrue a ↔ Above t x → a ≡ true → IsTrue b ↔ AboveAll t (trees_of (take (length ss - 1) (drop 1 ss))) → IsTrue b ↔ AboveAll t (trees_of ss)
+pub all-then :
+    (t : Tree) (ss : List Tree) (x : Tree) (a b : Bool) → 1 ≤ length ss → x ≡ get_or ss 0 x →
+    IsTrue a ↔ Above t x → a ≡ true →
+    IsTrue b ↔ AboveAll t (trees_of (take (length ss - 1) (drop 1 ss))) →
+    IsTrue b ↔ AboveAll t (trees_of ss)
 all-then t ss x a b l e h is k =
     let f = all-front t ss x l e in
     (λ q. f.1 (h.0 is, k.0 q), λ q. k.1 (f.0 q).1)
 
-pub all-else : (t : Tree) (ss : List Tree) (x : Tree) (a : Bool) → 1 ≤ length ss → x ≡ get_or ss 0 x → IsTrue a ↔ Above t x → a ≡ false → IsTrue a ↔ AboveAll t (trees_of ss)
+pub all-else :
+    (t : Tree) (ss : List Tree) (x : Tree) (a : Bool) → 1 ≤ length ss → x ≡ get_or ss 0 x →
+    IsTrue a ↔ Above t x → a ≡ false → IsTrue a ↔ AboveAll t (trees_of ss)
 all-else t ss x a l e h is =
     let f = all-front t ss x l e in
     (λ q. absurd (false≢true (sym is ∙ q)), λ q. h.1 (f.0 q).0)
 
-pub some-then : (ts : List Tree) (s x : Tree) (a : Bool) → 1 ≤ length ts → x ≡ get_or ts 0 x → IsTrue a ↔ Reaches x s → a ≡ true → IsTrue a ↔ SomeReaches (trees_of ts) s
+pub some-then :
+    (ts : List Tree) (s x : Tree) (a : Bool) → 1 ≤ length ts → x ≡ get_or ts 0 x →
+    IsTrue a ↔ Reaches x s → a ≡ true → IsTrue a ↔ SomeReaches (trees_of ts) s
 some-then ts s x a l e h is =
     let f = some-front ts s x l e in
     (λ q. f.1 (inl (h.0 q)), λ q. is)
 
-pub some-else : (ts : List Tree) (s x : Tree) (a b : Bool) → 1 ≤ length ts → x ≡ get_or ts 0 x → IsTrue a ↔ Reaches x s → a ≡ false → IsTrue b ↔ SomeReaches (trees_of (take (length ts - 1) (drop 1 ts))) s → IsTrue b ↔ SomeReaches (trees_of ts) s
+pub some-else :
+    (ts : List Tree) (s x : Tree) (a b : Bool) → 1 ≤ length ts → x ≡ get_or ts 0 x →
+    IsTrue a ↔ Reaches x s → a ≡ false →
+    IsTrue b ↔ SomeReaches (trees_of (take (length ts - 1) (drop 1 ts))) s →
+    IsTrue b ↔ SomeReaches (trees_of ts) s
 some-else ts s x a b l e h is k =
     let f = some-front ts s x l e in
     (λ q. f.1 (inr (k.0 q)), λ q. elim (f.0 q) [ inl r ↦ absurd (false≢true (sym is ∙ h.1 r)) | inr r ↦ k.1 r ])

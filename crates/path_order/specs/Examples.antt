@@ -1,5 +1,4 @@
 -- What the path ordering says of sums, where zero, succ and plus are the symbols 2, 3 and 4.
-use Rattle.std.specs.Prelude.{ℕ}
 use Rattle.term_core.specs.Tree.{Tree, var, app, none, some}
 use Rattle.path_order.specs.Above.{Above}
 

@@ -1,6 +1,5 @@
 -- No term is above itself, and none is reached by an argument of it.
-use Rattle.std.proofs.Common.{◌≡◌, ◌⊎◌, ℕ, ap, subst, sym, refl, inl, inr, arith}
-use Rattle.std.specs.Prelude.{◌<◌}
+use Rattle.std.proofs.Common.{◌≡◌, ◌⊎◌, ℕ, subst, sym, refl, inl, inr, arith}
 use Rattle.term_core.specs.Tree.{Tree, Trees, var, app, none, some}
 use Rattle.path_order.specs.Above.{Above, SomeReaches, AboveAll, Falls, by_argument, by_head, by_arguments, this_is, this_above, later, all_none, all_some, here, further}
 use Rattle.path_order.specs.Each.{Each, each-map, each-both}
@@ -19,14 +18,16 @@ members-reach (some t ts) = (this_is, each-map (λ s r. later r) ts (members-rea
 
 falls-reach : {t : Tree} {us ss : Trees} → Falls t us ss → Each (λ s. SomeReaches us s ⊎ Above t s) ss
 falls-reach (here {ss = ss} e p a) = (inl (this_above p), each-map (λ s q. inr q) ss (above-each a))
-falls-reach (further {ss = ss} w) = (inl this_is, each-map (λ s c. elim c [ inl q ↦ inl (later q) | inr q ↦ inr q ]) ss (falls-reach w))
+falls-reach (further {ss = ss} w) =
+    (inl this_is, each-map (λ s c. elim c [ inl q ↦ inl (later q) | inr q ↦ inr q ]) ss (falls-reach w))
 
 mutual
   -- a term is above each argument of what it is above
   pub arguments-above : {t : Tree} {g : ℕ} {ss : Trees} → Above t (app g ss) → Each (Above t) ss
   arguments-above {ss = ss} (by_argument r) = each-map (λ s q. by_argument q) ss (arguments-reach r)
   arguments-above (by_head l a) = above-each a
-  arguments-above {ss = ss} (by_arguments w) = each-map (λ s c. elim c [ inl q ↦ by_argument q | inr q ↦ q ]) ss (falls-reach w)
+  arguments-above {ss = ss} (by_arguments w) =
+      each-map (λ s c. elim c [ inl q ↦ by_argument q | inr q ↦ q ]) ss (falls-reach w)
 
   arguments-reach : {ts : Trees} {g : ℕ} {ss : Trees} → SomeReaches ts (app g ss) → Each (SomeReaches ts) ss
   arguments-reach {ss = ss} this_is = each-map (λ s q. this_above (by_argument q)) ss (members-reach ss)
@@ -38,7 +39,8 @@ abbrev pub Reaches : Tree → Tree → Type 0
 Reaches t s = (t ≡ s) ⊎ Above t s
 
 pub reaches-arguments : (t : Tree) (g : ℕ) (ss : Trees) → Reaches t (app g ss) → Each (Above t) ss
-reaches-arguments t g ss (inl e) = subst (λ x. Each (Above x) ss) (sym e) (each-map (λ s q. by_argument q) ss (members-reach ss))
+reaches-arguments t g ss (inl e) =
+    subst (λ x. Each (Above x) ss) (sym e) (each-map (λ s q. by_argument q) ss (members-reach ss))
 reaches-arguments t g ss (inr p) = arguments-above p
 
 pub same-first : {a b : Tree} {ts ss : Trees} → some a ts ≡ some b ss → a ≡ b
@@ -60,7 +62,8 @@ diagonal : (ts : Trees) → Each (λ u. Each (Above u) ts → Above u u) ts
 diagonal none = tt
 diagonal (some t ts) = (λ e. e.0, each-map (λ u h e. h e.1) ts (diagonal ts))
 
-no-argument-reaches : (f : ℕ) (ts : Trees) → Each (λ u. Above u u → ⊥) ts → Each (λ u. Reaches u (app f ts) → ⊥) ts
+no-argument-reaches :
+    (f : ℕ) (ts : Trees) → Each (λ u. Above u u → ⊥) ts → Each (λ u. Reaches u (app f ts) → ⊥) ts
 no-argument-reaches f ts h = each-both (λ u no d r. no (d (reaches-arguments u f ts r))) ts h (diagonal ts)
 
 pub same-arguments : {f g : ℕ} {ts us : Trees} → app f ts ≡ app g us → ts ≡ us
@@ -69,10 +72,14 @@ same-arguments e = cc
 pub same-symbol : {f g : ℕ} {ts us : Trees} → app f ts ≡ app g us → f ≡ g
 same-symbol e = cc
 
-not-above-itself : {t : Tree} (f : ℕ) (ts : Trees) → Above t (app f ts) → t ≡ app f ts → Each (λ u. Above u u → ⊥) ts → ⊥
-not-above-itself f ts (by_argument {ts = us} r) e h = none-reach (subst (λ x. SomeReaches x (app f ts)) (same-arguments e) r) (no-argument-reaches f ts h)
+not-above-itself :
+    {t : Tree} (f : ℕ) (ts : Trees) → Above t (app f ts) → t ≡ app f ts →
+    Each (λ u. Above u u → ⊥) ts → ⊥
+not-above-itself f ts (by_argument {ts = us} r) e h =
+    none-reach (subst (λ x. SomeReaches x (app f ts)) (same-arguments e) r) (no-argument-reaches f ts h)
 not-above-itself f ts (by_head l a) e h = omega (arith, l, same-symbol e)
-not-above-itself f ts (by_arguments w) e h = falls-differ w (same-arguments e) (subst (λ x. Each (λ u. Above u u → ⊥) x) (sym (same-arguments e)) h)
+not-above-itself f ts (by_arguments w) e h =
+    falls-differ w (same-arguments e) (subst (λ x. Each (λ u. Above u u → ⊥) x) (sym (same-arguments e)) h)
 
 mutual
   pub irreflexive : (t : Tree) → Above t t → ⊥

@@ -1,18 +1,18 @@
 //! Orders on terms, by which specifications are admitted and proofs descend.
 //!
-//! It stands on term_core. [`TermOrder`] is an order with its test and its laws
-//! (`specs/Laws.antt`), and [`Lpo`] is the lexicographic path ordering (`specs/Above.antt`), with
-//! the symbol's number as precedence. The layers above use the trait alone: that what the test
-//! finds to be above is so, that it finds it in terms of up to 4,294,967,295 symbols and
-//! variables, and that being above is kept by substitutions, parts and contexts.
+//! It stands on term_core, and for its ranks on longest_chains. [`TermOrder`] is an order with its
+//! test, its ranks and their laws (`specs/Laws.antt`), and [`Lpo`] is the lexicographic path
+//! ordering (`specs/Above.antt`), with the symbol's number as precedence. A ground term's rank is
+//! the longest chain down from it (`specs/Rank.antt`) in the ordering within a bound
+//! (`specs/Bounded.antt`). The layers above use the trait alone: that what the test finds to be
+//! above is so, that it finds it in terms of up to 4,294,967,295 symbols and variables, that being
+//! above is kept by substitutions, parts and contexts, and that ranks fall along it.
 #![tactic(auto)]
 
 mod laws;
 mod orders;
 mod path;
-#[cfg(test)]
-mod tests;
 
-pub use laws::worked_examples;
+pub use laws::{finitely_many_below, rank_examples, same_within_depth, worked_examples};
 pub use orders::TermOrder;
 pub use path::Lpo;

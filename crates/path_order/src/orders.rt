@@ -1,13 +1,17 @@
-ghost use Rattle.std.specs.Prelude.{◌≤◌, IsTrue};
+ghost use Rattle.std.specs.Prelude.{◌≤◌, ℕ, IsTrue};
 ghost use Rattle.term_core.specs.Tree.{Tree, tree_size};
-ghost use Rattle.path_order.specs.Laws.{IsTermOrder};
+ghost use Rattle.path_order.specs.Laws.{IsTermOrder, HasRanks};
 
 use term_core::Term;
 
-/// An order on terms, with its test.
+/// An order on terms, with its test. Its ranks show that descent ends; no code computes them.
 pub trait TermOrder {
     /// `above o t s`: t is above s.
     ghost above: { Self → Tree → Tree → Type 0 };
+
+    /// `rank o n k t r`: r is the rank of the ground term t, for n symbols and right terms of depth
+    /// at most k.
+    ghost rank: { Self → ℕ → ℕ → Tree → ℕ → Type 0 };
 
     /// Whether `t` is above `s`. Of larger terms it may say no where it is.
     fn greater(&self, t: &Term, s: &Term) -> bool
@@ -17,4 +21,7 @@ pub trait TermOrder {
 
     /// What is above is kept by substitutions, parts and contexts.
     ghost laws: { (o : Self) → IsTermOrder (above o) };
+
+    /// Each ground term has one rank. It falls to arguments, and on what is above in each context.
+    ghost ranks: { (o : Self) → HasRanks (above o) (rank o) };
 }

@@ -18,8 +18,12 @@ impl Lpo {
 
 impl TermOrder for Lpo {
     ghost use Rattle.path_order.specs.PathLaws.{path_order_laws};
+    ghost use Rattle.path_order.specs.Rank.{IsRank};
+    ghost use Rattle.path_order.specs.RankLaws.{path_order_ranks};
 
     ghost above = { λ _. Above };
+
+    ghost rank = { λ _. IsRank };
 
     /// Visits each pair of a place of `t` and a place of `s` once at most, and takes no memory.
     fn greater(&self, t: &Term, s: &Term) -> bool
@@ -32,6 +36,8 @@ impl TermOrder for Lpo {
     }
 
     ghost laws = { λ _. path_order_laws };
+
+    ghost ranks = { λ _. path_order_ranks };
 }
 
 /// How one term stands to another.

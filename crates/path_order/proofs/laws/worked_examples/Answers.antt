@@ -1,6 +1,6 @@
-use Rattle.std.proofs.Common.{◌≡◌, ◌≢◌, ◌⊎◌, ℕ, refl, ap, inl, inr, arith}
+use Rattle.std.proofs.Common.{◌≢◌, ℕ, refl, ap, inl, inr, arith}
 use Rattle.term_core.specs.Tree.{Tree, Trees, var, app, none, some}
-use Rattle.path_order.specs.Above.{Above, SomeReaches, by_argument, by_head, by_arguments, this_is, this_above, later, all_none, all_some, here, further}
+use Rattle.path_order.specs.Above.{Above, SomeReaches, by_argument, by_head, by_arguments, this_is, this_above, later, all_none, all_some, here}
 use Rattle.path_order.specs.Irreflexive.{Reaches, irreflexive}
 use Rattle.path_order.specs.Examples.{zero_term, succ_term, plus_term, x, y, z}
 use Rattle.path_order.proofs.Deciding.{some-parts, all-parts, only-argument, place-falls, later-only}
@@ -28,7 +28,9 @@ variable_head m f ts (inr a) = variable_above a
 one_reaches : {t s : Tree} → (Reaches t s → ⊥) → SomeReaches (some t none) s → ⊥
 one_reaches n r = elim (some-parts r) [ inl h ↦ n h | inr q ↦ none_reaches q ]
 
-two_reach : {t u s : Tree} → (Reaches t s → ⊥) → (Reaches u s → ⊥) → SomeReaches (some t (some u none)) s → ⊥
+two_reach :
+    {t u s : Tree} → (Reaches t s → ⊥) → (Reaches u s → ⊥) → SomeReaches (some t (some u none)) s →
+    ⊥
 two_reach n m r = elim (some-parts r) [ inl h ↦ n h | inr q ↦ one_reaches m q ]
 
 zero_reaches : Reaches zero_term x → ⊥
@@ -52,8 +54,10 @@ not_later p =
 pub returns : goal.returns
 returns c = record {
   part = by_argument (this_above (by_argument this_is));
-  sum = by_head (omega arith) (all_some (by_arguments (here refl (by_argument this_is) (all_some (by_argument (later this_is)) all_none))) all_none);
-  moved = by_arguments (here refl (by_argument this_is) (all_some (by_head (omega arith) (all_some (by_argument (later this_is)) all_none)) all_none));
+  sum =
+      by_head (omega arith) (all_some (by_arguments (here refl (by_argument this_is) (all_some (by_argument (later this_is)) all_none))) all_none);
+  moved =
+      by_arguments (here refl (by_argument this_is) (all_some (by_head (omega arith) (all_some (by_argument (later this_is)) all_none)) all_none));
   exchanged = not_exchanged;
   later_argument = not_later;
   variable = variable_above;

@@ -1,9 +1,6 @@
-use Rattle.std.proofs.Common.{rules, ◌≡◌, ◌≢◌, ◌≤◌, ◌↔◌, ◌+◌, ◌-◌, ◌<◌, IsTrue, true, false, length, get_or, take, ap, sym, ◌∙◌, inl, inr, refl, arith}
-use Rattle.std.proofs.lemmas.Bool.{false≢true}
-use Rattle.term_core.specs.Tree.{app, var, trees_of}
+use Rattle.std.proofs.Common.{rules, ◌≡◌, ◌≢◌, ◌↔◌, IsTrue, length, ap, sym, ◌∙◌, refl, arith}
+use Rattle.term_core.specs.Tree.{app, trees_of}
 use Rattle.term_core.specs.View.{tree_of}
-use Rattle.path_order.specs.Above.{Above, AboveAll, SomeReaches}
-use Rattle.path_order.specs.Standing.{Stands, HaveOneHead}
 use Rattle.path_order.specs.declared.path.Standing.TheVariants.{Greater, Neither}
 use Rattle.path_order.proofs.Deciding.{greater_test, neither_test, all-then, all-else, some-then, some-else, all-empty, variable, smaller-head, other-head, at_greater, at_neither, list-falls, head-weight, positive}
 use Rattle.path_order.proofs.path.+compare.Goals as goal
