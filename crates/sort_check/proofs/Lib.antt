@@ -23,6 +23,7 @@ pub mod OneRule
 pub mod OneGoal
 pub mod OneSpec
 pub mod KeptSizes
+pub mod RuleSizes
 pub mod WellSortedSpecs
 pub mod NaturalsStand
 pub mod Listed

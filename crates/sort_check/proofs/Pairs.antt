@@ -1,7 +1,7 @@
 -- Lists whose elements go together in pairs.
 use Rattle.std.proofs.Common.{◌≡◌, ℕ, zero, suc, ◌+◌, ◌<◌, ◌≤◌, List, [], ◌∷◌, ◌++◌, Some, None, refl, ap, sym, ◌∙◌, subst, arith, get_or, length, take}
 use Rattle.std.specs.Prelude.{slice_get}
-use Rattle.std.specs.List.{AllZip}
+use Rattle.std.specs.List.{AllByRecursion, AllZip}
 use Rattle.std.proofs.lemmas.List.{take_all, take_more}
 
 module _ {X Y : Type 0} (R : X → Y → Type 0) where
@@ -64,3 +64,10 @@ module _ {X Y : Type 0} (R : X → Y → Type 0) where
     pairs_second (x ∷ xs) (z ∷ ys) all (suc k) y at = pairs_second xs ys all.1 k y at
     pairs_second [] (z ∷ ys) all k y at = absurd all
     pairs_second (x ∷ xs) [] all k y at = absurd all
+
+-- what is known of the partners of what is known
+pub pairs_have : {X Y : Type 0} (R : X → Y → Type 0) (P : X → Type 0) (Q : Y → Type 0) → ((x : X) (y : Y) → P x → R x y → Q y) → (xs : List X) (ys : List Y) → AllByRecursion P xs → AllZip R xs ys → AllByRecursion Q ys
+pairs_have R P Q so [] [] a p = tt
+pairs_have R P Q so (x ∷ xs) (y ∷ ys) a p = (so x y a.0 p.0, pairs_have R P Q so xs ys a.1 p.1)
+pairs_have R P Q so [] (y ∷ ys) a p = absurd p
+pairs_have R P Q so (x ∷ xs) [] a p = absurd p

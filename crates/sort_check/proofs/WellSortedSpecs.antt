@@ -1,7 +1,7 @@
 -- What a raw specification within the limits stands for is well sorted.
 use Rattle.std.proofs.Common.{◌≡◌, ℕ, zero, suc, ◌≤◌, List, [], ◌∷◌, Some, None, sym, subst, arith, length}
 use Rattle.std.specs.Prelude.{slice_get, option_map, codes}
-use Rattle.std.specs.List.{AllByRecursion, AllZip}
+use Rattle.std.specs.List.{AllByRecursion}
 use Rattle.std.proofs.lemmas.Slice.Zip.{AllZip-long}
 use Rattle.term_core.specs.Tree.{Tree}
 use Rattle.spec_core.specs.declared.records.SymInfo.{SymInfo}
@@ -26,15 +26,9 @@ use Rattle.sort_check.specs.Rules.{GuardStands, RuleStands}
 use Rattle.sort_check.specs.Goals.{GoalStands}
 use Rattle.sort_check.specs.StandsFor.{IsNumbered}
 use Rattle.sort_check.proofs.KeptSizes.{same_depth}
+use Rattle.sort_check.proofs.Pairs.{pairs_have}
 use Rattle.term_core.proofs.Items.{all_at, all_append}
 use Rattle.spec_core.proofs.Values.{numbered_occurs}
-
--- what is known of the partners of what is known
-pairs_have : {X Y : Type 0} (R : X → Y → Type 0) (P : X → Type 0) (Q : Y → Type 0) → ((x : X) (y : Y) → P x → R x y → Q y) → (xs : List X) (ys : List Y) → AllByRecursion P xs → AllZip R xs ys → AllByRecursion Q ys
-pairs_have R P Q so [] [] a p = tt
-pairs_have R P Q so (x ∷ xs) (y ∷ ys) a p = (so x y a.0 p.0, pairs_have R P Q so xs ys a.1 p.1)
-pairs_have R P Q so [] (y ∷ ys) a p = absurd p
-pairs_have R P Q so (x ∷ xs) [] a p = absurd p
 
 -- The arguments of symbols.
 

@@ -4,8 +4,9 @@ use Rattle.term_core.specs.Tree.{Tree, tree_size}
 use Rattle.spec_core.specs.declared.records.Spec.{Spec}
 use Rattle.spec_core.specs.Sig.{Sig}
 use Rattle.spec_core.specs.WellSorted.{IsWellSorted}
+use Rattle.spec_core.specs.RuleSizes.{RulesAreWithin}
 use Rattle.spec_grammar.specs.RawTree.{RawTree}
-use Rattle.spec_grammar.specs.Sizes.{words}
+use Rattle.spec_grammar.specs.Sizes.{words, HasFewWords}
 use Rattle.spec_grammar.specs.KeepsLimits.{KeepsLimits}
 use Rattle.spec_grammar.specs.declared.raw.RawSpec.{RawSpec}
 use Rattle.sort_check.specs.Terms.{TermStands}
@@ -31,6 +32,10 @@ pub record OneFirstFault : Type 0 where
 -- what a raw term stands for has as many symbols and variables as the raw term has words
 abbrev pub KeepsSizes : Type 0
 KeepsSizes = (sig : Sig) (names : List (List ℕ)) (raw : RawTree) (t : Tree) → TermStands sig names raw t → tree_size t ≡ words raw
+
+-- where no raw term has more than n words, no term of a rule has more than n symbols and variables
+abbrev pub NumberingKeepsSizes : Type 0
+NumberingKeepsSizes = (n : ℕ) (raw : RawSpec) (spec : Spec) → HasFewWords n raw → IsNumbered raw spec → RulesAreWithin n spec
 
 -- the numbering of a raw specification within the limits is well sorted, and so is what it stands for
 abbrev pub StandsWellSorted : Type 0

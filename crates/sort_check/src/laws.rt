@@ -1,5 +1,5 @@
 ghost use Rattle.sort_check.specs.Examples.{WorkedExamples};
-ghost use Rattle.sort_check.specs.Laws.{FaultyStandsForNone, KeepsSizes, OneFirstFault, OneSpecification, StandsWellSorted};
+ghost use Rattle.sort_check.specs.Laws.{FaultyStandsForNone, KeepsSizes, NumberingKeepsSizes, OneFirstFault, OneSpecification, StandsWellSorted};
 
 /// A raw specification stands for at most one specification.
 pub fn one_specification()
@@ -19,6 +19,11 @@ pub fn one_first_fault()
 /// What a raw term stands for has as many symbols and variables as the raw term has words.
 pub fn sizes_are_kept()
     ensures { KeepsSizes }
+{}
+
+/// The terms of a specification's rules have no more symbols and variables than a raw term has words.
+pub fn numbering_keeps_sizes()
+    ensures { NumberingKeepsSizes }
 {}
 
 /// What a raw specification within the limits stands for is well sorted.

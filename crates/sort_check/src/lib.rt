@@ -21,14 +21,12 @@ mod laws;
 mod limits;
 mod rounds;
 mod rules;
-#[cfg(test)]
-mod tests;
 mod variables;
 mod walk;
 
 pub use elaborating::{elaborate, elaborate_term};
 pub use faults::{SortFault, SortKind};
 pub use laws::{
-    faulty_stands_for_none, one_first_fault, one_specification, sizes_are_kept, well_sorted,
-    worked_examples,
+    faulty_stands_for_none, numbering_keeps_sizes, one_first_fault, one_specification,
+    sizes_are_kept, well_sorted, worked_examples,
 };

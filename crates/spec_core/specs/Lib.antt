@@ -4,6 +4,7 @@ pub mod Sorts
 pub mod Small
 pub mod Declarations
 pub mod WellSorted
+pub mod RuleSizes
 pub mod Gives
 pub mod Truth
 pub mod Linear

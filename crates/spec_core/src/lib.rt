@@ -15,8 +15,6 @@ mod small;
 mod sorting;
 mod symbols;
 mod tables;
-#[cfg(test)]
-mod tests;
 
 pub use building::BuildError;
 pub use laws::{one_small_value, one_value, worked_examples};
