@@ -1,0 +1,18 @@
+use Rattle.std.proofs.Common.{[], refl}
+use Rattle.term_core.specs.Tree.{Tree}
+use Rattle.spec_core.specs.Sorts.{Sorted}
+use Rattle.spec_core.specs.Naturals.{nat, naturals, naturals_sig, zero_term, succ_term, plus_term}
+use Rattle.admitted_values.proofs.laws.worked_examples.Goals as goal
+
+abbrev sum : Tree
+sum = plus_term (succ_term zero_term) zero_term
+
+sum_is_sorted : Sorted naturals_sig [] sum nat
+sum_is_sorted = (_, refl, refl, ((_, refl, refl, ((_, refl, refl, tt), tt)), ((_, refl, refl, tt), tt)))
+
+pub returns : goal.returns
+returns c =
+    let numbers = c.worked_examples-2.ensures in
+    let one = c.values_rank_lower.ensures naturals numbers.well_sorted c.worked_examples.ensures.naturals_are_admitted sum nat sum_is_sorted in
+    let same = one.alone (succ_term zero_term) 2 numbers.one_plus_zero in
+    record { sum = one; sum_is_one = same.0; two_uses = same.1 }

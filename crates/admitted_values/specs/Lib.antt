@@ -1,0 +1,3 @@
+-- The one value of a sorted ground term.
+pub mod OneValue
+pub mod Examples
