@@ -1,0 +1,70 @@
+-- What the matches of a command say of the words, and what a refusal says.
+use Rattle.std.proofs.Common.{◌≡◌, ◌∙◌, ℕ, List, [], ◌∷◌, sym, subst, refl, codes, Some, slice_get}
+use Rattle.clap.specs.Words.{App, Row, Text}
+use Rattle.command_line.specs.Apps.{refute_app, eval_app, check_app}
+use Rattle.command_line.specs.FlatApps.{IsFlat}
+use Rattle.command_line.specs.Matches.{HasWord, Takes}
+use Rattle.command_line.specs.Readings.{AreMatches, HasSomeNumber, HasSomeWord}
+use Rattle.command_line.specs.Rules.{number_rule, word_rule}
+use Rattle.command_line.specs.declared.ranges.NumberRange.{NumberRange}
+use Rattle.command_line.proofs.OwnNames.{differs}
+use Rattle.command_line.specs.Tasks.{Task, refuting, evaluating, checking, app_for, Say, IsNamed, Asks, AskNothing}
+
+-- words have one first word at most
+pub one_name : (words : List Text) (name other : Text) → IsNamed name words → IsNamed other words → name ≡ other
+one_name [] name other is is_too = absurd is
+one_name (word ∷ words) name other is is_too = sym is ∙ is_too
+
+module _ (app is_app : App) (words : List Text) (rows : List Row) (is : app ≡ is_app) (matches : AreMatches app words rows) where
+  are : AreMatches is_app words rows
+  are = subst (λ (a : App). AreMatches a words rows) is matches
+
+  -- the k-th argument, a positional word or a number, is there
+  pub word_at : (k : ℕ) (name : Text) → slice_get is_app.top.rules k ≡ Some (word_rule name) → HasSomeWord rows name
+  word_at k name at = are.has_words k name at
+
+  pub number_at : (k : ℕ) (name usual : Text) (range : NumberRange) → slice_get is_app.top.rules k ≡ Some (number_rule name range usual) → HasSomeNumber rows name range
+  number_at k name usual range at = are.has_numbers k name usual range at
+
+-- what is read of a command's matches is what the words ask for
+pub asked : (app : App) (words : List Text) (rows : List Row) (file : Text) (task : Task) → app ≡ app_for task → IsNamed (app_for task).top.name words
+    → AreMatches app words rows → HasWord rows (codes "FILE") file → Say rows task → Asks words file task
+asked app words rows file task is named matches file_is task_is =
+    let are = subst (λ (a : App). AreMatches a words rows) is matches in
+    record {
+      named = named;
+      taken = are.taken;
+      file_is = subst (λ (r : List Row). HasWord r (codes "FILE") file) are.are file_is;
+      task_is = subst (λ (r : List Row). Say r task) are.are task_is;
+    }
+
+-- words that a command refuses ask for nothing, where no other command has its name
+pub nothing_asked : (app is_app : App) (words : List Text) → app ≡ is_app → IsNamed is_app.top.name words
+    → ((task : Task) → (app_for task).top.name ≡ is_app.top.name → app_for task ≡ is_app)
+    → (Takes app words → ⊥) → AskNothing words
+nothing_asked app is_app words is named alone refused file task asks =
+    refused (subst (λ (a : App). Takes a words) (alone task (one_name words _ _ asks.named named) ∙ sym is) asks.taken)
+
+pub refute_alone : (task : Task) → (app_for task).top.name ≡ codes "refute" → app_for task ≡ refute_app
+refute_alone (refuting bounds) same = refl
+refute_alone (evaluating term steps) same = absurd (differs (codes "eval") (codes "refute") refl same)
+refute_alone (checking print) same = absurd (differs (codes "check") (codes "refute") refl same)
+
+pub eval_alone : (task : Task) → (app_for task).top.name ≡ codes "eval" → app_for task ≡ eval_app
+eval_alone (refuting bounds) same = absurd (differs (codes "refute") (codes "eval") refl same)
+eval_alone (evaluating term steps) same = refl
+eval_alone (checking print) same = absurd (differs (codes "check") (codes "eval") refl same)
+
+pub check_alone : (task : Task) → (app_for task).top.name ≡ codes "check" → app_for task ≡ check_app
+check_alone (refuting bounds) same = absurd (differs (codes "refute") (codes "check") refl same)
+check_alone (evaluating term steps) same = absurd (differs (codes "eval") (codes "check") refl same)
+check_alone (checking print) same = refl
+
+pub refute_flat : IsFlat refute_app
+refute_flat = record { simple = refl; ready = refl; free = refl; leaf = refl; negates = refl; names = refl }
+
+pub eval_flat : IsFlat eval_app
+eval_flat = record { simple = refl; ready = refl; free = refl; leaf = refl; negates = refl; names = refl }
+
+pub check_flat : IsFlat check_app
+check_flat = record { simple = refl; ready = refl; free = refl; leaf = refl; negates = refl; names = refl }

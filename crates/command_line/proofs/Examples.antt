@@ -1,0 +1,125 @@
+-- The worked examples, by computing.
+use Rattle.std.proofs.Common.{◌≡◌, ◌≤◌, ℕ, Bool, true, false, List, [], ◌∷◌, Some, refl, sym, arith, codes}
+use Rattle.std.specs.Prelude.{◌↔◌, IsTrue}
+use Rattle.std.specs.Str.{bytes_eq}
+use Rattle.std.specs.Str.Parse.{IsNumeral, digits_value, without_leading_plus}
+use Rattle.clap.specs.Words.{Row, Text, Kinds, fault_of, first_of, matches_of, one_of}
+use Rattle.clap.specs.Walk.{is_empty}
+use Rattle.clap.proofs.OnLiterals.{clap_on_literals}
+use Rattle.command_line.specs.declared.ranges.NumberRange.{NumberRange}
+use Rattle.command_line.specs.declared.ranges.TheConstants.{DEPTHS, TRIES, STEPS}
+use Rattle.command_line.specs.Apps.{refute_app, eval_app, check_app}
+use Rattle.command_line.specs.Matches.{HasNumber, IsGiven}
+use Rattle.command_line.specs.Tasks.{refuting, evaluating, checking, Asks, AskNothing, AreBounds}
+use Rattle.command_line.specs.Examples.{Asking, Refused, refute, eval, check, usual, given}
+use Rattle.command_line.proofs.OwnNames.{differs}
+use Rattle.command_line.proofs.ReadLemmas.{text_compared}
+use Rattle.command_line.proofs.Askings.{nothing_asked, refute_alone, eval_alone, check_alone}
+
+faulty : (ks : Kinds) → is_empty ks ≡ false → ks ≡ [] → ⊥
+faulty [] some none = cc
+faulty (k ∷ ks) some none = cc
+
+no_refute : (words : List Text) → is_empty (fault_of refute_app (codes "refute" ∷ words)) ≡ false → AskNothing (codes "refute" ∷ words)
+no_refute words fault = nothing_asked refute_app refute_app (codes "refute" ∷ words) refl refl refute_alone (faulty _ fault)
+
+no_eval : (words : List Text) → is_empty (fault_of eval_app (codes "eval" ∷ words)) ≡ false → AskNothing (codes "eval" ∷ words)
+no_eval words fault = nothing_asked eval_app eval_app (codes "eval" ∷ words) refl refl eval_alone (faulty _ fault)
+
+no_check : (words : List Text) → is_empty (fault_of check_app (codes "check" ∷ words)) ≡ false → AskNothing (codes "check" ∷ words)
+no_check words fault = nothing_asked check_app check_app (codes "check" ∷ words) refl refl check_alone (faulty _ fault)
+
+no_command : AskNothing (codes "help" ∷ codes "a" ∷ [])
+no_command file (refuting bounds) asks = differs (codes "help") (codes "refute") refl asks.named
+no_command file (evaluating term steps) asks = differs (codes "help") (codes "eval") refl asks.named
+no_command file (checking print) asks = differs (codes "help") (codes "check") refl asks.named
+
+pub refused : Refused
+unfolding clap_on_literals
+refused = record {
+  no_words = λ file task asks. asks.named;
+  no_command = no_command;
+  no_file = no_refute _ refl;
+  two_files = no_refute _ refl;
+  help = no_refute _ refl;
+  too_deep = no_refute _ refl;
+  no_tries = no_refute _ refl;
+  twice = no_refute _ refl;
+  no_number = no_refute _ refl;
+  below_zero = no_refute _ refl;
+  another_option = no_eval _ refl;
+  too_many_steps = no_eval _ refl;
+  no_term = no_eval _ refl;
+  flag_with_text = no_check _ refl;
+}
+
+-- a text of digits has the number that it writes
+number : (rows : List Row) (name : Text) (range : NumberRange) (n : ℕ) (text : Text) → one_of name rows ≡ Some text → IsNumeral 10 (without_leading_plus text)
+    → digits_value 10 (without_leading_plus text) ≡ n → range.least ≤ n → n ≤ range.most → HasNumber rows name range n
+number rows name range n text found digits value least most =
+    record { text = text; found = found; writes = record { digits = digits; value = value }; least = least; most = most }
+
+usual_steps : (rows : List Row) → one_of (codes "steps") rows ≡ Some (codes "1000") → HasNumber rows (codes "steps") STEPS 1000
+usual_steps rows found =
+    number rows (codes "steps") STEPS 1000 (codes "1000") found (omega arith, (omega arith, (omega arith, (omega arith, (omega arith, tt))))) refl (omega arith) (omega arith)
+
+usual_bounds : (rows : List Row) → one_of (codes "depth") rows ≡ Some (codes "3") → one_of (codes "tries") rows ≡ Some (codes "10000") → one_of (codes "steps") rows ≡ Some (codes "1000")
+    → AreBounds rows usual
+usual_bounds rows depth tries steps = record {
+  depth = number rows (codes "depth") DEPTHS 3 (codes "3") depth (omega arith, (omega arith, tt)) refl (omega arith) (omega arith);
+  tries = number rows (codes "tries") TRIES 10000 (codes "10000") tries (omega arith, (omega arith, (omega arith, (omega arith, (omega arith, (omega arith, tt)))))) refl (omega arith) (omega arith);
+  steps = usual_steps rows steps;
+}
+
+given_bounds : (rows : List Row) → one_of (codes "depth") rows ≡ Some (codes "+0") → one_of (codes "tries") rows ≡ Some (codes "007") → one_of (codes "steps") rows ≡ Some (codes "2000")
+    → AreBounds rows given
+given_bounds rows depth tries steps = record {
+  depth = number rows (codes "depth") DEPTHS 0 (codes "+0") depth (omega arith, (omega arith, tt)) refl (omega arith) (omega arith);
+  tries = number rows (codes "tries") TRIES 7 (codes "007") tries (omega arith, (omega arith, (omega arith, (omega arith, tt)))) refl (omega arith) (omega arith);
+  steps = number rows (codes "steps") STEPS 2000 (codes "2000") steps (omega arith, (omega arith, (omega arith, (omega arith, (omega arith, tt))))) refl (omega arith) (omega arith);
+}
+
+plain : Asks (refute (codes "a" ∷ [])) (codes "a") (refuting usual)
+unfolding clap_on_literals
+plain = record { named = refl; taken = refl; file_is = refl; task_is = usual_bounds (matches_of refute_app (refute (codes "a" ∷ []))) refl refl refl }
+
+abbrev all_numbers : List Text
+all_numbers = codes "--depth" ∷ codes "+0" ∷ codes "--tries=007" ∷ codes "a" ∷ codes "--steps" ∷ codes "2000" ∷ []
+
+numbers : Asks (refute all_numbers) (codes "a") (refuting given)
+unfolding clap_on_literals
+numbers = record { named = refl; taken = refl; file_is = refl; task_is = given_bounds (matches_of refute_app (refute all_numbers)) refl refl refl }
+
+behind_dashes : Asks (refute (codes "--" ∷ codes "--help" ∷ [])) (codes "--help") (refuting usual)
+unfolding clap_on_literals
+behind_dashes = record { named = refl; taken = refl; file_is = refl; task_is = usual_bounds (matches_of refute_app (refute (codes "--" ∷ codes "--help" ∷ []))) refl refl refl }
+
+one_dash : Asks (eval (codes "-" ∷ codes "x" ∷ [])) (codes "-") (evaluating (codes "x") 1000)
+unfolding clap_on_literals
+one_dash = record { named = refl; taken = refl; file_is = refl; task_is = (refl, usual_steps (matches_of eval_app (eval (codes "-" ∷ codes "x" ∷ []))) refl) }
+
+empty : Asks (eval (codes "" ∷ codes "help" ∷ [])) (codes "") (evaluating (codes "help") 1000)
+unfolding clap_on_literals
+empty = record { named = refl; taken = refl; file_is = refl; task_is = (refl, usual_steps (matches_of eval_app (eval (codes "" ∷ codes "help" ∷ []))) refl) }
+
+print_is : (rows : List Row) (print : Bool) (text : Text) → first_of (codes "print") rows ≡ Some text → print ≡ bytes_eq text (codes "true") → IsTrue print ↔ IsGiven rows (codes "print")
+print_is rows print text found same = text_compared (first_of (codes "print") rows) text (codes "true") print (sym found) same
+
+printed : Asks (check (codes "--print" ∷ codes "a" ∷ [])) (codes "a") (checking true)
+unfolding clap_on_literals
+printed = record { named = refl; taken = refl; file_is = refl; task_is = print_is (matches_of check_app (check (codes "--print" ∷ codes "a" ∷ []))) true (codes "true") refl refl }
+
+unprinted : Asks (check (codes "a" ∷ [])) (codes "a") (checking false)
+unfolding clap_on_literals
+unprinted = record { named = refl; taken = refl; file_is = refl; task_is = print_is (matches_of check_app (check (codes "a" ∷ []))) false (codes "false") refl refl }
+
+pub asking : Asking
+asking = record {
+  plain = plain;
+  numbers = numbers;
+  behind_dashes = behind_dashes;
+  one_dash = one_dash;
+  empty = empty;
+  printed = printed;
+  unprinted = unprinted;
+}

@@ -1,0 +1,8 @@
+mod Defaults
+mod OwnNames
+mod FlatApps
+mod ReadLemmas
+mod Refusals
+mod Askings
+pub mod OneTask
+mod Examples

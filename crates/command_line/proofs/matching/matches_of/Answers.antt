@@ -1,0 +1,22 @@
+use Rattle.std.proofs.Common.{◌∙◌}
+use Rattle.std.proofs.Common.{map}
+use Rattle.std.specs.Prelude.{string_bytes}
+use Rattle.clap.specs.Words.{app_of}
+use Rattle.command_line.proofs.FlatApps.{is_simple_too, word_there, number_there}
+use Rattle.command_line.proofs.Refusals.{refused}
+use Rattle.command_line.proofs.matching.matches_of.Goals as goal
+
+pub returns-in-Ok : goal.returns-in-Ok
+returns-in-Ok c =
+    let flat = c.requires in
+    record {
+      taken = c.in-Ok.ensures.kinds flat.simple;
+      are = (c.in-Ok.ensures.matches (is_simple_too (app_of c.args.app) flat)).0;
+      has_words = word_there c.args.app c.in-Ok.matches flat c.in-Ok.ensures.parsed;
+      has_numbers = number_there c.args.app c.in-Ok.matches flat c.in-Ok.ensures.parsed;
+    }
+
+pub returns : goal.returns
+returns c =
+    refused (app_of c.args.app) (map string_bytes c.args.words.now) c.in-Err.error (c.in-Err.ensures.kinds c.requires.simple)
+    (λ e. c.in_default.not-OutOfMemory (c.kind.ensures ∙ e))

@@ -1,0 +1,35 @@
+-- The simple command of each command word, as `clap` sees it.
+use Rattle.std.specs.Prelude.{List, [], ◌∷◌, codes}
+use Rattle.clap.specs.Words.{App, Rule, new_app, with_rule}
+use Rattle.command_line.specs.declared.ranges.TheConstants.{DEPTHS, TRIES, STEPS}
+use Rattle.command_line.specs.declared.ranges.TheConstants.{USUAL_DEPTH, USUAL_TRIES, USUAL_STEPS}
+use Rattle.command_line.specs.Rules.{word_rule, number_rule, flag_rule}
+
+-- a command with these arguments
+abbrev pub with_rules : App → List Rule → App
+with_rules app [] = app
+with_rules app (rule ∷ rules) = with_rules (with_rule app rule) rules
+
+abbrev pub depth_rule : Rule
+depth_rule = number_rule (codes "depth") DEPTHS USUAL_DEPTH.now
+
+abbrev pub tries_rule : Rule
+tries_rule = number_rule (codes "tries") TRIES USUAL_TRIES.now
+
+abbrev pub steps_rule : Rule
+steps_rule = number_rule (codes "steps") STEPS USUAL_STEPS.now
+
+-- `refute FILE [--depth D] [--tries T] [--steps B]`
+abbrev pub refute_app : App
+refute_app = with_rules (new_app (codes "refute"))
+    (word_rule (codes "FILE") ∷ depth_rule ∷ tries_rule ∷ steps_rule ∷ [])
+
+-- `eval FILE TERM [--steps B]`
+abbrev pub eval_app : App
+eval_app = with_rules (new_app (codes "eval"))
+    (word_rule (codes "FILE") ∷ word_rule (codes "TERM") ∷ steps_rule ∷ [])
+
+-- `check FILE [--print]`
+abbrev pub check_app : App
+check_app = with_rules (new_app (codes "check"))
+    (word_rule (codes "FILE") ∷ flag_rule (codes "print") ∷ [])

@@ -1,0 +1,57 @@
+-- What words that are written out ask for.
+use Rattle.std.specs.Prelude.{List, [], ◌∷◌, true, false, codes}
+use Rattle.clap.specs.Words.{Text}
+use Rattle.command_line.specs.declared.bounds.SearchBounds.{SearchBounds}
+use Rattle.command_line.specs.Tasks.{refuting, evaluating, checking, Asks, AskNothing}
+
+abbrev pub refute : List Text → List Text
+refute words = codes "refute" ∷ words
+
+abbrev pub eval : List Text → List Text
+eval words = codes "eval" ∷ words
+
+abbrev pub check : List Text → List Text
+check words = codes "check" ∷ words
+
+abbrev pub usual : SearchBounds
+usual = record { depth = 3; tries = 10000; steps = 1000 }
+
+abbrev pub given : SearchBounds
+given = record { depth = 0; tries = 7; steps = 2000 }
+
+-- words that ask for a task
+pub record Asking : Type 0 where
+  -- the usual numbers where no word gives one
+  pub plain : Asks (refute (codes "a" ∷ [])) (codes "a") (refuting usual)
+  -- numbers before and behind the file, with a plus, leading zeros and `=`
+  pub numbers : Asks (refute (codes "--depth" ∷ codes "+0" ∷ codes "--tries=007" ∷ codes "a"
+      ∷ codes "--steps" ∷ codes "2000" ∷ [])) (codes "a") (refuting given)
+  -- behind `--` no word is an option
+  pub behind_dashes : Asks (refute (codes "--" ∷ codes "--help" ∷ [])) (codes "--help") (refuting usual)
+  -- `-` is a positional word
+  pub one_dash : Asks (eval (codes "-" ∷ codes "x" ∷ [])) (codes "-") (evaluating (codes "x") 1000)
+  -- the empty word is one too, and `help` is no question
+  pub empty : Asks (eval (codes "" ∷ codes "help" ∷ [])) (codes "") (evaluating (codes "help") 1000)
+  pub printed : Asks (check (codes "--print" ∷ codes "a" ∷ [])) (codes "a") (checking true)
+  pub unprinted : Asks (check (codes "a" ∷ [])) (codes "a") (checking false)
+
+-- words that ask for nothing
+pub record Refused : Type 0 where
+  pub no_words : AskNothing []
+  pub no_command : AskNothing (codes "help" ∷ codes "a" ∷ [])
+  pub no_file : AskNothing (refute [])
+  pub two_files : AskNothing (refute (codes "a" ∷ codes "b" ∷ []))
+  pub help : AskNothing (refute (codes "a" ∷ codes "--help" ∷ []))
+  pub too_deep : AskNothing (refute (codes "a" ∷ codes "--depth" ∷ codes "9" ∷ []))
+  pub no_tries : AskNothing (refute (codes "a" ∷ codes "--tries" ∷ codes "0" ∷ []))
+  pub twice : AskNothing (refute (codes "a" ∷ codes "--depth=2" ∷ codes "--depth=2" ∷ []))
+  pub no_number : AskNothing (refute (codes "a" ∷ codes "--depth=" ∷ []))
+  pub below_zero : AskNothing (refute (codes "a" ∷ codes "--depth=-0" ∷ []))
+  pub another_option : AskNothing (eval (codes "a" ∷ codes "x" ∷ codes "--depth" ∷ codes "2" ∷ []))
+  pub too_many_steps : AskNothing (eval (codes "a" ∷ codes "x" ∷ codes "--steps" ∷ codes "2001" ∷ []))
+  pub no_term : AskNothing (eval (codes "a" ∷ []))
+  pub flag_with_text : AskNothing (check (codes "a" ∷ codes "--print=x" ∷ []))
+
+pub record WorkedExamples : Type 0 where
+  pub asking : Asking
+  pub refused : Refused

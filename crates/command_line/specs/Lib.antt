@@ -1,0 +1,11 @@
+-- What words ask for, in the order in which to read it.
+pub mod Rules
+pub mod Apps
+pub mod Matches
+pub mod Tasks
+pub mod Commands
+pub mod Laws
+pub mod Examples
+-- What only this crate's own contracts speak of.
+pub mod FlatApps
+pub mod Readings

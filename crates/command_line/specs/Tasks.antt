@@ -1,0 +1,48 @@
+-- The task that words ask for.
+use Rattle.std.specs.Prelude.{◌≡◌, ◌↔◌, IsTrue, ℕ, Bool, List, [], ◌∷◌, codes}
+use Rattle.clap.specs.Words.{App, Row, Text, matches_of}
+use Rattle.command_line.specs.declared.bounds.SearchBounds.{SearchBounds}
+use Rattle.command_line.specs.declared.ranges.TheConstants.{DEPTHS, TRIES, STEPS}
+use Rattle.command_line.specs.Apps.{refute_app, eval_app, check_app}
+use Rattle.command_line.specs.Matches.{HasNumber, HasWord, IsGiven, Takes}
+
+-- what is done with the specification of a file
+pub data Task : Type 0 where
+  refuting : (bounds : SearchBounds) → Task
+  evaluating : (term : List ℕ) (steps : ℕ) → Task
+  checking : (print : Bool) → Task
+
+-- the simple command that reads the words of a task
+abbrev pub app_for : Task → App
+app_for (refuting bounds) = refute_app
+app_for (evaluating term steps) = eval_app
+app_for (checking print) = check_app
+
+-- how far the search goes
+pub record AreBounds (rows : List Row) (bounds : SearchBounds) : Type 0 where
+  pub depth : HasNumber rows (codes "depth") DEPTHS bounds.depth
+  pub tries : HasNumber rows (codes "tries") TRIES bounds.tries
+  pub steps : HasNumber rows (codes "steps") STEPS bounds.steps
+
+-- the matches say what is to be done
+abbrev pub Say : List Row → Task → Type 0
+Say rows (refuting bounds) = AreBounds rows bounds
+Say rows (evaluating term steps) =
+    HasWord rows (codes "TERM") term × HasNumber rows (codes "steps") STEPS steps
+Say rows (checking print) = IsTrue print ↔ IsGiven rows (codes "print")
+
+-- the first word is this one
+abbrev pub IsNamed : Text → List Text → Type 0
+IsNamed name [] = ⊥
+IsNamed name (word ∷ words) = word ≡ name
+
+-- the words ask for this task on this file
+pub record Asks (words : List (List ℕ)) (file : List ℕ) (task : Task) : Type 0 where
+  pub named : IsNamed (app_for task).top.name words
+  pub taken : Takes (app_for task) words
+  pub file_is : HasWord (matches_of (app_for task) words) (codes "FILE") file
+  pub task_is : Say (matches_of (app_for task) words) task
+
+-- the words ask for no task
+abbrev pub AskNothing : List (List ℕ) → Type 0
+AskNothing words = (file : List ℕ) (task : Task) → Asks words file task → ⊥

@@ -1,0 +1,122 @@
+ghost use Rattle.std.specs.Prelude.{◌≡◌, IfOk, codes, map, string_bytes};
+ghost use Rattle.command_line.specs.Tasks.{IsNamed};
+ghost use Rattle.command_line.specs.Commands.{IsAsked, file_of};
+
+use crate::apps::{check_app, eval_app, refute_app};
+use crate::arguments::{is_given, number_of, word_of};
+use crate::bounds::SearchBounds;
+use crate::matching::matches_of;
+use crate::ranges::{DEPTHS, STEPS, TRIES};
+use std::alloc::Global;
+use term_core::{OutOfMemory, front};
+
+/// What the words of a call ask for.
+#[derive(Drop)]
+pub enum Command<'a> {
+    /// Looks for counterexamples of a file's goals.
+    Refute {
+        file: &'a str,
+        bounds: SearchBounds,
+    },
+    /// Evaluates a term within so many rule uses.
+    Eval {
+        file: &'a str,
+        term: &'a str,
+        steps: u32,
+    },
+    /// Accepts or refuses a file, and prints it where that is asked for.
+    Check {
+        file: &'a str,
+        print: bool,
+    },
+}
+
+impl<'a> Command<'a> {
+    /// The file that is read.
+    pub fn file(&self) -> &str
+        ensures { result.now ≡ file_of self.now }
+    {
+        match self {
+            Command::Refute { file, .. } => file,
+            Command::Eval { file, .. } => file,
+            Command::Check { file, .. } => file,
+        }
+    }
+}
+
+/// The command that the words ask for, of which the first is the command word. None where they ask
+/// for none: `clap` finds a fault in the others, help among them, or the first is no command word.
+pub fn command_of<'a>(
+    alloc: Global,
+    words: &'a [String],
+) -> Result<Option<Command<'a>>, OutOfMemory>
+    ensures { IfOk result (IsAsked (map string_bytes words.now)) }
+{
+    let Some((name, _)) = front(words) else {
+        return Ok(None);
+    };
+    if name.as_str() == "refute" {
+        return refute_command(alloc, words);
+    }
+    if name.as_str() == "eval" {
+        return eval_command(alloc, words);
+    }
+    if name.as_str() == "check" {
+        return check_command(alloc, words);
+    }
+    Ok(None)
+}
+
+/// The command of the words of `refute`.
+fn refute_command<'a>(
+    alloc: Global,
+    words: &'a [String],
+) -> Result<Option<Command<'a>>, OutOfMemory>
+    requires { IsNamed (codes "refute") (map string_bytes words.now) }
+    ensures { IfOk result (IsAsked (map string_bytes words.now)) }
+{
+    let app = refute_app(alloc)?;
+    let Some(matches) = matches_of(app, words)? else {
+        return Ok(None);
+    };
+    let bounds = SearchBounds {
+        depth: number_of(&matches, "depth", DEPTHS),
+        tries: number_of(&matches, "tries", TRIES),
+        steps: number_of(&matches, "steps", STEPS),
+    };
+    Ok(Some(Command::Refute {
+        file: word_of(&matches, "FILE"),
+        bounds,
+    }))
+}
+
+/// The command of the words of `eval`.
+fn eval_command<'a>(alloc: Global, words: &'a [String]) -> Result<Option<Command<'a>>, OutOfMemory>
+    requires { IsNamed (codes "eval") (map string_bytes words.now) }
+    ensures { IfOk result (IsAsked (map string_bytes words.now)) }
+{
+    let app = eval_app(alloc)?;
+    let Some(matches) = matches_of(app, words)? else {
+        return Ok(None);
+    };
+    Ok(Some(Command::Eval {
+        file: word_of(&matches, "FILE"),
+        term: word_of(&matches, "TERM"),
+        steps: number_of(&matches, "steps", STEPS),
+    }))
+}
+
+/// The command of the words of `check`.
+fn check_command<'a>(alloc: Global, words: &'a [String]) -> Result<Option<Command<'a>>, OutOfMemory>
+    requires { IsNamed (codes "check") (map string_bytes words.now) }
+    ensures { IfOk result (IsAsked (map string_bytes words.now)) }
+{
+    let app = check_app(alloc)?;
+    let Some(matches) = matches_of(app, words)? else {
+        return Ok(None);
+    };
+    Ok(Some(Command::Check {
+        file: word_of(&matches, "FILE"),
+        print: is_given(&matches, "print"),
+    }))
+}

@@ -1,0 +1,12 @@
+ghost use Rattle.command_line.specs.Laws.{OneTask};
+ghost use Rattle.command_line.specs.Examples.{WorkedExamples};
+
+/// Words ask for one task on one file at most.
+pub fn one_task()
+    ensures { OneTask }
+{}
+
+/// The definitions say of some lists of words what one works out by hand.
+pub fn worked_examples()
+    ensures { WorkedExamples }
+{}

@@ -1,0 +1,20 @@
+//! What the words of a call ask for: a command word, behind which the words are read by `clap`.
+//!
+//! It stands on term_core and on `clap`, of which each command word has one simple command
+//! (`specs/Apps.antt`). The layer above uses that [`command_of`] answers the one task that the
+//! words ask for (`specs/Tasks.antt`), or that they ask for none: so it is wherever `clap` finds a
+//! fault in the words or help is asked. No text of `clap` comes out of this crate.
+#![tactic(auto)]
+
+mod apps;
+mod arguments;
+mod bounds;
+mod commands;
+mod laws;
+mod matching;
+mod ranges;
+
+pub use bounds::SearchBounds;
+pub use commands::{Command, command_of};
+pub use laws::{one_task, worked_examples};
+pub use ranges::{DEPTHS, NumberRange, STEPS, TRIES, USUAL_DEPTH, USUAL_STEPS, USUAL_TRIES};

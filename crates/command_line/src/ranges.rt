@@ -1,0 +1,30 @@
+/// The numbers that an option takes.
+#[derive(Clone, Copy, Debug, PartialEq, Eq)]
+pub struct NumberRange {
+    pub least: u64,
+    pub most: u64,
+}
+
+/// The greatest depth of the values that are tried.
+pub const DEPTHS: NumberRange = NumberRange { least: 0, most: 8 };
+
+/// How many substitutions of each goal are tried.
+pub const TRIES: NumberRange = NumberRange {
+    least: 1,
+    most: 1_000_000,
+};
+
+/// How many rule uses an evaluation may cost.
+pub const STEPS: NumberRange = NumberRange {
+    least: 1,
+    most: 2_000,
+};
+
+/// The depth where no word gives one.
+pub const USUAL_DEPTH: &str = "3";
+
+/// The tries where no word gives them.
+pub const USUAL_TRIES: &str = "10000";
+
+/// The steps where no word gives them.
+pub const USUAL_STEPS: &str = "1000";

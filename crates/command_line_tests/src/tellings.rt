@@ -1,0 +1,32 @@
+use command_line::{Command, command_of};
+use std::alloc::{AllocError, Global};
+use std::test::Fail;
+
+/// The words of a line, with a blank between two. `''` stands for the empty word.
+fn words_of(alloc: Global, line: &str) -> Result<Vec<String>, AllocError> {
+    let mut words = Vec::new(alloc);
+    for word in line.split(' ') {
+        words.push(if word == "''" { "" } else { word }.to_string(alloc)?)?;
+    }
+    Ok(words)
+}
+
+/// What the words of a line ask for: the command, its positional words in brackets, and its numbers
+/// in the order of the usage; or `nothing`.
+pub fn asked(alloc: Global, line: &str) -> Result<String, Fail> {
+    let words = words_of(alloc, line)?;
+    let told = match command_of(alloc, &words)? {
+        Some(Command::Refute { file, bounds }) => {
+            let (depth, tries, steps) = (bounds.depth, bounds.tries, bounds.steps);
+            format!(in alloc; "refute [{file}] {depth} {tries} {steps}")?
+        }
+        Some(Command::Eval { file, term, steps }) => {
+            format!(in alloc; "eval [{file}] [{term}] {steps}")?
+        }
+        Some(Command::Check { file, print }) => {
+            format!(in alloc; "check [{file}] print {print}")?
+        }
+        None => "nothing".to_string(alloc)?,
+    };
+    Ok(told)
+}
