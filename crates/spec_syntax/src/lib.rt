@@ -15,12 +15,10 @@ mod reading;
 mod sorts;
 mod stop;
 mod terms;
-#[cfg(test)]
-mod tests;
 mod words;
 
 pub use fault::SyntaxFault;
-pub use laws::one_fault;
+pub use laws::{one_fault, printed_reads_back};
 pub use reading::{read, read_term};
 pub use spec_grammar::{
     LimitKind, RawBind, RawEq, RawFun, RawGoal, RawGuard, RawName, RawNames, RawRule, RawSort,
