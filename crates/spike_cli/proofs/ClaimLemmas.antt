@@ -2,7 +2,8 @@
 use Rattle.std.proofs.Common.{◌≡◌, ◌≢◌, ℕ, zero, suc, ◌+◌, ◌<◌, List, [], ◌∷◌, ◌++◌, Some, None, inl, inr, refl, sym, subst, arith, length, take, add-one}
 use Rattle.std.specs.Prelude.{slice_get, option_map}
 use Rattle.std.proofs.lemmas.Option.{slice_get_within}
-use Rattle.term_core.specs.Tree.{Tree, Trees, var, app, none, some}
+use Rattle.std.specs.List.{AllByRecursion}
+use Rattle.term_core.specs.Tree.{Tree, Trees, var, app, none, some, trees_of}
 use Rattle.term_core.specs.declared.ids.SortId.{SortId}
 use Rattle.spec_core.specs.declared.records.SymInfo.{SymInfo}
 use Rattle.spec_core.specs.declared.records.VarInfo.{VarInfo}
@@ -10,8 +11,6 @@ use Rattle.spec_core.specs.declared.records.Goal.{Goal}
 use Rattle.spec_core.specs.declared.records.Spec.{Spec}
 use Rattle.spec_core.specs.Sig.{Sig}
 use Rattle.spec_core.specs.Sorts.{Sorted, SortedAll}
-use Rattle.spec_core.specs.Overlap.{NoOverlap}
-use Rattle.spec_core.specs.Groups.{GroupsAreWhole}
 use Rattle.spec_core.specs.Truth.{AreValuesOf}
 use Rattle.spec_core.specs.Order.{substitutions}
 use Rattle.spec_core.specs.WellSorted.{sorts_of}
@@ -24,7 +23,7 @@ use Rattle.spike_cli.specs.declared.claims.Outcome.{Outcome}
 use Rattle.spike_cli.specs.declared.claims.Outcome.TheVariants.{Refuted, Open}
 use Rattle.spike_cli.specs.declared.statuses.Status.{Status}
 use Rattle.spike_cli.specs.declared.statuses.Status.TheVariants as status
-use Rattle.spike_cli.specs.declared.bounds.SearchBounds.{SearchBounds}
+use Rattle.command_line.specs.declared.bounds.SearchBounds.{SearchBounds}
 use Rattle.spike_cli.specs.Claims.{outcome_of, IsClaimOn, AreFirstClaims, AreClaims, IsRefutable, SomeIsRefutable, IsStatusOfGoals, IsRefuted, SomeIsRefuted, IsStatusOfClaims, named}
 use Rattle.spike_cli.specs.Ranges.{ArePrintable, IsPrintable}
 use Rattle.spike_cli.specs.Stops.{joined}
@@ -92,7 +91,7 @@ status_more claims claim status.Usage h = absurd h
 status_more claims claim status.OutOfMemory h = absurd h
 
 -- a declared symbol is in range
-symbol_in_range : (table : List (List ℕ × SymInfo)) (f : ℕ) (i : SymInfo) → option_map (λ (e : List ℕ × SymInfo). e.1) (slice_get table f) ≡ Some i → f < length table
+pub symbol_in_range : (table : List (List ℕ × SymInfo)) (f : ℕ) (i : SymInfo) → option_map (λ (e : List ℕ × SymInfo). e.1) (slice_get table f) ≡ Some i → f < length table
 symbol_in_range [] f i e = absurd (let q : None ≡ Some i = e in cc)
 symbol_in_range (e ∷ table) zero i h = omega arith
 symbol_in_range (e ∷ table) (suc f) i h = omega (arith, symbol_in_range table f i h)
@@ -120,17 +119,17 @@ claim_printable bounds spec goal claim c = subst (λ o. IsPrintable spec.sig o) 
     by (Found index values) f = named_printable spec goal.vars values f.2
     by (NotFound tried skipped cut) f = tt
 
-module _ (bounds : SearchBounds) (spec : Spec) (apart : NoOverlap spec) (whole : GroupsAreWhole spec) where
+module _ (bounds : SearchBounds) (spec : Spec) where
   -- a claim is refuted exactly where its goal is refutable
   refuted_refutable : (goal : Goal) (claim : Claim) → IsClaimOn bounds spec goal claim → IsRefuted claim.outcome → IsRefutable bounds spec goal
-  refuted_refutable goal claim c r = by c.search (c.exact apart whole) (subst (λ o. IsRefuted o) c.outcome r)
+  refuted_refutable goal claim c r = by c.search c.exact (subst (λ o. IsRefuted o) c.outcome r)
     where
       by : (search : Search) → Finds spec goal bounds.steps bounds.tries (substitutions spec goal bounds.depth) search → IsRefuted (outcome_of bounds goal search) → IsRefutable bounds spec goal
       by (Found index values) f r = (index, values, f.0, f.1, f.2)
       by (NotFound tried skipped cut) f r = absurd r
 
   refutable_refuted : (goal : Goal) (claim : Claim) → IsClaimOn bounds spec goal claim → IsRefutable bounds spec goal → IsRefuted claim.outcome
-  refutable_refuted goal claim c r = subst (λ o. IsRefuted o) (sym c.outcome) (by c.search (c.exact apart whole))
+  refutable_refuted goal claim c r = subst (λ o. IsRefuted o) (sym c.outcome) (by c.search c.exact)
     where
       by : (search : Search) → Finds spec goal bounds.steps bounds.tries (substitutions spec goal bounds.depth) search → IsRefuted (outcome_of bounds goal search)
       by (Found index values) f = tt
@@ -172,3 +171,9 @@ module _ (bounds : SearchBounds) (spec : Spec) (apart : NoOverlap spec) (whole :
   status_of_goals goals claims status.WriteFault a h = absurd h
   status_of_goals goals claims status.Usage a h = absurd h
   status_of_goals goals claims status.OutOfMemory a h = absurd h
+
+-- so are those that a fault names
+pub values_in_range : (sig : Sig) (values : List Tree) (ss : List SortId) → SortedAll sig [] (trees_of values) ss → AllByRecursion (SymbolsAreInRange sig) values
+values_in_range sig [] ss p = tt
+values_in_range sig (v ∷ values) [] p = absurd p
+values_in_range sig (v ∷ values) (s ∷ ss) p = (sorted_in_range sig [] v s p.0, values_in_range sig values ss p.1)

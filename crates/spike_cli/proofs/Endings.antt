@@ -6,16 +6,17 @@ use Rattle.io_core.specs.Piece.{Appended, AppendedPrefix}
 use Rattle.io_core.specs.declared.faults.WriteError.{WriteError}
 use Rattle.io_core.specs.declared.faults.WriteError.TheVariants as write
 use Rattle.spec_core.specs.declared.records.Spec.{Spec}
+use Rattle.spec_grammar.specs.declared.raw.RawSpec.{RawSpec}
 use Rattle.spike_cli.specs.declared.statuses.Status.{Status}
 use Rattle.spike_cli.specs.declared.statuses.Status.TheVariants as status
 use Rattle.spike_cli.specs.declared.stops.Stop.{Stop}
 use Rattle.spike_cli.specs.declared.stops.Stop.TheVariants.{WriteFault, OutOfMemory}
 use Rattle.spike_cli.specs.declared.claims.Claim.{Claim}
 use Rattle.spike_cli.specs.Claims.{IsStatusOfClaims}
-use Rattle.spike_cli.specs.Words.{Task, refuting, evaluating, Asks}
+use Rattle.command_line.specs.Tasks.{Task, checking, refuting, evaluating, Asks}
 use Rattle.spike_cli.specs.Evaluations.{IsEvaluation, valued, spent, refused}
 use Rattle.spike_cli.specs.Parts.{AppendsPartOf}
-use Rattle.spike_cli.specs.Meanings.{TextStandsFor}
+use Rattle.spike_cli.specs.Meanings.{IsAcceptedAs}
 use Rattle.spike_cli.specs.Refusals.{IsRefusalOf}
 use Rattle.spike_cli.specs.Tellings.{Tells, IsLineOf}
 use Rattle.spike_cli.specs.declared.refusals.Refusal.{Refusal}
@@ -73,9 +74,10 @@ no_claims claims status.Refuted n h = n
 no_claims claims status.Open n h = n
 no_claims claims status.Refused n h = n
 
-no_end : (task : Task) (spec : Spec) (text : List ℕ) (s : Status) → IsNoEnd s → IsEnd task spec text s → ⊥
-no_end (refuting bounds) spec text s n is = no_claims is.claims s n is.answers
-no_end (evaluating term steps) spec text s n is = no_evaluation spec term steps text s n is
+no_end : (task : Task) (raw : RawSpec) (spec : Spec) (text : List ℕ) (s : Status) → IsNoEnd s → IsEnd task raw spec text s → ⊥
+no_end (checking print) raw spec text s n is = subst (λ (u : Status). IsNoEnd u) is.1 n
+no_end (refuting bounds) raw spec text s n is = no_claims is.claims s n is.answers
+no_end (evaluating term steps) raw spec text s n is = no_evaluation spec term steps text s n is
 
 module _ (task : Task) (bytes : List ℕ) (old new : Option (List ℕ)) (writes writes' : ℕ) where
   -- the line of a refusal
@@ -90,30 +92,30 @@ module _ (task : Task) (bytes : List ℕ) (old new : Option (List ℕ)) (writes 
   refused_means r told status.Usage h = absurd h
   refused_means r told status.OutOfMemory h = part_of (IsLineOf r) (MayWriteFor task bytes) old new (λ t is. refusal (line_told (IsRefusalOf bytes) r told t is)) h
 
-  module _ (spec : Spec) (stands : TextStandsFor bytes spec) where
-    made : (s : Status) (text : List ℕ) → IsEnd task spec text s → Appended old new text → Ended task bytes old new s
-    made s text is done = record { spec = spec; stands = stands; text = text; is_end = is; appended = done }
+  module _ (raw : RawSpec) (spec : Spec) (accepted : IsAcceptedAs bytes raw spec) where
+    made : (s : Status) (text : List ℕ) → IsEnd task raw spec text s → Appended old new text → Ended task bytes old new s
+    made s text is done = record { raw = raw; spec = spec; accepted = accepted; text = text; is_end = is; appended = done }
 
     -- a task's text that was written whole
-    pub finished_means : (s : Status) (text : List ℕ) → IsEnd task spec text s → Appended old new text → MeansFor task bytes old new writes writes' s
+    pub finished_means : (s : Status) (text : List ℕ) → IsEnd task raw spec text s → Appended old new text → MeansFor task bytes old new writes writes' s
     finished_means status.Done text is done = made status.Done text is done
     finished_means status.Refuted text is done = made status.Refuted text is done
     finished_means status.Open text is done = made status.Open text is done
     finished_means status.Refused text is done = inr (made status.Refused text is done)
-    finished_means status.No text is done = no_end task spec text status.No tt is
-    finished_means status.ReadFault text is done = absurd (no_end task spec text status.ReadFault tt is)
-    finished_means status.WriteFault text is done = absurd (no_end task spec text status.WriteFault tt is)
-    finished_means status.Usage text is done = no_end task spec text status.Usage tt is
-    finished_means status.OutOfMemory text is done = absurd (no_end task spec text status.OutOfMemory tt is)
+    finished_means status.No text is done = no_end task raw spec text status.No tt is
+    finished_means status.ReadFault text is done = absurd (no_end task raw spec text status.ReadFault tt is)
+    finished_means status.WriteFault text is done = absurd (no_end task raw spec text status.WriteFault tt is)
+    finished_means status.Usage text is done = no_end task raw spec text status.Usage tt is
+    finished_means status.OutOfMemory text is done = absurd (no_end task raw spec text status.OutOfMemory tt is)
 
-    part : AppendsPartOf (MayWriteOn task spec) old new → AppendsPartOf (MayWriteFor task bytes) old new
-    part p = part_of (MayWriteOn task spec) (MayWriteFor task bytes) old new (λ t b. on_spec spec stands b) p
+    part : AppendsPartOf (MayWriteOn task raw spec) old new → AppendsPartOf (MayWriteFor task bytes) old new
+    part p = part_of (MayWriteOn task raw spec) (MayWriteFor task bytes) old new (λ t b. on_spec raw spec accepted b) p
 
     -- one that stopped before its end
-    pub stopped_means : (stop : Stop) (result : Status) → Stopped old new writes writes' (MayWriteOn task spec) stop → result ≡ status_of_stop stop → MeansFor task bytes old new writes writes' result
+    pub stopped_means : (stop : Stop) (result : Status) → Stopped old new writes writes' (MayWriteOn task raw spec) stop → result ≡ status_of_stop stop → MeansFor task bytes old new writes writes' result
     stopped_means stop result s e = subst (MeansFor task bytes old new writes writes') (sym e) (by stop s)
       where
-        by : (stop : Stop) → Stopped old new writes writes' (MayWriteOn task spec) stop → MeansFor task bytes old new writes writes' (status_of_stop stop)
+        by : (stop : Stop) → Stopped old new writes writes' (MayWriteOn task raw spec) stop → MeansFor task bytes old new writes writes' (status_of_stop stop)
         by WriteFault s = (s.0, part s.1)
         by OutOfMemory s = part s
 

@@ -7,6 +7,8 @@ use Rattle.spec_core.specs.Sorts.{Sorted}
 use Rattle.spec_core.specs.WellSorted.{IsWellSorted}
 use Rattle.spec_core.specs.TermText.{SymbolsAreInRange}
 use Rattle.spec_core.specs.Gives.{Gives}
+use Rattle.path_order.specs.Above.{Above}
+use Rattle.clause_core.specs.Admitted.{IsAdmitted}
 use Rattle.spec_core.proofs.Keeps.{keeps}
 use Rattle.spike_cli.specs.declared.refusals.Refusal.{Refusal}
 use Rattle.spike_cli.specs.declared.statuses.Status.{Status}
@@ -39,5 +41,5 @@ refused_result spec bytes steps r (Err e) told h = tt
 pub found_value : (spec other : Spec) (t v : Tree) (steps n : ℕ) (r : Eval) → other ≡ spec → r ≡ Value v n → IsEval other t steps r → Gives spec t v n × (n ≤ steps)
 found_value spec other t v steps n r same is h = subst (λ (s : Spec). IsEval s t steps (Value v n)) same (subst (λ (x : Eval). IsEval other t steps x) is h)
 
-pub found_none : (spec other : Spec) (t : Tree) (steps : ℕ) (r : Eval) → other ≡ spec → r ≡ Spent → IsEval other t steps r → HasNoValueWithin spec t steps
-found_none spec other t steps r same is h = subst (λ (s : Spec). IsEval s t steps Spent) same (subst (λ (x : Eval). IsEval other t steps x) is h)
+pub found_none : (spec other : Spec) (t : Tree) (steps : ℕ) (r : Eval) → IsAdmitted Above spec → other ≡ spec → r ≡ Spent → IsEval other t steps r → HasNoValueWithin spec t steps
+found_none spec other t steps r admitted same is h = subst (λ (s : Spec). IsEval s t steps Spent) same (subst (λ (x : Eval). IsEval other t steps x) is h) admitted.apart admitted.whole

@@ -1,8 +1,8 @@
 pub mod Walks
-pub mod OptionLemmas
-pub mod WordLemmas
 pub mod Pieces
 pub mod ClaimLemmas
+pub mod Accepting
+pub mod CheckLines
 pub mod Told
 pub mod Endings
 pub mod EvaluationLemmas

@@ -1,37 +1,87 @@
 -- What the text of a file leads to is one thing, and that of a term over a signature too.
-use Rattle.std.proofs.Common.{◌≡◌, ℕ, List, [], subst}
+use Rattle.std.proofs.Common.{◌≡◌, ℕ, List, [], sym, subst, ◌∙◌, inl, inr}
 use Rattle.term_core.specs.Tree.{Tree}
 use Rattle.spec_core.specs.declared.records.Spec.{Spec}
 use Rattle.spec_core.specs.Sig.{Sig}
 use Rattle.spec_core.specs.Declarations.{IsDeclared}
+use Rattle.spec_core.specs.WellSorted.{IsWellSorted}
 use Rattle.spec_core.proofs.Findings.{not_both}
 use Rattle.spec_grammar.specs.RawTree.{RawTree}
 use Rattle.spec_grammar.specs.declared.raw.RawSpec.{RawSpec}
+use Rattle.spec_grammar.specs.Derives.{TextDerives}
 use Rattle.spec_grammar.specs.Grammar.{IsSpecText, IsTermText}
 use Rattle.spec_grammar.specs.Symbols.{spec_symbols, term_symbols}
 use Rattle.spec_grammar.proofs.Agrees.{spec_agrees, term_text_agrees}
 use Rattle.spec_grammar.proofs.Means.{spec_means, term_means}
+use Rattle.spec_grammar.proofs.KeepsLimits.{keeps_limits}
 use Rattle.spec_grammar.proofs.Unique.{one_spec as one_spec_text, one_term_text as one_raw_term}
 use Rattle.sort_check.specs.StandsFor.{StandsFor, TermStandsFor}
 use Rattle.sort_check.specs.FirstFault.{spec_tests, ground_tests}
 use Rattle.sort_check.proofs.OneSpec.{one_spec}
+use Rattle.sort_check.proofs.WellSortedSpecs.{numbered_well_sorted}
 use Rattle.sort_check.proofs.Names.{symbols_distinct}
 use Rattle.sort_check.proofs.OneTerm.{one_term}
+use Rattle.path_order.specs.Above.{Above}
+use Rattle.spec_admit.specs.FirstFault.{Tells as IsFirstFault}
+use Rattle.spec_admit.specs.Laws.{NoFaultWhereAdmitted, OneFault}
+use Rattle.spec_admit.specs.declared.faults.AdmitFault.{AdmitFault}
+use Rattle.spec_admit.specs.declared.faults.AdmitFault.TheVariants.{Linear, Order, Overlap, Guards, Coverage, OutOfMemory}
+use Rattle.spike_cli.specs.AdmitLines.{IsAdmitLine}
 use Rattle.spike_cli.specs.declared.refusals.Subject.TheVariants.{File, Term}
-use Rattle.spike_cli.specs.Meanings.{TextStandsFor, TermTextStandsFor}
-use Rattle.spike_cli.specs.Refusals.{IsRefusalOf, IsTermRefusal}
+use Rattle.spike_cli.specs.Meanings.{TextStandsFor, IsAcceptedAs, TermTextStandsFor}
+use Rattle.spike_cli.specs.Refusals.{IsTextRefusal, IsRefusalOf, no_specification, not_admitted, IsTermRefusal}
 use Rattle.spike_cli.proofs.OneText.{one_raw, taken_or_refused, same_refusal}
 
-pub one_specification : (bytes : List ℕ) (spec other : Spec) → TextStandsFor bytes spec → TextStandsFor bytes other → spec ≡ other
-one_specification bytes spec other a b =
-    let same : b.0 ≡ a.0 = one_raw spec_symbols IsSpecText spec_agrees spec_means one_spec_text bytes b.0 a.0 b.1 a.1 in
-    one_spec a.0 spec other a.2 (subst (λ (raw : RawSpec). StandsFor raw other) same b.2)
+same_raw : (bytes : List ℕ) (raw other : RawSpec) → TextDerives IsSpecText bytes raw → TextDerives IsSpecText bytes other → raw ≡ other
+same_raw bytes raw other a b = one_raw spec_symbols IsSpecText spec_agrees spec_means one_spec_text bytes raw other a b
 
-pub no_refusal : (bytes line : List ℕ) (spec : Spec) → TextStandsFor bytes spec → IsRefusalOf bytes line → ⊥
-no_refusal bytes line spec a r = taken_or_refused spec_symbols IsSpecText spec_agrees spec_means one_spec_text bytes File spec_tests a.0 line a.1 (λ fault first. not_both (spec_tests a.0) fault a.2.clean first) r
+one_meaning : (bytes : List ℕ) (spec other : Spec) → TextStandsFor bytes spec → TextStandsFor bytes other → spec ≡ other
+one_meaning bytes spec other a b = one_spec a.0 spec other a.2 (subst (λ (raw : RawSpec). StandsFor raw other) (same_raw bytes b.0 a.0 b.1 a.1) b.2)
 
-pub one_refusal : (bytes line other : List ℕ) → IsRefusalOf bytes line → IsRefusalOf bytes other → line ≡ other
-one_refusal bytes line other a b = same_refusal spec_symbols IsSpecText spec_agrees spec_means one_spec_text bytes File spec_tests line other a b
+-- a text that stands for a specification has no fault before admission
+no_text_refusal : (bytes line : List ℕ) (spec : Spec) → TextStandsFor bytes spec → IsTextRefusal bytes line → ⊥
+no_text_refusal bytes line spec a r = taken_or_refused spec_symbols IsSpecText spec_agrees spec_means one_spec_text bytes File spec_tests a.0 line a.1 (λ fault first. not_both (spec_tests a.0) fault a.2.clean first) r
+
+pub one_specification : (bytes : List ℕ) (raw again : RawSpec) (spec other : Spec) → IsAcceptedAs bytes raw spec → IsAcceptedAs bytes again other → (raw ≡ again) × (spec ≡ other)
+one_specification bytes raw again spec other a b = (same_raw bytes raw again a.derived b.derived, one_meaning bytes spec other (raw, a.derived, a.stands) (again, b.derived, b.stands))
+
+pub no_refusal : NoFaultWhereAdmitted Above → (bytes line : List ℕ) (raw : RawSpec) (spec : Spec) → IsAcceptedAs bytes raw spec → IsRefusalOf bytes line → ⊥
+no_refusal none bytes line raw spec a (no_specification r) = no_text_refusal bytes line spec (raw, a.derived, a.stands) r
+no_refusal none bytes line raw spec a (not_admitted other fault stands first is) =
+    let same : other ≡ spec = one_meaning bytes other spec stands (raw, a.derived, a.stands) in
+    let free : fault ≡ OutOfMemory = none spec fault a.admitted (subst (λ (s : Spec). IsFirstFault Above s fault) same first) in
+    subst (λ (f : AdmitFault). IsAdmitLine other.sig f line) free is
+
+-- a fault of admission has one line
+one_admit_line : (sig : Sig) (fault : AdmitFault) (line other : List ℕ) → IsAdmitLine sig fault line → IsAdmitLine sig fault other → line ≡ other
+one_admit_line sig (Linear rule name) line other a b = a ∙ sym b
+one_admit_line sig (Order rule part) line other a b = a ∙ sym b
+one_admit_line sig (Overlap first second values) line other a b = a ∙ sym b
+one_admit_line sig (Guards rule) line other a b = a ∙ sym b
+one_admit_line sig (Coverage f values) line other a b = a ∙ sym b
+one_admit_line sig OutOfMemory line other a b = absurd a
+
+well_sorted_meaning : (bytes : List ℕ) (spec : Spec) → TextStandsFor bytes spec → IsWellSorted spec
+well_sorted_meaning bytes spec a = numbered_well_sorted a.0 spec (keeps_limits bytes a.0 a.1) a.2.numbered
+
+module _ (one : OneFault Above) where
+  same_admit_line : (spec : Spec) (fault another : AdmitFault) (line other : List ℕ) → IsWellSorted spec → IsFirstFault Above spec fault → IsFirstFault Above spec another → IsAdmitLine spec.sig fault line → IsAdmitLine spec.sig another other → line ≡ other
+  same_admit_line spec fault another line other fine first second a b =
+      elim (one spec fault another fine first second) [
+        | inl same ↦ one_admit_line spec.sig fault line other a (subst (λ (f : AdmitFault). IsAdmitLine spec.sig f other) (sym same) b)
+        | inr none ↦ elim none [
+          | inl e ↦ absurd (subst (λ (f : AdmitFault). IsAdmitLine spec.sig f line) e a)
+          | inr e ↦ absurd (subst (λ (f : AdmitFault). IsAdmitLine spec.sig f other) e b)
+        ]
+      ]
+
+  pub one_refusal : (bytes line other : List ℕ) → IsRefusalOf bytes line → IsRefusalOf bytes other → line ≡ other
+  one_refusal bytes line other (no_specification a) (no_specification b) = same_refusal spec_symbols IsSpecText spec_agrees spec_means one_spec_text bytes File spec_tests line other a b
+  one_refusal bytes line other (no_specification a) (not_admitted spec fault stands first is) = absurd (no_text_refusal bytes line spec stands a)
+  one_refusal bytes line other (not_admitted spec fault stands first is) (no_specification b) = absurd (no_text_refusal bytes other spec stands b)
+  one_refusal bytes line other (not_admitted spec fault stands first is) (not_admitted again another means second it) =
+      let same : again ≡ spec = one_meaning bytes again spec means stands in
+      same_admit_line spec fault another line other (well_sorted_meaning bytes spec stands) first (subst (λ (s : Spec). IsFirstFault Above s another) same second) is (subst (λ (s : Spec). IsAdmitLine s.sig another other) same it)
 
 pub one_term_text : (sig : Sig) (bytes : List ℕ) (t other : Tree) → IsDeclared sig → TermTextStandsFor sig bytes t → TermTextStandsFor sig bytes other → t ≡ other
 one_term_text sig bytes t other declared a b =

@@ -1,9 +1,9 @@
 -- Pieces that are appended one after the other.
-use Rattle.std.proofs.Common.{◌≡◌, ◌≤◌, ℕ, ◌+◌, List, [], ◌∷◌, ◌++◌, Option, Some, None, inl, inr, subst, refl, ap, sym, ◌∙◌, arith, length, take, append_assoc, length-append}
-use Rattle.std.specs.Prelude.{option_map, Result, Ok, Err, IsErrAnd}
+use Rattle.std.proofs.Common.{◌≡◌, ◌≤◌, ℕ, List, [], ◌∷◌, ◌++◌, Option, Some, None, inl, inr, subst, refl, ap, sym, ◌∙◌, arith, length, append_assoc}
+use Rattle.std.specs.Prelude.{Result, Ok, Err, IsErrAnd}
 use Rattle.std.specs.List.{flat_map}
 use Rattle.std.proofs.lemmas.List.{append-nil}
-use Rattle.std.proofs.Math.Seq.{take-append-add, take-length}
+use Rattle.std.proofs.Math.Seq.{take-length}
 use Rattle.std.proofs.lemmas.Grind.{flat_map-append}
 use Rattle.io_core.specs.Count.{Rose}
 use Rattle.io_core.specs.Piece.{Appended, AppendedPrefix}
@@ -16,7 +16,7 @@ use Rattle.io_core.specs.declared.faults.WriteError.{WriteError}
 use Rattle.io_core.specs.declared.faults.WriteError.TheVariants as write
 use Rattle.spike_cli.specs.Stops.{Stopped, stop_of}
 use Rattle.spike_cli.specs.ReportTexts.{claim_text, header_text, begun_text}
-use Rattle.io_core.proofs.Pieces.{Appended-append, AppendedPrefix-append}
+use Rattle.io_core.proofs.Pieces.{AppendedPrefix-append}
 use Rattle.io_core.proofs.Counts.{Rose-after}
 
 pub nothing_appended : (old : Option (List ℕ)) → Appended old old []

@@ -6,8 +6,6 @@ use Rattle.spec_core.specs.declared.records.Spec.{Spec}
 use Rattle.spec_core.specs.declared.records.Goal.{Goal}
 use Rattle.spec_core.specs.declared.records.VarInfo.{VarInfo}
 use Rattle.spec_core.specs.declared.records.Verdict.TheVariants.{Fails}
-use Rattle.spec_core.specs.Overlap.{NoOverlap}
-use Rattle.spec_core.specs.Groups.{GroupsAreWhole}
 use Rattle.spec_core.specs.Verdict.{IsVerdict}
 use Rattle.spec_core.specs.Order.{substitutions}
 use Rattle.spec_core.specs.TermText.{variable_names}
@@ -19,7 +17,7 @@ use Rattle.spike_cli.specs.declared.claims.Outcome.{Outcome}
 use Rattle.spike_cli.specs.declared.claims.Outcome.TheVariants.{Refuted, Open}
 use Rattle.spike_cli.specs.declared.statuses.Status.{Status}
 use Rattle.spike_cli.specs.declared.statuses.Status.TheVariants as status
-use Rattle.spike_cli.specs.declared.bounds.SearchBounds.{SearchBounds}
+use Rattle.command_line.specs.declared.bounds.SearchBounds.{SearchBounds}
 use Rattle.spike_cli.specs.declared.claims.Budget.{Budget}
 
 -- each value with the name of its variable
@@ -44,16 +42,14 @@ outcome_of bounds goal (Found index values) = Refuted index (named goal.vars val
 outcome_of bounds goal (NotFound tried skipped cut) = Open (budget_of bounds tried skipped cut)
 
 module _ (bounds : SearchBounds) (spec : Spec) where
-  -- the claim is on this goal and says what a search among its substitutions answers; a
-  -- counterexample makes the goal false in any case, and the rest is exact where left sides don't
-  -- overlap and groups are whole
+  -- the claim is on this goal and says what a search among its substitutions answers; under a
+  -- counterexample the goal is false
   pub record IsClaimOn (goal : Goal) (claim : Claim) : Type 0 where
     pub search : Search
     pub name : claim.goal ≡ goal.name
     pub outcome : claim.outcome ≡ outcome_of bounds goal search
     pub false : IsFalse spec goal bounds.tries (substitutions spec goal bounds.depth) search
-    pub exact : NoOverlap spec → GroupsAreWhole spec
-        → Finds spec goal bounds.steps bounds.tries (substitutions spec goal bounds.depth) search
+    pub exact : Finds spec goal bounds.steps bounds.tries (substitutions spec goal bounds.depth) search
 
   -- there are claims on the first goals, one for each and in their order
   abbrev pub AreFirstClaims : List Goal → List Claim → Type 0

@@ -6,8 +6,6 @@ use Rattle.spec_core.specs.declared.records.Spec.{Spec}
 use Rattle.spec_core.specs.Sig.{Sig}
 use Rattle.spec_core.specs.TermText.{term_text}
 use Rattle.spec_core.specs.Gives.{Gives}
-use Rattle.spec_core.specs.Overlap.{NoOverlap}
-use Rattle.spec_core.specs.Groups.{GroupsAreWhole}
 use Rattle.spike_cli.specs.declared.statuses.Status.{Status}
 use Rattle.spike_cli.specs.declared.statuses.Status.TheVariants.{Done, Open, Refused}
 use Rattle.spike_cli.specs.declared.evaluating.TheConstants.{MAX_SYMBOLS}
@@ -28,11 +26,10 @@ value_lines sig v n =
 abbrev pub spent_line : ℕ → List ℕ
 spent_line steps = codes "spent " ++ decimal steps ++ codes "\n"
 
--- where left sides don't overlap and groups are whole, the term has no value at a cost of at most
--- these steps
+-- the term has no value at a cost of at most these steps
 abbrev pub HasNoValueWithin : Spec → Tree → ℕ → Type 0
-HasNoValueWithin spec t steps = NoOverlap spec → GroupsAreWhole spec
-    → (v : Tree) (n : ℕ) → Gives spec t v n → n ≤ steps → ⊥
+HasNoValueWithin spec t steps =
+    (v : Tree) (n : ℕ) → Gives spec t v n → n ≤ steps → ⊥
 
 -- what is written for the bytes of a term, and the status: its value and the cost within the steps;
 -- that there is none; or the line of its first fault
@@ -43,3 +40,8 @@ pub data IsEvaluation (spec : Spec) (bytes : List ℕ) (steps : ℕ) : List ℕ 
       → IsEvaluation spec bytes steps (spent_line steps) Open
   refused : {line : List ℕ} → IsTermRefusal spec.sig bytes line
       → IsEvaluation spec bytes steps line Refused
+
+-- the text of an evaluation, whatever its status
+abbrev pub IsEvaluationText : Spec → List ℕ → ℕ → List ℕ → Type 0
+IsEvaluationText spec bytes steps text =
+    (status : Status) × IsEvaluation spec bytes steps text status

@@ -1,11 +1,10 @@
 -- What the program promises, in the order in which to read it.
-pub mod Numbers
-pub mod Options
-pub mod Words
 pub mod Claims
 pub mod ReportTexts
 pub mod Meanings
+pub mod AdmitLines
 pub mod Refusals
+pub mod Checks
 pub mod Reports
 pub mod Evaluations
 pub mod Parts
@@ -13,7 +12,6 @@ pub mod Runs
 pub mod Outcomes
 pub mod Codes
 -- What only this crate's own contracts speak of.
-pub mod Commands
 pub mod Tellings
 pub mod Ranges
 pub mod Stops

@@ -8,11 +8,20 @@ use Rattle.spec_grammar.specs.Grammar.{IsSpecText, IsTermText}
 use Rattle.spec_grammar.specs.RawTree.{RawTree}
 use Rattle.spec_grammar.specs.declared.raw.RawSpec.{RawSpec}
 use Rattle.sort_check.specs.StandsFor.{StandsFor, TermStandsFor}
+use Rattle.path_order.specs.Above.{Above}
+use Rattle.clause_core.specs.Admitted.{IsAdmitted}
 
 -- the text derives a raw specification that stands for this one
 abbrev pub TextStandsFor : List ℕ → Spec → Type 0
 TextStandsFor bytes spec =
     (raw : RawSpec) × TextDerives IsSpecText bytes raw × StandsFor raw spec
+
+-- the text derives the raw specification, and this stands for the other one, which the path ordering
+-- admits
+pub record IsAcceptedAs (bytes : List ℕ) (raw : RawSpec) (spec : Spec) : Type 0 where
+  pub derived : TextDerives IsSpecText bytes raw
+  pub stands : StandsFor raw spec
+  pub admitted : IsAdmitted Above spec
 
 -- the text derives a raw term that stands over the signature for this one, without variables
 abbrev pub TermTextStandsFor : Sig → List ℕ → Tree → Type 0

@@ -4,7 +4,8 @@ use Rattle.term_core.specs.Tree.{Tree}
 use Rattle.spec_core.specs.declared.records.Spec.{Spec}
 use Rattle.spec_core.specs.Sig.{Sig}
 use Rattle.spec_core.specs.Declarations.{IsDeclared}
-use Rattle.spike_cli.specs.Meanings.{TextStandsFor, TermTextStandsFor}
+use Rattle.spec_grammar.specs.declared.raw.RawSpec.{RawSpec}
+use Rattle.spike_cli.specs.Meanings.{IsAcceptedAs, TermTextStandsFor}
 use Rattle.spike_cli.specs.Refusals.{IsRefusalOf, IsTermRefusal}
 
 -- over a declared signature a term's text stands for one term at most, and none where it has a line
@@ -17,13 +18,14 @@ pub record OneTermEnding : Type 0 where
   pub one_refusal : (sig : Sig) (bytes line other : List ℕ)
       → IsTermRefusal sig bytes line → IsTermRefusal sig bytes other → line ≡ other
 
--- a text stands for one specification at most, and none where it has a line of refusal; it has one
--- such line at most
+-- a text is accepted as one specification at most, and as none where it has a line of refusal; it has
+-- one such line at most
 pub record OneEnding : Type 0 where
-  pub one_specification : (bytes : List ℕ) (spec other : Spec)
-      → TextStandsFor bytes spec → TextStandsFor bytes other → spec ≡ other
-  pub no_refusal : (bytes line : List ℕ) (spec : Spec)
-      → TextStandsFor bytes spec → IsRefusalOf bytes line → ⊥
+  pub one_specification : (bytes : List ℕ) (raw again : RawSpec) (spec other : Spec)
+      → IsAcceptedAs bytes raw spec → IsAcceptedAs bytes again other
+      → (raw ≡ again) × (spec ≡ other)
+  pub no_refusal : (bytes line : List ℕ) (raw : RawSpec) (spec : Spec)
+      → IsAcceptedAs bytes raw spec → IsRefusalOf bytes line → ⊥
   pub one_refusal : (bytes line other : List ℕ)
       → IsRefusalOf bytes line → IsRefusalOf bytes other → line ≡ other
   pub terms : OneTermEnding

@@ -6,7 +6,11 @@ use Rattle.spec_syntax.specs.declared.fault.SyntaxFault.{SyntaxFault}
 use Rattle.spec_syntax.specs.declared.fault.SyntaxFault.TheVariants.{Text, Syntax, Limit}
 use Rattle.spec_syntax.specs.declared.fault.SyntaxFault.TheVariants as syntax
 use Rattle.spec_syntax.specs.Faults.{HasFault}
+use Rattle.spec_core.specs.declared.records.Spec.{Spec}
 use Rattle.spec_core.specs.Sig.{Sig}
+use Rattle.path_order.specs.Above.{Above}
+use Rattle.spec_admit.specs.FirstFault.{Tells as IsFirstFault}
+use Rattle.spec_admit.specs.declared.faults.AdmitFault.{AdmitFault}
 use Rattle.spec_grammar.specs.Derives.{TextDerives}
 use Rattle.spec_grammar.specs.Grammar.{Marked, IsSpecText, IsTermText}
 use Rattle.sort_check.specs.FirstFault.{HasFirstFault, TermHasFirstFault}
@@ -15,6 +19,8 @@ use Rattle.sort_check.specs.declared.faults.SortFault.TheVariants.{Sort}
 use Rattle.sort_check.specs.declared.faults.SortFault.TheVariants as sort
 use Rattle.sort_check.specs.declared.faults.SortKind.{SortKind}
 use Rattle.sort_check.specs.Texts.{kind_text}
+use Rattle.spike_cli.specs.Meanings.{TextStandsFor}
+use Rattle.spike_cli.specs.AdmitLines.{IsAdmitLine}
 use Rattle.spike_cli.specs.declared.refusals.Subject.{Subject}
 use Rattle.spike_cli.specs.declared.refusals.Subject.TheVariants.{File, Term}
 
@@ -60,8 +66,16 @@ module _ (subject : Subject) where
         → IsRefusalLine IsText HasFirst bytes line
 
 -- the line for a file's text that stands for no specification
-abbrev pub IsRefusalOf : List ℕ → List ℕ → Type 0
-IsRefusalOf bytes line = IsRefusalLine File IsSpecText HasFirstFault bytes line
+abbrev pub IsTextRefusal : List ℕ → List ℕ → Type 0
+IsTextRefusal bytes line = IsRefusalLine File IsSpecText HasFirstFault bytes line
+
+-- the line for a file's text: it stands for no specification, or for one that the path ordering
+-- doesn't admit, which has this first fault
+pub data IsRefusalOf (bytes : List ℕ) : List ℕ → Type 0 where
+  no_specification : {line : List ℕ} → IsTextRefusal bytes line → IsRefusalOf bytes line
+  not_admitted : {line : List ℕ} (spec : Spec) (fault : AdmitFault)
+      → TextStandsFor bytes spec → IsFirstFault Above spec fault → IsAdmitLine spec.sig fault line
+      → IsRefusalOf bytes line
 
 -- the line for a term's text that stands for no term over the signature
 abbrev pub IsTermRefusal : Sig → List ℕ → List ℕ → Type 0

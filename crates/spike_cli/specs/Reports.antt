@@ -1,9 +1,7 @@
 -- The report of a specification.
 use Rattle.std.specs.Prelude.{◌≡◌, ℕ, List}
 use Rattle.spec_core.specs.declared.records.Spec.{Spec}
-use Rattle.spec_core.specs.Overlap.{NoOverlap}
-use Rattle.spec_core.specs.Groups.{GroupsAreWhole}
-use Rattle.spike_cli.specs.declared.bounds.SearchBounds.{SearchBounds}
+use Rattle.command_line.specs.declared.bounds.SearchBounds.{SearchBounds}
 use Rattle.spike_cli.specs.declared.claims.Claim.{Claim}
 use Rattle.spike_cli.specs.declared.statuses.Status.{Status}
 use Rattle.spike_cli.specs.Claims.{AreClaims, AreFirstClaims, IsStatusOfClaims, IsStatusOfGoals}
@@ -24,4 +22,4 @@ pub record IsReport (bounds : SearchBounds) (spec : Spec) (text : List ℕ)
   pub are_claims : AreClaims bounds spec spec.goals claims
   pub is_text : text ≡ report_text bounds.steps spec.sig claims
   pub answers : IsStatusOfClaims claims status
-  pub exact : NoOverlap spec → GroupsAreWhole spec → IsStatusOfGoals bounds spec spec.goals status
+  pub exact : IsStatusOfGoals bounds spec spec.goals status

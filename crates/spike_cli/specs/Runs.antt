@@ -1,52 +1,55 @@
 -- What a call of the program did, by its status.
 use Rattle.std.specs.Prelude.{◌≡◌, ℕ, ◌<◌, ◌≤◌, ◌⊎◌, List, [], ◌∷◌, ◌++◌, Option, codes, length, IfSome}
 use Rattle.spec_core.specs.declared.records.Spec.{Spec}
+use Rattle.spec_grammar.specs.declared.raw.RawSpec.{RawSpec}
 use Rattle.io_core.specs.Count.{Rose}
 use Rattle.io_core.specs.Piece.{Appended}
 use Rattle.spike_cli.specs.declared.statuses.Status.{Status}
 use Rattle.spike_cli.specs.declared.statuses.Status.TheVariants.{Done, Refuted, Open, Refused, No, ReadFault, WriteFault, Usage, OutOfMemory}
 use Rattle.spec_grammar.specs.declared.limits.TheConstants.{MAX_FILE_BYTES}
 use Rattle.spike_cli.specs.Parts.{AppendsPartOf}
-use Rattle.spike_cli.specs.Words.{Task, refuting, evaluating, Asks, AskNothing}
-use Rattle.spike_cli.specs.Meanings.{TextStandsFor}
+use Rattle.command_line.specs.Tasks.{Task, checking, refuting, evaluating, Asks, AskNothing}
+use Rattle.spike_cli.specs.Meanings.{IsAcceptedAs}
 use Rattle.spike_cli.specs.Refusals.{too_long_line, IsRefusalOf}
+use Rattle.spike_cli.specs.Checks.{check_text, IsCheck}
 use Rattle.spike_cli.specs.Reports.{BeginsReport, IsReport}
-use Rattle.spike_cli.specs.Evaluations.{IsEvaluation}
+use Rattle.spike_cli.specs.Evaluations.{IsEvaluation, IsEvaluationText}
 
 -- the line for words that are no command
 abbrev pub usage_line : List ℕ
 usage_line = codes "usage: spike check|eval|prove|refute|replay|load\n"
 
 -- the whole text of a task on a specification, and its status
-abbrev pub IsEnd : Task → Spec → List ℕ → Status → Type 0
-IsEnd (refuting bounds) spec text status = IsReport bounds spec text status
-IsEnd (evaluating term steps) spec text status = IsEvaluation spec term steps text status
+abbrev pub IsEnd : Task → RawSpec → Spec → List ℕ → Status → Type 0
+IsEnd (checking print) raw spec text status = IsCheck print raw text status
+IsEnd (refuting bounds) raw spec text status = IsReport bounds spec text status
+IsEnd (evaluating term steps) raw spec text status = IsEvaluation spec term steps text status
 
 -- a text that a task may write on a specification: what a report begins with, or the whole text of
--- an evaluation
-abbrev pub MayWriteOn : Task → Spec → List ℕ → Type 0
-MayWriteOn (refuting bounds) spec text = BeginsReport bounds spec text
-MayWriteOn (evaluating term steps) spec text =
-    (status : Status) × IsEvaluation spec term steps text status
+-- a check or of an evaluation
+abbrev pub MayWriteOn : Task → RawSpec → Spec → List ℕ → Type 0
+MayWriteOn (checking print) raw spec text = text ≡ check_text print raw
+MayWriteOn (refuting bounds) raw spec text = BeginsReport bounds spec text
+MayWriteOn (evaluating term steps) raw spec text = IsEvaluationText spec term steps text
 
 module _ (task : Task) (bytes : List ℕ) where
   -- a text that a task may write for the bytes of a file
   pub data MayWriteFor : List ℕ → Type 0 where
     refusal : {line : List ℕ} → IsRefusalOf bytes line → MayWriteFor line
-    on_spec : (spec : Spec) {text : List ℕ}
-        → TextStandsFor bytes spec → MayWriteOn task spec text → MayWriteFor text
+    on_spec : (raw : RawSpec) (spec : Spec) {text : List ℕ}
+        → IsAcceptedAs bytes raw spec → MayWriteOn task raw spec text → MayWriteFor text
 
   module _ (old new : Option (List ℕ)) where
     -- the task's whole text on the bytes' specification was appended, with this status
     pub record Ended (status : Status) : Type 0 where
+      pub raw : RawSpec
       pub spec : Spec
-      pub stands : TextStandsFor bytes spec
+      pub accepted : IsAcceptedAs bytes raw spec
       pub text : List ℕ
-      pub is_end : IsEnd task spec text status
+      pub is_end : IsEnd task raw spec text status
       pub appended : Appended old new text
 
-    -- the line for bytes that stand for no specification was appended, or the one that the task
-    -- writes
+    -- the line for bytes that aren't accepted was appended, or the one that the task writes
     abbrev pub RefusedBytes : Type 0
     RefusedBytes =
         ((line : List ℕ) × IsRefusalOf bytes line × Appended old new line) ⊎ Ended Refused

@@ -12,13 +12,13 @@ use Rattle.spike_cli.specs.declared.stops.Stop.TheVariants.{WriteFault, OutOfMem
 use Rattle.spike_cli.specs.declared.claims.Outcome.{Outcome}
 use Rattle.spike_cli.specs.declared.claims.Outcome.TheVariants.{Refuted, Open}
 use Rattle.spec_core.specs.declared.records.Goal.{Goal}
-use Rattle.spike_cli.specs.declared.bounds.SearchBounds.{SearchBounds}
+use Rattle.command_line.specs.declared.bounds.SearchBounds.{SearchBounds}
 use Rattle.spike_cli.specs.declared.claims.Claim.{Claim}
 use Rattle.spike_cli.specs.Claims.{IsClaimOn}
 use Rattle.spike_cli.specs.ReportTexts.{claim_text, header_text}
 use Rattle.spike_cli.specs.Parts.{AppendsPartOf}
-use Rattle.spike_cli.specs.Words.{Task}
-use Rattle.spike_cli.specs.Runs.{IsEnd, MayWriteOn, Ended, RefusedBytes, MayWriteFor}
+use Rattle.command_line.specs.Tasks.{Task}
+use Rattle.spike_cli.specs.Runs.{Ended, RefusedBytes, MayWriteFor}
 
 -- the words for a command that stopped
 abbrev pub stop_text : Stop → List ℕ
@@ -65,11 +65,12 @@ module _ (old new : Option (List ℕ)) (writes writes' : ℕ) where
       × Appended old new (claim_text spec.sig claim) × (after ≡ joined before claim.outcome)
   WritesClaim bounds spec goal before (Err stop) = Stopped (IsTextOnGoal bounds spec goal) stop
 
-  -- a task's whole text was appended, with its status
-  abbrev pub Finishes : Task → Spec → Result Status Stop → Type 0
-  Finishes task spec (Ok after) =
-      (text : List ℕ) × IsEnd task spec text after × Appended old new text
-  Finishes task spec (Err stop) = Stopped (MayWriteOn task spec) stop
+  -- a whole text was appended, with its status, or a part of one where the command stopped
+  abbrev pub Finishes :
+      (List ℕ → Status → Type 0) → (List ℕ → Type 0) → Result Status Stop → Type 0
+  Finishes IsWhole IsPart (Ok after) =
+      (text : List ℕ) × IsWhole text after × Appended old new text
+  Finishes IsWhole IsPart (Err stop) = Stopped IsPart stop
 
 -- one of these texts was appended as a refusal, or a part of one where the command stopped
 module _ (IsText : List ℕ → Type 0) (old new : Option (List ℕ)) (writes writes' : ℕ) where

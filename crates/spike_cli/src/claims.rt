@@ -1,8 +1,10 @@
 ghost use Rattle.std.specs.Prelude.{◌≡◌, ℕ, Some, IfOk, slice_get};
 ghost use Rattle.spec_core.specs.WellSorted.{IsWellSorted};
+ghost use Rattle.path_order.specs.Above.{Above};
+ghost use Rattle.clause_core.specs.Admitted.{IsAdmitted};
 ghost use Rattle.spike_cli.specs.Claims.{IsClaimOn, named};
 
-use crate::bounds::SearchBounds;
+use command_line::SearchBounds;
 use refuter::{Search, search};
 use spec_core::{Goal, Spec, VarInfo};
 use std::alloc::Global;
@@ -51,6 +53,7 @@ pub fn claim_on(
     bounds: SearchBounds,
 ) -> Result<Claim, OutOfMemory>
     requires fine { IsWellSorted spec.now }
+    requires admitted { IsAdmitted Above spec.now }
     requires listed { (k : ℕ) × (slice_get spec.now.goals k ≡ Some goal.now) }
     ensures { IfOk result (IsClaimOn bounds spec.now goal.now) }
 {

@@ -1,12 +1,13 @@
 ghost use Rattle.std.specs.Prelude.{◌≡◌, ◌≤◌, ◌++◌, IfOk, OnOk};
 ghost use Rattle.spec_core.specs.TermText.{SymbolsAreInRange};
 ghost use Rattle.spec_core.specs.WellSorted.{IsWellSorted};
-ghost use Rattle.spike_cli.specs.Evaluations.{IsEvaluation, value_text};
+ghost use Rattle.path_order.specs.Above.{Above};
+ghost use Rattle.clause_core.specs.Admitted.{IsAdmitted};
+ghost use Rattle.spike_cli.specs.Evaluations.{IsEvaluation, IsEvaluationText, value_text};
 ghost use Rattle.spike_cli.specs.Evaluations.{value_lines as lines_of_value};
 ghost use Rattle.spike_cli.specs.Evaluations.{spent_line as line_of_spent};
 ghost use Rattle.spike_cli.specs.Stops.{Finishes};
 ghost use Rattle.spike_cli.specs.Tellings.{IsLineOf};
-ghost use Rattle.spike_cli.specs.Words.{evaluating};
 
 use crate::reading::ground_term;
 use crate::refusals::Refusal;
@@ -36,9 +37,11 @@ pub fn evaluate<S: Sink>(
     steps: u32,
     out: &mut S,
 ) -> Result<Status, Stop>
-    requires { IsWellSorted spec.now }
+    requires fine { IsWellSorted spec.now }
+    requires admitted { IsAdmitted Above spec.now }
     ensures finishes { Finishes (S.written out.old) (S.written out.new)
-        (S.faults out.old) (S.faults out.new) (evaluating term.now steps) spec.now result }
+        (S.faults out.old) (S.faults out.new)
+        (IsEvaluation spec.now term.now steps) (IsEvaluationText spec.now term.now steps) result }
     ensures writes { S.faults out.old ≤ S.faults out.new }
 {
     let evaluation = evaluation_of(alloc, spec, term, steps)?;
@@ -53,7 +56,8 @@ fn evaluation_of(
     bytes: &[u8],
     steps: u32,
 ) -> Result<Evaluation, OutOfMemory>
-    requires { IsWellSorted spec.now }
+    requires fine { IsWellSorted spec.now }
+    requires admitted { IsAdmitted Above spec.now }
     ensures { IfOk result (λ e. IsEvaluation spec.now bytes.now steps e.text.items e.status) }
 {
     let term = match ground_term(alloc, &spec.sig, bytes) {

@@ -1,37 +1,30 @@
-//! The program `spike`: it reads a file of sorts, functions, rules and goals, and writes a report
-//! on the goals or the value of a term.
+//! The program `spike`: it reads a file of sorts, functions, rules and goals, admits it, and writes
+//! a report on the goals or the value of a term.
 //!
-//! `refute FILE` looks for counterexamples of the goals, as far as `--depth`, `--tries` and
-//! `--steps` say, and `eval FILE TERM` evaluates a term without variables within `--steps` rule
-//! uses. A file or a term that isn't one gets a line of refusal, which says what its first fault
-//! is.
+//! `check FILE` says that the file is accepted, or with `--print` writes its printed form. `refute
+//! FILE` looks for counterexamples of the goals, as far as `--depth`, `--tries` and `--steps` say,
+//! and `eval FILE TERM` evaluates a term without variables within `--steps` rule uses. A file that
+//! isn't accepted, or a term that isn't one, gets a line of refusal, which says what its first
+//! fault is.
 //!
 //! It stands on all the other crates. [`run`] is the whole program over a store of files and a
 //! sink, and its contract is what the program promises; `main` hands it the words after the
 //! program's name, the system's files and standard output, and ends with the code of its status.
 #![tactic(auto)]
 
-mod bounds;
+mod admission;
+mod checking;
 mod claims;
 mod evaluating;
 mod laws;
-#[cfg(test)]
-mod left_side_tests;
-mod options;
 mod reading;
 mod refusals;
 mod refuting;
 mod reports;
 mod running;
-#[cfg(test)]
-mod sort_tests;
 mod statuses;
 mod stops;
-#[cfg(test)]
-mod tests;
-mod words;
 
-pub use bounds::SearchBounds;
 pub use claims::{Budget, Claim, Outcome};
 use io_core::{StdFiles, StdSink};
 pub use laws::one_ending;

@@ -1,31 +1,59 @@
-ghost use Rattle.std.specs.Prelude.{IfOk, IfErr, []};
+ghost use Rattle.std.specs.Prelude.{◌≡◌, ◌≤◌, IfOk, IfErr, [], length};
 ghost use Rattle.term_core.specs.declared.ids.SortId.{SortId};
 ghost use Rattle.spec_core.specs.Sorts.{Sorted};
+ghost use Rattle.spec_grammar.specs.declared.limits.TheConstants.{MAX_FILE_BYTES};
 ghost use Rattle.spec_core.specs.WellSorted.{IsWellSorted};
-ghost use Rattle.spike_cli.specs.Meanings.{TextStandsFor, TermTextStandsFor};
+ghost use Rattle.path_order.specs.Above.{Above};
+ghost use Rattle.clause_core.specs.Admitted.{IsAdmitted};
+ghost use Rattle.spike_cli.specs.Meanings.{IsAcceptedAs, TermTextStandsFor};
 ghost use Rattle.spike_cli.specs.Refusals.{IsRefusalOf, IsTermRefusal};
 ghost use Rattle.spike_cli.specs.Tellings.{Tells};
 
+use crate::admission::admit_refusal;
 use crate::refusals::{Refusal, Subject, sort_refusal, syntax_refusal};
-use sort_check::{elaborate, elaborate_term};
+use path_order::Lpo;
+use sort_check::{elaborate, elaborate_term, numbering_keeps_sizes};
+use spec_admit::{Admitted, admit};
 use spec_core::{Signature, Spec};
-use spec_syntax::{read, read_term};
+use spec_syntax::{RawSpec, read, read_term};
 use std::alloc::Global;
 use term_core::Term;
 
-/// The specification that the bytes of a file stand for, or the line of their first fault.
-pub fn specification(alloc: Global, bytes: &[u8]) -> Result<Spec, Refusal>
-    ensures stands { IfOk result (TextStandsFor bytes.now) }
-    ensures sorted { IfOk result IsWellSorted }
+/// A specification that the path ordering admits, and how its text has it.
+#[derive(Drop)]
+pub struct Accepted {
+    pub raw: RawSpec,
+    pub admitted: Admitted<Lpo>,
+}
+
+impl Accepted {
+    pub fn spec(&self) -> &Spec
+        ensures is { result.now ≡ self.now.admitted.spec }
+        ensures sorted { IsWellSorted result.now }
+        ensures admitted { IsAdmitted Above result.now }
+    {
+        &self.admitted.spec
+    }
+}
+
+/// The admitted specification that the bytes of a file stand for, or the line of their first fault.
+pub fn specification(alloc: Global, bytes: &[u8]) -> Result<Accepted, Refusal>
+    requires { length bytes.now ≤ MAX_FILE_BYTES }
+    ensures accepted { IfOk result (λ a. IsAcceptedAs bytes.now a.raw a.admitted.spec) }
     ensures refused { IfErr result (Tells (IsRefusalOf bytes.now)) }
 {
     let raw = match read(alloc, bytes) {
         Ok(raw) => raw,
         Err(fault) => return Err(syntax_refusal(alloc, Subject::File, fault)),
     };
-    match elaborate(alloc, &raw) {
-        Ok(spec) => Ok(spec),
-        Err(fault) => Err(sort_refusal(alloc, Subject::File, fault)),
+    let spec = match elaborate(alloc, &raw) {
+        Ok(spec) => spec,
+        Err(fault) => return Err(sort_refusal(alloc, Subject::File, fault)),
+    };
+    numbering_keeps_sizes();
+    match admit(alloc, spec, Lpo::by_number()) {
+        Ok(admitted) => Ok(Accepted { raw, admitted }),
+        Err(error) => Err(admit_refusal(alloc, &error.spec.sig, &error.fault)),
     }
 }
 

@@ -1,9 +1,11 @@
 ghost use Rattle.std.specs.Prelude.{◌≡◌, ◌≤◌, ℕ, Some, slice_get};
 ghost use Rattle.spec_core.specs.WellSorted.{IsWellSorted};
+ghost use Rattle.path_order.specs.Above.{Above};
+ghost use Rattle.clause_core.specs.Admitted.{IsAdmitted};
+ghost use Rattle.spike_cli.specs.Reports.{BeginsReport, IsReport};
 ghost use Rattle.spike_cli.specs.Stops.{Finishes, WritesHeader, WritesClaim, joined};
-ghost use Rattle.spike_cli.specs.Words.{refuting};
 
-use crate::bounds::SearchBounds;
+use command_line::SearchBounds;
 use crate::claims::{Outcome, claim_on};
 use crate::reports::{claim_text, header};
 use crate::statuses::Status;
@@ -19,9 +21,11 @@ pub fn refute<S: Sink>(
     bounds: SearchBounds,
     out: &mut S,
 ) -> Result<Status, Stop>
-    requires { IsWellSorted spec.now }
+    requires fine { IsWellSorted spec.now }
+    requires admitted { IsAdmitted Above spec.now }
     ensures finishes { Finishes (S.written out.old) (S.written out.new)
-        (S.faults out.old) (S.faults out.new) (refuting bounds) spec.now result }
+        (S.faults out.old) (S.faults out.new)
+        (IsReport bounds spec.now) (BeginsReport bounds spec.now) result }
     ensures writes { S.faults out.old ≤ S.faults out.new }
 {
     write_header(alloc, bounds.steps, out)?;
@@ -54,6 +58,7 @@ fn write_claim<S: Sink>(
     out: &mut S,
 ) -> Result<Status, Stop>
     requires fine { IsWellSorted spec.now }
+    requires admitted { IsAdmitted Above spec.now }
     requires listed { (k : ℕ) × (slice_get spec.now.goals k ≡ Some goal.now) }
     ensures claim { WritesClaim (S.written out.old) (S.written out.new)
         (S.faults out.old) (S.faults out.new) bounds spec.now goal.now status result }

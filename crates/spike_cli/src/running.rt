@@ -1,19 +1,19 @@
-ghost use Rattle.std.specs.Prelude.{◌≡◌, ◌≤◌, ℕ, List, map, string_bytes};
-ghost use Rattle.spec_core.specs.WellSorted.{IsWellSorted};
-ghost use Rattle.spike_cli.specs.Commands.{task_of};
-ghost use Rattle.spike_cli.specs.Runs.{Means, AskedPrefix};
+ghost use Rattle.std.specs.Prelude.{◌≡◌, ◌≤◌, ℕ, List, length, map, string_bytes};
+ghost use Rattle.spec_grammar.specs.KeepsLimits.{KeepsLimits};
+ghost use Rattle.command_line.specs.Commands.{task_of};
+ghost use Rattle.spike_cli.specs.Runs.{Means, AskedPrefix, IsEnd, MayWriteOn};
 ghost use Rattle.spike_cli.specs.Stops.{MeansFor, Refuses, Finishes, status_ended};
 ghost use Rattle.spike_cli.specs.Tellings.{IsLineOf};
 
+use crate::checking::check;
 use crate::evaluating::evaluate;
-use crate::reading::specification;
+use crate::reading::{Accepted, specification};
 use crate::refusals::Refusal;
 use crate::refuting::refute;
 use crate::statuses::Status;
 use crate::stops::Stop;
-use crate::words::{Command, command_of};
+use command_line::{Command, command_of};
 use io_core::{Files, ReadError, Sink, WriteError, write_all};
-use spec_core::Spec;
 use spec_grammar::MAX_FILE_BYTES;
 use std::alloc::Global;
 
@@ -29,13 +29,17 @@ pub fn run<F: Files, S: Sink>(alloc: Global, words: &[String], files: &mut F, ou
     ensures reads { F.faults files.old ≤ F.faults files.new }
     ensures writes { S.faults out.old ≤ S.faults out.new }
 {
-    let Some(command) = command_of(words) else {
-        let wrote = write_all(
-            out,
-            alloc,
-            b"usage: spike check|eval|prove|refute|replay|load\n",
-        );
-        return ended(Status::Usage, wrote);
+    let command = match command_of(alloc, words) {
+        Ok(Some(command)) => command,
+        Ok(None) => {
+            let wrote = write_all(
+                out,
+                alloc,
+                b"usage: spike check|eval|prove|refute|replay|load\n",
+            );
+            return ended(Status::Usage, wrote);
+        }
+        Err(_) => return Status::OutOfMemory,
     };
     match files.read(alloc, command.file(), MAX_FILE_BYTES) {
         Ok(bytes) => carry_out(alloc, &command, &bytes, out),
@@ -50,12 +54,13 @@ pub fn run<F: Files, S: Sink>(alloc: Global, words: &[String], files: &mut F, ou
 
 /// Carries out a command on the bytes of its file.
 fn carry_out<S: Sink>(alloc: Global, command: &Command, bytes: &[u8], out: &mut S) -> Status
+    requires { length bytes.now ≤ MAX_FILE_BYTES }
     ensures means { MeansFor (task_of command.now) bytes.now
         (S.written out.old) (S.written out.new) (S.faults out.old) (S.faults out.new) result }
     ensures writes { S.faults out.old ≤ S.faults out.new }
 {
     match specification(alloc, bytes) {
-        Ok(spec) => match finish(alloc, command, &spec, out) {
+        Ok(accepted) => match finish(alloc, command, &accepted, out) {
             Ok(status) => status,
             Err(stop) => stop.status(),
         },
@@ -63,21 +68,25 @@ fn carry_out<S: Sink>(alloc: Global, command: &Command, bytes: &[u8], out: &mut 
     }
 }
 
-/// Carries out a command on the specification of its file.
+/// Carries out a command on the accepted specification of its file.
 fn finish<S: Sink>(
     alloc: Global,
     command: &Command,
-    spec: &Spec,
+    accepted: &Accepted,
     out: &mut S,
 ) -> Result<Status, Stop>
-    requires { IsWellSorted spec.now }
+    requires { KeepsLimits accepted.now.raw }
     ensures finishes { Finishes (S.written out.old) (S.written out.new)
-        (S.faults out.old) (S.faults out.new) (task_of command.now) spec.now result }
+        (S.faults out.old) (S.faults out.new) (IsEnd (task_of command.now) accepted.now.raw accepted.now.admitted.spec)
+        (MayWriteOn (task_of command.now) accepted.now.raw accepted.now.admitted.spec) result }
     ensures writes { S.faults out.old ≤ S.faults out.new }
 {
     match command {
-        Command::Refute { bounds, .. } => refute(alloc, spec, *bounds, out),
-        Command::Eval { term, steps, .. } => evaluate(alloc, spec, term.as_bytes(), *steps, out),
+        Command::Check { print, .. } => check(alloc, &accepted.raw, *print, out),
+        Command::Refute { bounds, .. } => refute(alloc, accepted.spec(), *bounds, out),
+        Command::Eval { term, steps, .. } => {
+            evaluate(alloc, accepted.spec(), term.as_bytes(), *steps, out)
+        }
     }
 }
 

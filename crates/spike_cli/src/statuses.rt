@@ -10,7 +10,7 @@ pub enum Status {
     Refuted,
     /// No goal was refuted, and one was left open.
     Open,
-    /// The file is too long, or isn't a specification.
+    /// The file is too long or isn't accepted, or the term isn't one.
     Refused,
     /// A report wasn't accepted.
     No,

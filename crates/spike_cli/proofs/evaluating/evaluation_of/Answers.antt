@@ -10,7 +10,7 @@ returns-in-Err c = refused_result c.args.spec.now c.args.bytes.now c.args.steps 
 pub value_lines-requires : goal.value_lines-requires
 value_lines-requires c =
     let found = found_value c.args.spec.now _ c.in-Ok.term c.in-Value.value c.args.steps c.in-Value.cost _ c.in_ok-new.ensures c.in-Value.is c.in_ok-value.ensures.found in
-    value_printable c.args.spec.now c.in-Ok.term c.in-Value.value c.in-Value.cost c.requires c.in-Ok.ensures.sorted found.0
+    value_printable c.args.spec.now c.in-Ok.term c.in-Value.value c.in-Value.cost c.requires.fine c.in-Ok.ensures.sorted found.0
 
 pub returns-in-Value : goal.returns-in-Value
 returns-in-Value c =
@@ -21,5 +21,5 @@ returns-in-Value c =
 pub returns : goal.returns
 returns c =
     let spec = c.args.spec.now in
-    let none = found_none spec _ c.in-Ok.term c.args.steps _ c.in_ok-new.ensures c.in-Spent.is c.in_ok-value.ensures.found in
+    let none = found_none spec _ c.in-Ok.term c.args.steps _ c.requires.admitted c.in_ok-new.ensures c.in-Spent.is c.in_ok-value.ensures.found in
     subst (λ text. IsEvaluation spec c.args.bytes.now c.args.steps text Open) (sym c.in_ok-spent_line-in-Spent.ensures) (spent c.in-Ok.term c.in-Ok.ensures.stands none)

@@ -4,7 +4,7 @@ use Rattle.spike_cli.proofs.laws.one_ending.Goals as goal
 pub returns : goal.returns
 returns c = record {
   one_specification = one_specification;
-  no_refusal = no_refusal;
-  one_refusal = one_refusal;
+  no_refusal = no_refusal c.no_fault_where_admitted.ensures;
+  one_refusal = one_refusal c.one_fault.ensures;
   terms = record { one_term = one_term_text; no_refusal = no_term_refusal; one_refusal = one_term_refusal };
 }

@@ -1,4 +1,4 @@
-use Rattle.std.proofs.Common.{ap}
+use Rattle.std.proofs.Common.{ap, arith, length}
 use Rattle.std.specs.Prelude.{Err}
 use Rattle.spec_grammar.specs.Grammar.{IsSpecText}
 use Rattle.spec_grammar.proofs.KeepsLimits.{keeps_limits}
@@ -6,16 +6,29 @@ use Rattle.sort_check.specs.FirstFault.{HasFirstFault}
 use Rattle.spike_cli.specs.declared.refusals.Subject.TheVariants.{File}
 use Rattle.sort_check.proofs.FewDeclarations.{few_declarations}
 use Rattle.spike_cli.proofs.Told.{syntax_told, sort_told}
+use Rattle.spike_cli.proofs.Accepting.{spec_within, text_told, accepted_as, refused_as, back_printable}
 use Rattle.spike_cli.proofs.reading.specification.Goals as goal
 
 pub elaborate-requires : goal.elaborate-requires
 elaborate-requires c = record { few = few_declarations c.in-Ok.raw (keeps_limits c.args.bytes.now c.in-Ok.raw c.in-Ok.ensures.derived) }
 
 pub returns-in-Err-clause-refused : goal.returns-in-Err-clause-refused
-returns-in-Err-clause-refused c = syntax_told File IsSpecText HasFirstFault c.args.bytes.now c.in-Err.fault c.in-Err.ensures.fault c.syntax_refusal.result c.syntax_refusal.ensures
+returns-in-Err-clause-refused c = text_told c.args.bytes.now c.syntax_refusal.result (syntax_told File IsSpecText HasFirstFault c.args.bytes.now c.in-Err.fault c.in-Err.ensures.fault c.syntax_refusal.result c.syntax_refusal.ensures)
 
-pub returns-in-Ok-elaborate-clause-sorted : goal.returns-in-Ok-elaborate-clause-sorted
-returns-in-Ok-elaborate-clause-sorted c = c.in-Ok-elaborate.ensures.sorted (keeps_limits c.args.bytes.now c.in-Ok.raw c.in-Ok.ensures.derived)
+pub returns-in-Err-elaborate-clause-refused : goal.returns-in-Err-elaborate-clause-refused
+returns-in-Err-elaborate-clause-refused c = text_told c.args.bytes.now c.sort_refusal.result (sort_told File IsSpecText HasFirstFault c.args.bytes.now c.in-Ok.raw c.in-Ok.ensures.derived c.in-Err-elaborate.fault (λ at kind e. c.in-Err-elaborate.ensures.fault at kind (ap (λ f. Err f) e)) c.sort_refusal.result c.sort_refusal.ensures)
 
-pub returns-clause-refused : goal.returns-clause-refused
-returns-clause-refused c = sort_told File IsSpecText HasFirstFault c.args.bytes.now c.in-Ok.raw c.in-Ok.ensures.derived c.in-Err-elaborate.fault (λ at kind e. c.in-Err-elaborate.ensures.fault at kind (ap (λ f. Err f) e)) c.sort_refusal.result c.sort_refusal.ensures
+pub admit-requires-clause-sorted : goal.admit-requires-clause-sorted
+admit-requires-clause-sorted c = c.in-Ok-elaborate.ensures.sorted (keeps_limits c.args.bytes.now c.in-Ok.raw c.in-Ok.ensures.derived)
+
+pub admit-requires-clause-small : goal.admit-requires-clause-small
+admit-requires-clause-small c = spec_within (length c.args.bytes.now) 4294967295 (omega (arith, c.requires)) c.in-Ok-elaborate.spec (c.numbering_keeps_sizes.ensures (length c.args.bytes.now) c.in-Ok.raw c.in-Ok-elaborate.spec c.in-Ok.ensures.few_words c.in-Ok-elaborate.ensures.stands.numbered)
+
+pub returns-in-Ok-admit-clause-accepted : goal.returns-in-Ok-admit-clause-accepted
+returns-in-Ok-admit-clause-accepted c = accepted_as c.args.bytes.now c.in-Ok.raw c.in-Ok-elaborate.spec c.in-Ok.ensures.derived c.in-Ok-elaborate.ensures.stands c.in-Ok-admit.admitted.spec c.in-Ok-admit.ensures.same_spec c.in-Ok-admit.ensures.admitted
+
+pub admit_refusal-requires : goal.admit_refusal-requires
+admit_refusal-requires c = back_printable c.in-Ok-elaborate.spec c.in-Err-admit.error.spec c.in-Err-admit.error.fault c.in-Err-admit.ensures.returned c.in-Err-admit.ensures.refused
+
+pub returns-in-Err-admit-clause-refused : goal.returns-in-Err-admit-clause-refused
+returns-in-Err-admit-clause-refused c = refused_as c.args.bytes.now c.in-Ok.raw c.in-Ok-elaborate.spec c.in-Ok.ensures.derived c.in-Ok-elaborate.ensures.stands c.in-Err-admit.error.spec c.in-Err-admit.error.fault c.in-Err-admit.ensures.returned c.in-Err-admit.ensures.refused c.admit_refusal.result c.admit_refusal.ensures

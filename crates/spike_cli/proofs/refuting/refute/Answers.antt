@@ -8,8 +8,7 @@ use Rattle.spec_core.specs.declared.records.Goal.{Goal}
 use Rattle.spike_cli.specs.declared.claims.Claim.{Claim}
 use Rattle.spike_cli.specs.Claims.{IsClaimOn, AreClaims, AreFirstClaims, IsStatusOfClaims}
 use Rattle.spike_cli.specs.ReportTexts.{claim_text, header_text, begun_text}
-use Rattle.spike_cli.specs.Reports.{BeginsReport, begun, whole}
-use Rattle.spike_cli.specs.Words.{refuting}
+use Rattle.spike_cli.specs.Reports.{BeginsReport, IsReport, begun, whole}
 use Rattle.spike_cli.specs.Stops.{Finishes, stop_of}
 use Rattle.spike_cli.proofs.ClaimLemmas.{claims_more, first_claims, status_more, status_of_goals}
 use Rattle.spike_cli.proofs.Pieces.{begun_text-more, stopped_more, stopped_same, piece_stopped, at_error}
@@ -20,7 +19,7 @@ pub returns-in_err-write_header-clause-finishes : goal.returns-in_err-write_head
 returns-in_err-write_header-clause-finishes g c =
     let spec = c.args.spec.now in
     let start : BeginsReport c.args.bounds spec (header_text c.args.bounds.steps) = subst (λ t. BeginsReport c.args.bounds spec t) (append-nil (header_text c.args.bounds.steps)) (begun [] tt) in
-    at_error (Finishes (g.S.Sink.written c.args.out.now) (g.S.Sink.written c.write_header.new.out) (g.S.Sink.faults c.args.out.now) (g.S.Sink.faults c.write_header.new.out) (refuting c.args.bounds) spec) c.from_residual.result c.in_err-write_header.field-0.0 c.from_residual.ensures.1 (stopped_same (λ t. t ≡ (header_text c.args.bounds.steps)) (BeginsReport c.args.bounds spec) _ _ _ _ c.in_err-write_header.field-0.0 (λ t e. subst (λ t. BeginsReport c.args.bounds spec t) (sym e) start) c.in_err-write_header.ensures.header)
+    at_error (Finishes (g.S.Sink.written c.args.out.now) (g.S.Sink.written c.write_header.new.out) (g.S.Sink.faults c.args.out.now) (g.S.Sink.faults c.write_header.new.out) (IsReport c.args.bounds spec) (BeginsReport c.args.bounds spec)) c.from_residual.result c.in_err-write_header.field-0.0 c.from_residual.ensures.1 (stopped_same (λ t. t ≡ (header_text c.args.bounds.steps)) (BeginsReport c.args.bounds spec) _ _ _ _ c.in_err-write_header.field-0.0 (λ t e. subst (λ t. BeginsReport c.args.bounds spec t) (sym e) start) c.in_err-write_header.ensures.header)
 
 pub loop-goal-init : goal.loop-goal-init
 loop-goal-init g c = (
@@ -47,7 +46,7 @@ returns-in_err-status-clause-finishes g c =
     let same : goals ≡ spec.goals = c.as_slice-goal-items.ensures in
     let IsText = λ (text : List ℕ). (claim : Claim) × IsClaimOn c.args.bounds spec c.goal-item.result claim × (text ≡ claim_text spec.sig claim) in
     let start : BeginsReport c.args.bounds spec (begun_text c.args.bounds.steps spec.sig i.0) = begun i.0 (subst (λ gs. AreFirstClaims c.args.bounds spec gs i.0) same (first_claims c.args.bounds spec goals c.loop-goal.goal-index i.0 i.1)) in
-    at_error (Finishes (g.S.Sink.written c.args.out.now) (g.S.Sink.written c.write_claim.new.out) (g.S.Sink.faults c.args.out.now) (g.S.Sink.faults c.write_claim.new.out) (refuting c.args.bounds) spec) c.from_residual-in_err-status.result c.in_err-status.field-0.0 c.from_residual-in_err-status.ensures.1 (stopped_more IsText (BeginsReport c.args.bounds spec) _ _ _ (begun_text c.args.bounds.steps spec.sig i.0) _ _ _ c.in_err-status.field-0.0 i.4 i.2 start (λ t x. subst (λ u. BeginsReport c.args.bounds spec u) (begun_text-more c.args.bounds.steps spec.sig i.0 x.0 ∙ ap (λ u. begun_text c.args.bounds.steps spec.sig i.0 ++ u) (sym x.2)) (begun (i.0 ++ x.0 ∷ []) (subst (λ gs. AreFirstClaims c.args.bounds spec gs (i.0 ++ x.0 ∷ [])) same (first_claims c.args.bounds spec goals (c.loop-goal.goal-index + 1) (i.0 ++ x.0 ∷ []) (claims_more c.args.bounds spec goals c.loop-goal.goal-index c.goal-item.result i.0 x.0 at x.1 i.1))))) c.in_err-status.ensures.claim)
+    at_error (Finishes (g.S.Sink.written c.args.out.now) (g.S.Sink.written c.write_claim.new.out) (g.S.Sink.faults c.args.out.now) (g.S.Sink.faults c.write_claim.new.out) (IsReport c.args.bounds spec) (BeginsReport c.args.bounds spec)) c.from_residual-in_err-status.result c.in_err-status.field-0.0 c.from_residual-in_err-status.ensures.1 (stopped_more IsText (BeginsReport c.args.bounds spec) _ _ _ (begun_text c.args.bounds.steps spec.sig i.0) _ _ _ c.in_err-status.field-0.0 i.4 i.2 start (λ t x. subst (λ u. BeginsReport c.args.bounds spec u) (begun_text-more c.args.bounds.steps spec.sig i.0 x.0 ∙ ap (λ u. begun_text c.args.bounds.steps spec.sig i.0 ++ u) (sym x.2)) (begun (i.0 ++ x.0 ∷ []) (subst (λ gs. AreFirstClaims c.args.bounds spec gs (i.0 ++ x.0 ∷ [])) same (first_claims c.args.bounds spec goals (c.loop-goal.goal-index + 1) (i.0 ++ x.0 ∷ []) (claims_more c.args.bounds spec goals c.loop-goal.goal-index c.goal-item.result i.0 x.0 at x.1 i.1))))) c.in_err-status.ensures.claim)
 
 pub loop-goal-preserved : goal.loop-goal-preserved
 loop-goal-preserved g c =
@@ -69,7 +68,7 @@ returns-in_err-write_all-clause-finishes g c =
     let e = c.in_err-write_all.ensures in
     let all : AreClaims c.args.bounds spec spec.goals i.0 = subst (λ gs. AreClaims c.args.bounds spec gs i.0) (take_all c.loop-goal.goal-index c.as_slice-goal-items.result.now c.loop-goal-test.false ∙ c.as_slice-goal-items.ensures) i.1 in
     let start : BeginsReport c.args.bounds spec (begun_text c.args.bounds.steps spec.sig i.0) = begun i.0 (first_claims c.args.bounds spec spec.goals (length spec.goals) i.0 (subst (λ gs. AreClaims c.args.bounds spec gs i.0) (sym (take-length spec.goals)) all)) in
-    at_error (Finishes (g.S.Sink.written c.args.out.now) (g.S.Sink.written c.write_all.new.out) (g.S.Sink.faults c.args.out.now) (g.S.Sink.faults c.write_all.new.out) (refuting c.args.bounds) spec) c.from_residual-in_err-write_all.result (stop_of c.in_err-write_all.field-0.0) c.from_residual-in_err-write_all.ensures.1 (stopped_more (λ t. t ≡ codes "done\n") (BeginsReport c.args.bounds spec) _ _ _ (begun_text c.args.bounds.steps spec.sig i.0) _ _ _ (stop_of c.in_err-write_all.field-0.0) i.4 i.2 start (λ t x. subst (λ u. BeginsReport c.args.bounds spec (begun_text c.args.bounds.steps spec.sig i.0 ++ u)) (sym x) (whole i.0 all)) (piece_stopped (λ t. t ≡ codes "done\n") _ _ _ _ (codes "done\n") c.in_err-write_all.field-0.0 refl e.prefix e.failed))
+    at_error (Finishes (g.S.Sink.written c.args.out.now) (g.S.Sink.written c.write_all.new.out) (g.S.Sink.faults c.args.out.now) (g.S.Sink.faults c.write_all.new.out) (IsReport c.args.bounds spec) (BeginsReport c.args.bounds spec)) c.from_residual-in_err-write_all.result (stop_of c.in_err-write_all.field-0.0) c.from_residual-in_err-write_all.ensures.1 (stopped_more (λ t. t ≡ codes "done\n") (BeginsReport c.args.bounds spec) _ _ _ (begun_text c.args.bounds.steps spec.sig i.0) _ _ _ (stop_of c.in_err-write_all.field-0.0) i.4 i.2 start (λ t x. subst (λ u. BeginsReport c.args.bounds spec (begun_text c.args.bounds.steps spec.sig i.0 ++ u)) (sym x) (whole i.0 all)) (piece_stopped (λ t. t ≡ codes "done\n") _ _ _ _ (codes "done\n") c.in_err-write_all.field-0.0 refl e.prefix e.failed))
 
 pub returns-clause-finishes : goal.returns-clause-finishes
 returns-clause-finishes g c =
@@ -82,7 +81,7 @@ returns-clause-finishes g c =
         are_claims = all;
         is_text = refl;
         answers = i.3;
-        exact = λ apart whole. status_of_goals c.args.bounds spec apart whole spec.goals i.0 c.loop-goal.status all i.3;
+        exact = status_of_goals c.args.bounds spec spec.goals i.0 c.loop-goal.status all i.3;
       },
       Appended-append _ _ _ (begun_text c.args.bounds.steps spec.sig i.0) (codes "done\n") i.2 c.in_ok-write_all.ensures.appended,
     )
