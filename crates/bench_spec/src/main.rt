@@ -1,11 +1,14 @@
 //! Sorts a file's specification, searches for counterexamples of its goals, evaluates a term over
-//! it, compares its left sides or asks whether they match all values, for the figures of
-//! `bench/run`.
+//! it, compares its left sides, asks whether they match all values or compares its rules' sides in
+//! the path ordering, or compares terms without a file, for the figures of `bench/run`.
 //!
-//! It stands on spec_syntax, sort_check, ground_eval, refuter, overlap_check and coverage_check,
-//! and promises nothing beyond being safe. The words are `search FILE DEPTH TRIES`,
-//! `sort FILE TIMES`, `eval FILE TERM BUDGET TIMES`, `overlap FILE TIMES` or `cover FILE TIMES`.
+//! It stands on spec_syntax, sort_check, ground_eval, refuter, overlap_check, coverage_check and
+//! path_order, and promises nothing beyond being safe. The words are `search FILE DEPTH TRIES`,
+//! `eval FILE TERM BUDGET TIMES`, `above deep|wide SIZE TIMES`, or `MODE FILE TIMES` with the mode
+//! `sort`, `overlap`, `cover` or `order`.
 #![tactic(auto)]
+
+mod towers;
 
 ghost use Rattle.std.specs.Prelude.{ℕ, IfOk, List};
 ghost use Rattle.spec_core.specs.Linear.{LeftSidesAreLinear};
@@ -16,6 +19,7 @@ use anyhow::{Context, Result, bail};
 use coverage_check::{Coverage, covers, rows_of};
 use ground_eval::{Eval, Evaluator};
 use overlap_check::{Linear, Overlap, linear, overlap};
+use path_order::{Lpo, TermOrder};
 use refuter::{Search, search};
 use sort_check::{elaborate, elaborate_term};
 use spec_core::Spec;
@@ -24,6 +28,7 @@ use spec_syntax::{read, read_term};
 use std::alloc::Global;
 use std::{env, fs};
 use term_core::SymId;
+use towers::compared_terms;
 
 /// How many rule uses the evaluation of one side may cost in a search.
 const STEPS: u32 = 1_000;
@@ -40,6 +45,9 @@ fn main(rt: HostRuntime) -> Result<()> {
                 number(depth)?,
                 number(tries)?,
             )?
+        }
+        [_, mode, shape, size, times] if mode.as_str() == "above" => {
+            compared_terms(alloc, shape.as_str(), number(size)?, number(times)?)?
         }
         [_, mode, file, times] => {
             let bytes = fs::read(&rt, file.as_str())?;
@@ -73,6 +81,9 @@ fn repeated(alloc: Global, mode: &str, bytes: &[u8], times: u32) -> Result<u64> 
     }
     if mode == "cover" {
         return covered(alloc, &spec, times);
+    }
+    if mode == "order" {
+        return ordered(&spec, times);
     }
     bail!("the words are no mode of this program")
 }
@@ -202,4 +213,25 @@ fn covered_functions(alloc: Global, spec: &Spec) -> Result<u64>
         }
     }
     Ok(count)
+}
+
+/// How many rules have a left side above their right side, which is asked so many times.
+fn ordered(spec: &Spec, times: u32) -> Result<u64> {
+    let mut count: u64 = 0;
+    for _time in 0..times {
+        count = ordered_rules(spec);
+    }
+    Ok(count)
+}
+
+/// How many rules have a left side above their right side.
+fn ordered_rules(spec: &Spec) -> u64 {
+    let order = Lpo::by_number();
+    let mut count: u64 = 0;
+    for rule in spec.rules.as_slice() {
+        if order.greater(&rule.left, &rule.right) {
+            count = count.saturating_add(1);
+        }
+    }
+    count
 }
