@@ -5,11 +5,11 @@ ghost use Rattle.clause_core.specs.Admitted.{IsAdmitted};
 ghost use Rattle.spike_cli.specs.Reports.{BeginsReport, IsReport};
 ghost use Rattle.spike_cli.specs.Stops.{Finishes, WritesHeader, WritesClaim, joined};
 
-use command_line::SearchBounds;
 use crate::claims::{Outcome, claim_on};
 use crate::reports::{claim_text, header};
 use crate::statuses::Status;
 use crate::stops::Stop;
+use command_line::SearchBounds;
 use io_core::{Sink, write_all};
 use spec_core::{Goal, Spec};
 use std::alloc::Global;

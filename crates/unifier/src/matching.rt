@@ -8,7 +8,6 @@ use std::alloc::Global;
 use substitutions::Subst;
 use term_core::{Node, OutOfMemory, Term, VarId, front};
 
-
 /// The substitution of the pattern's variables that makes it the term, or None where none does. A
 /// variable that occurs twice in the pattern must meet the same tree. Each bound term is copied
 /// once. The cost is linear in both sizes and in the greatest number of a variable.

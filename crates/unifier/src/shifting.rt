@@ -8,7 +8,6 @@ use std::error::Error;
 use std::fmt;
 use term_core::{Node, OutOfMemory, Term, Terms, VarId};
 
-
 /// Why a term has no copy with greater variable numbers.
 #[derive(Clone, Copy, Debug, PartialEq, Eq)]
 pub enum ShiftError {
