@@ -1,0 +1,30 @@
+-- Values, slots, the code of terms, and moves between states.
+mod Values
+mod Asked
+mod Slots
+mod Compiling
+mod Bodies
+mod Pending
+mod Moving
+mod Matches
+mod Running
+mod Fitting
+mod Kept
+mod Emitted
+mod Opened
+mod Homes
+pub mod Placed
+pub mod Ranges
+mod RuleIndex
+mod Numbers
+mod Grown
+mod Ranging
+mod Stacked
+mod Testing
+mod Entering
+mod StackMoves
+mod Branching
+mod Deciding
+mod Fuelled
+mod RunsOn
+mod Starting

@@ -1,0 +1,18 @@
+use Rattle.std.proofs.Common.{ap, ◌∙◌, subst, length, arith}
+use Rattle.bank_machine.specs.Blocks.{AddsCode}
+use Rattle.bank_machine.specs.Programs.{Program}
+use Rattle.bank_machine.proofs.Placed.{block_adds}
+use Rattle.bank_machine.proofs.Grown.{first_numbers_count, program_kept, side_added}
+use Rattle.bank_machine.proofs.machine.Machine.with_term.Goals as goal
+
+pub emit_body-requires-clause-variables : goal.emit_body-requires-clause-variables
+emit_body-requires-clause-variables c n o = omega (arith, c.requires.variables n o, ap length c.deref.ensures.value, ap length c.in_ok-homes.ensures, first_numbers_count c.args.variables)
+
+pub invariant_of-made : goal.invariant_of-made
+invariant_of-made c = program_kept c.self.inside.spec.now c.self.inside.code c.emit_body.new.code c.self.inside.rules.items c.self.inside.index.items (block_adds c.self.inside.code c.emit_body.new.code c.in_ok-emit_body.ensures) c.self.invariant
+
+pub returns-clause-side : goal.returns-clause-side
+returns-clause-side c = side_added c.self.inside.spec.now c.self.inside.code c.emit_body.new.code c.len-place.result c.args.variables c.deref.result.now c.args.term.now c.len-place.ensures (c.deref.ensures.value ∙ c.in_ok-homes.ensures) c.in_ok-emit_body.ensures
+
+pub returns-clause-adds : goal.returns-clause-adds
+returns-clause-adds c = subst (λ (p : Program). AddsCode p.code c.emit_body.new.code) c.self.view_is (block_adds c.self.inside.code c.emit_body.new.code c.in_ok-emit_body.ensures)

@@ -1,0 +1,25 @@
+-- What the laws speak of.
+pub mod Tests
+pub mod Code
+pub mod Matching
+pub mod Homes
+pub mod Branches
+pub mod Heads
+pub mod Index
+pub mod Blocks
+pub mod RuleCodes
+pub mod Programs
+pub mod Calls
+pub mod Turns
+pub mod Fuel
+pub mod Runs
+pub mod Compiled
+pub mod States
+pub mod Ranged
+pub mod Matched
+pub mod Laws
+pub mod Sound
+pub mod SoundLaws
+pub mod Instructions
+pub mod Emitting
+pub mod Stacks
