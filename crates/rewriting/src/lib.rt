@@ -1,0 +1,19 @@
+//! Normal forms of terms by the rules without guards.
+//!
+//! It stands on unifier. The layers above use that [`normalize`] finds the leftmost-innermost uses
+//! of a term, each with its place and its rule, and answers Spent exactly where there are more of
+//! them than the budget ([`one_normal_form`]). Who normalizes many terms makes one [`Rewriter`].
+#![tactic(auto)]
+
+mod by_function;
+mod first;
+mod laws;
+mod normal;
+mod rewriter;
+mod rules;
+mod trace;
+mod walk;
+
+pub use laws::{one_normal_form, worked_examples};
+pub use normal::{Normal, normalize};
+pub use rewriter::Rewriter;

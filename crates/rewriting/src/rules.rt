@@ -1,0 +1,33 @@
+ghost use Rattle.std.specs.Prelude.{IfOk};
+ghost use Rattle.spec_core.specs.WellSorted.{IsWellSorted};
+ghost use Rattle.rewriting.specs.Found.{IsFound};
+
+use crate::rewriter::Rewriter;
+use std::alloc::Global;
+use substitutions::Subst;
+use term_core::{Node, OutOfMemory, Term};
+use unifier::matches;
+
+impl<'a> Rewriter<'a> {
+    /// The first rule without guards whose left side matches the term, as its index among all
+    /// rules, with its match.
+    pub(crate) fn first_rule(
+        &self,
+        alloc: Global,
+        term: &Term,
+    ) -> Result<Option<(usize, Subst)>, OutOfMemory>
+        requires fine { IsWellSorted self.now }
+        ensures { IfOk result (IsFound self.now term.now) }
+    {
+        let Node::App(sym, _) = &term.node else {
+            return Ok(None);
+        };
+        let rules = self.rules();
+        for index in self.rules_of(*sym) {
+            if let Some(entries) = matches(alloc, &rules[*index].left, term)? {
+                return Ok(Some((*index, entries)));
+            }
+        }
+        Ok(None)
+    }
+}
