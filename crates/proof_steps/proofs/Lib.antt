@@ -1,0 +1,24 @@
+-- A place is a path, and stands for one term.
+pub mod OnePlace
+pub mod PathsOfPlaces
+-- A step has one answer, as each row says one thing.
+pub mod OneAnswer
+pub mod OneReferred
+mod OneClosing
+mod OneSubsuming
+mod OneRewriting
+mod OneSimplifying
+mod OneSolving
+pub mod OneSplitting
+mod OneGeneralizing
+mod OneReplacing
+pub mod OneStep
+-- What the table says of small clauses.
+mod SmallPlaces
+mod NaturalSteps
+mod InsertionSteps
+mod ClosingSteps
+mod SimplifyingSteps
+mod SplittingSteps
+mod ReplacingSteps
+mod LimitSteps

@@ -1,0 +1,34 @@
+-- What the table speaks of: equations, places, instances, and rows with their answers.
+pub mod Equations
+pub mod NumberedEquations
+pub mod Places
+pub mod Instances
+pub mod Rows
+pub mod Says
+-- The rows, in the order of the table.
+pub mod Clashes
+pub mod Closing
+pub mod Referred
+pub mod Subsuming
+pub mod RuleInstances
+pub mod Rewriting
+pub mod CaseSplitting
+pub mod Simplifying
+pub mod Solving
+pub mod Patterns
+pub mod Splitting
+pub mod Abstracting
+pub mod Generalizing
+pub mod Replacing
+pub mod Steps
+-- Laws of the table, and what it says of small clauses.
+pub mod Laws
+pub mod Insertion
+pub mod ExampleClauses
+pub mod Examples
+pub mod ClosingExamples
+pub mod SimplifyingExamples
+pub mod SplittingExamples
+pub mod ReplacingExamples
+pub mod LimitExamples
+pub mod StepExamples
