@@ -1,10 +1,10 @@
-use crate::families;
-use crate::signs::{is, term};
-use anyhow::{Context, Result, bail};
+use crate::signs::{is, number, term};
+use crate::{clause_cases, families};
+use anyhow::{Result, bail};
 use path_order::{Lpo, TermOrder};
 use std::alloc::Global;
 use substitutions::Subst;
-use term_core::{ReplaceError, Term, VarId};
+use term_core::{ReplaceError, SymId, Term, Terms, VarId};
 use unifier::{ShiftError, matches, shift, unify};
 
 /// Whether the case comes out as it is written. In place of an answer `none` says that there is
@@ -14,6 +14,7 @@ pub fn holds(alloc: Global, words: &[&str]) -> Result<bool> {
         ["size", letters, size, depth, variables] => {
             is_measured(alloc, letters, (number(size)?, number(depth)?), variables)
         }
+        ["copy", letters] => is_copied(alloc, letters),
         ["place", whole, path, new, found, made] => {
             is_exchanged(alloc, (whole, path, new), found, made)
         }
@@ -25,12 +26,8 @@ pub fn holds(alloc: Global, words: &[&str]) -> Result<bool> {
         ["family", fault] => families::is_refused(alloc, fault),
         ["shift", letters, by, wanted] => is_shifted(alloc, letters, number(by)?, wanted),
         ["order", one, other, relation] => Ok(relation_of(alloc, one, other)? == *relation),
-        _ => bail!("this is no case"),
+        _ => clause_cases::holds(alloc, words),
     }
-}
-
-fn number(word: &str) -> Result<u32> {
-    word.parse::<u32>().context("this is no number")
 }
 
 /// The number of the variable of this letter.
@@ -55,6 +52,16 @@ fn is_measured(alloc: Global, letters: &str, sizes: (u32, u32), variables: &str)
                 .zip(wanted.as_bytes())
                 .all(|(found, letter)| *found == variable(*letter)),
     )
+}
+
+/// Whether the terms of these letters, with commas between them, are copied in their order.
+fn is_copied(alloc: Global, letters: &str) -> Result<bool> {
+    let mut terms = Terms::new(alloc);
+    for letters in letters.split(',') {
+        terms.push(term(alloc, letters)?)?;
+    }
+    let copy = Term::app(SymId(2), terms.copy(alloc)?);
+    Ok(copy.same(&Term::app(SymId(2), terms)))
 }
 
 /// Whether this stands at the path, and that is what becomes of the term with another one there.
@@ -83,7 +90,7 @@ fn is_exchanged(
 }
 
 /// The substitution of entries as `u=gx,v=a`.
-fn substitution(alloc: Global, entries: &str) -> Result<Subst> {
+pub fn substitution(alloc: Global, entries: &str) -> Result<Subst> {
     let mut made = Subst::new(alloc);
     for entry in entries.split(',') {
         if let Some((name, letters)) = entry.split_once('=') {

@@ -1,5 +1,5 @@
 //! Terms in Polish notation, with one letter for each symbol and variable: `+sxy` is the sum of
-//! `succ(x)` and `y`.
+//! `succ(x)` and `y`; and numbers.
 use anyhow::{Context, Result};
 use std::alloc::Global;
 use term_core::{SymId, Term, Terms, VarId};
@@ -54,4 +54,8 @@ fn symbol_of(letter: u8) -> (u32, u32) {
 /// Whether the term is the one of these letters.
 pub fn is(alloc: Global, found: &Term, letters: &str) -> Result<bool> {
     Ok(found.same(&term(alloc, letters)?))
+}
+
+pub fn number(word: &str) -> Result<u32> {
+    word.parse::<u32>().context("this is no number")
 }
