@@ -12,15 +12,15 @@ mod Fitting
 mod Kept
 mod Emitted
 mod Opened
-mod Homes
+pub mod Homes
 pub mod Placed
 pub mod Ranges
 mod RuleIndex
 mod Numbers
 mod Grown
 mod Ranging
-mod Stacked
-mod Testing
+pub mod Stacked
+pub mod Testing
 mod Entering
 mod StackMoves
 mod Branching
