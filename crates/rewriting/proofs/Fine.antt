@@ -16,7 +16,8 @@ use Rattle.substitutions.proofs.Instances.{apply_all-trees_of}
 use Rattle.unifier.specs.Matching.{IsMatch}
 use Rattle.rewriting.specs.NormalForms.{IsNormal}
 use Rattle.rewriting.specs.Narrow.{IsNarrow, AreNarrow}
-use Rattle.rewriting.specs.Walks.{IsFine, HasNormalArguments}
+use Rattle.rewriting.specs.Walks.{IsFine}
+use Rattle.rewriting.specs.Openings.{HasNormalArguments}
 use Rattle.rewriting.proofs.NormalTerms.{args_normal}
 
 sorted_length : (sig : Sig) (ctx : List SortId) (ts : Trees) (ss : List SortId) → SortedAll sig ctx ts ss → length (list_of ts) ≡ length ss

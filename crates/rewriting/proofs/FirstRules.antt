@@ -113,7 +113,7 @@ none_next rules indices t i index rule at listed none before j k other less ther
       | inr lower ↦ before j k other lower there is
     ]
 
--- the rule that is read at a index
+-- the rule that is read at an index
 pub rule_at : (rules slice : List Rule) (index : ℕ) (rule : Rule) → slice ≡ rules → index < length rules → rule ≡ get_or slice index rule → slice_get rules index ≡ Some rule
 rule_at rules slice index rule e within is =
     slice_get_read rules (length rules) index rule refl within (subst (λ rs. rule ≡ get_or rs index rule) e is)

@@ -23,7 +23,7 @@ set_other (y ∷ ys) zero (suc g) x h = refl
 set_other (y ∷ ys) (suc f) zero x h = refl
 set_other (y ∷ ys) (suc f) (suc g) x h = set_other ys f g x (λ e. h (ap suc e))
 
--- a index is added to one entry
+-- an index is added to one entry
 pub set_adds : (old : List (Vec ℕ)) (f index : ℕ) (entry new : Vec ℕ) → f < length old → entry ≡ get_or old f entry → new.items ≡ entry.items ++ index ∷ [] → AddsIndex old (set old f new) f index
 set_adds old f index entry new h is more =
     record {
@@ -162,7 +162,7 @@ rule_skipped n rs r table h skipped =
       entries = λ g x at. h.entries g x at ∙ sym (indices_other g rs r (skipped g));
     }
 
--- the same at a index in the list of all rules
+-- the same at an index in the list of all rules
 module _ (n : ℕ) (items rs : List Rule) (i : ℕ) (r : Rule) (e : items ≡ rs) (within : i < length items) (is : r ≡ get_or items i r) where
   taken : take i rs ++ r ∷ [] ≡ take (i + 1) rs
   taken =

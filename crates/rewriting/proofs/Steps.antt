@@ -14,7 +14,8 @@ use Rattle.rewriting.specs.FirstUses.{Before, IsFirstUse}
 use Rattle.rewriting.specs.NormalForms.{IsNormal, Runs}
 use Rattle.rewriting.specs.Narrow.{IsNarrow}
 use Rattle.rewriting.specs.Found.{Found}
-use Rattle.rewriting.specs.Walks.{below, Normalized, Exceeds, Opened, Advanced, IsWalkOfAll, AreDone, HasNormalArguments}
+use Rattle.rewriting.specs.Walks.{below, Normalized, Exceeds}
+use Rattle.rewriting.specs.Openings.{Opened, Advanced, IsWalkOfAll, AreDone, HasNormalArguments}
 use Rattle.rewriting.proofs.NormalTerms.{app_normal, args_normal}
 use Rattle.rewriting.proofs.Chains.{runs_append, runs_below}
 use Rattle.rewriting.proofs.Fine.{all_are_narrow, narrow_all}
@@ -211,6 +212,14 @@ grows place old new uses e =
     let a = ap (λ xs. length xs) e in
     let b = length-append old (map (below place) uses) in
     omega arith
+
+-- a place with one number more
+pub one_deeper : (place short long : List ℕ) (i n : ℕ) → long ≡ short ++ (i + 1) ∷ [] → short ≡ place → n ≡ i → long ≡ place ++ (n + 1) ∷ []
+one_deeper place short long i n e s k = e ∙ ap (λ p. p ++ (i + 1) ∷ []) s ∙ ap (λ j. place ++ (j + 1) ∷ []) (sym k)
+
+-- a use that is added at the same place
+pub added_at : (old new : List (List ℕ × ℕ)) (p q : List ℕ) (n : ℕ) → new ≡ old ++ (p, n) ∷ [] → p ≡ q → new ≡ old ++ (q, n) ∷ []
+added_at old new p q n e k = e ∙ ap (λ r. old ++ (r, n) ∷ []) k
 
 take_front : (xs ys : List ℕ) → take (length xs) (xs ++ ys) ≡ xs
 take_front [] ys = refl

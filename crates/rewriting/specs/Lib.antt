@@ -10,5 +10,6 @@ pub mod Narrow
 pub mod ByFunction
 pub mod Found
 pub mod Walks
+pub mod Openings
 pub mod Room
 pub mod Firsts

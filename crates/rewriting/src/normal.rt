@@ -27,9 +27,12 @@ impl<'a> Rewriter<'a> {
     /// The normal form of the term by leftmost-innermost uses of rules without guards, of which the
     /// one of least number is used at each place. `budget` is the greatest number of uses.
     ///
-    /// Each subterm is normalized once: what stands for a variable of a rule is normal already. The
-    /// stack grows with the depth of the place alone, and so with that of the terms on the way: the
-    /// term's own, and a right side's more for each use that waits for one below it.
+    /// Each subterm is normalized once: what stands for a variable of a rule is normal already. A
+    /// use costs by its place's length, the rule, and the terms that stand for the rule's variables,
+    /// and nothing for the rest of the term.
+    ///
+    /// The stack grows with the length of the place and a right side's depth alone, so with the
+    /// depth of the terms on the way, and not with the number of uses.
     pub fn normalize(&self, alloc: Global, term: &Term, budget: u32) -> Result<Normal, OutOfMemory>
         requires fine { IsWellSorted self.now }
         requires narrow { IsNarrow term.now }

@@ -3,7 +3,8 @@ ghost use Rattle.std.specs.List.{AllByRecursion};
 ghost use Rattle.spec_core.specs.WellSorted.{IsWellSorted};
 ghost use Rattle.substitutions.specs.Substitution.{apply};
 ghost use Rattle.rewriting.specs.Narrow.{IsNarrow};
-ghost use Rattle.rewriting.specs.Walks.{IsFine, IsWalk, IsWalkOfAll, IsOpening};
+ghost use Rattle.rewriting.specs.Walks.{IsFine, IsWalk};
+ghost use Rattle.rewriting.specs.Openings.{IsWalkOfAll, IsOpening};
 
 use crate::rewriter::Rewriter;
 use crate::trace::Trace;

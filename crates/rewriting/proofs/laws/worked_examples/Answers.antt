@@ -1,16 +1,15 @@
-use Rattle.std.proofs.Common.{◌≡◌, ℕ, zero, suc, ◌<◌, ◌≤◌, List, [], ◌∷◌, Option, Some, None, inl, inr, refl, ap, sym, ◌∙◌, subst, arith, length}
+use Rattle.std.proofs.Common.{◌≡◌, ℕ, zero, suc, ◌<◌, List, [], ◌∷◌, Option, Some, None, refl, sym, subst, arith}
 use Rattle.std.specs.Prelude.{slice_get}
 use Rattle.term_core.specs.Tree.{Tree, var, app, none, some}
-use Rattle.term_core.specs.Places.{IsAt}
 use Rattle.spec_core.specs.declared.records.Rule.{Rule}
-use Rattle.spec_core.specs.Naturals.{naturals, overlapping, zero_term, succ_term, plus_term, plus_zero_rule, plus_succ_rule, plus_any_rule}
+use Rattle.spec_core.specs.Naturals.{naturals, overlapping, zero_term, succ_term, plus_term, plus_zero_rule, plus_succ_rule}
 use Rattle.substitutions.specs.Substitution.{apply}
-use Rattle.rewriting.specs.declared.normal.Normal.TheVariants.{Done, Spent}
+use Rattle.rewriting.specs.declared.normal.Normal.TheVariants.{Spent}
 use Rattle.rewriting.specs.Uses.{Use, IsStuck}
-use Rattle.rewriting.specs.FirstUses.{Before, IsFirstUse}
+use Rattle.rewriting.specs.FirstUses.{IsFirstUse}
 use Rattle.rewriting.specs.NormalForms.{IsNormal, Runs}
 use Rattle.rewriting.specs.Normals.{IsNormalizing}
-use Rattle.rewriting.specs.Examples.{sum, normal_sum, nested}
+use Rattle.rewriting.specs.Examples.{sum, normal_sum}
 use Rattle.rewriting.proofs.NormalTerms.{app_normal}
 use Rattle.rewriting.proofs.Steps.{args_stuck_normal, normal_before}
 use Rattle.rewriting.proofs.Chains.{use_below}

@@ -12,7 +12,7 @@ use Rattle.rewriting.proofs.NormalTerms.{variable_normal}
 use Rattle.rewriting.proofs.Fine.{parts}
 use Rattle.rewriting.proofs.Steps.{root_use, args_stuck_normal}
 use Rattle.substitutions.specs.Substitution.{apply}
-use Rattle.rewriting.proofs.Searching.{front_insert, next_normal, first_in_argument, arguments_normal}
+use Rattle.rewriting.proofs.Searching.{inserted_first, next_normal, first_in_argument, arguments_normal}
 use Rattle.rewriting.proofs.rewriter.Rewriter.+first_use.Goals as goal
 
 pub returns-in_default : goal.returns-in_default
@@ -37,7 +37,7 @@ returns-in-Some t c =
     let spec = c.args.self.now in
     let e : app c.in-App.field-0.0 (trees_of c.in-App.args) ≡ c.args.term.now = ap tree_of (sym c.in-App.is) ∙ c.term.view_is in
     let h : HasFirst spec c.arg-item.result (Some (c.in-Some.place, c.in-Some.number)) = subst (λ (o : Option (Vec ℕ × ℕ)). HasFirst spec c.arg-item.result o) c.in-Some.is c.in_ok-place.ensures in
-    first_in_argument spec c.in-App.field-0.0 c.in-App.args c.as_slice-arg-items.result.now c.args.term.now c.loop-index.index c.arg-item.result h.0 c.in-Some.place.items c.insert.new.self.items c.in-Some.number e c.as_slice-arg-items.ensures c.loop-index-test.true c.arg-item.is c.loop-index.invariant h.1 (c.in_ok-insert.ensures.items ∙ front_insert c.in-Some.place.items (c.loop-index.index + 1))
+    first_in_argument spec c.in-App.field-0.0 c.in-App.args c.as_slice-arg-items.result.now c.args.term.now c.loop-index.index c.arg-item.result h.0 c.in-Some.place.items c.insert.new.self.items c.in-Some.number e c.as_slice-arg-items.ensures c.loop-index-test.true c.arg-item.is c.loop-index.invariant h.1 (inserted_first c.in-Some.place.items c.insert.new.self.items (c.loop-index.index + 1) c.in_ok-insert.ensures.items)
 
 pub loop-index-preserved : goal.loop-index-preserved
 loop-index-preserved t c =

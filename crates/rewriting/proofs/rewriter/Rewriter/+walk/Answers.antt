@@ -16,12 +16,18 @@ use Rattle.rewriting.specs.Found.{Found, IsFound}
 use Rattle.rewriting.specs.Narrow.{IsNarrow}
 use Rattle.rewriting.specs.NormalForms.{IsNormal}
 use Rattle.rewriting.specs.Room.{room}
-use Rattle.rewriting.specs.Walks.{Opened, IsOpening, Normalized, Exceeds, IsWalk, Advanced, IsWalkOfAll}
+use Rattle.rewriting.specs.Walks.{Normalized, Exceeds, IsWalk}
+use Rattle.rewriting.specs.Openings.{Opened, IsOpening, Advanced, IsWalkOfAll}
 use Rattle.rewriting.proofs.NormalTerms.{variable_normal}
 use Rattle.rewriting.proofs.Fine.{sorted_narrow, match_fine, parts, walk_args}
 use Rattle.rewriting.proofs.Falls.{less_left, use_falls, right_below_room}
-use Rattle.rewriting.proofs.Steps.{exceeds_after, root_exceeds, opened_again, exceeds_again, opened_normal, opened_copy, advance_none, advance, advance_exceeds, all_advanced, same_item, one_more, grows, popped, if_some, more_of_all}
+use Rattle.rewriting.proofs.Steps.{exceeds_after, root_exceeds, opened_again, exceeds_again, opened_normal, opened_copy, advance_none, advance, advance_exceeds, all_advanced, same_item, one_more, grows, popped, if_some, more_of_all, added_at, one_deeper}
 use Rattle.rewriting.proofs.rewriter.Rewriter.+walk.Goals as goal
+use Rattle.rewriting.proofs.rewriter.Rewriter.+walk.Goals.{walk-In-Some-2}
+
+-- the rule that is used at the root
+found_rule : {t : ℕ} (c : walk-In-Some-2 t) → Found c.args.self.now c.loop-term.term c.in-Some-2.index c.in-Some-2.entries.terms
+found_rule c = subst (λ (p : Option (ℕ × Subst)). IsFound c.args.self.now c.loop-term.term p) c.in-Some-2.is c.in_ok-index.ensures
 
 pub open-walk_all-requires : goal.open-walk_all-requires
 open-walk_all-requires t c =
@@ -89,32 +95,32 @@ walk-returns-then-len-budget-clause-walked t c =
     let u = c.loop-term.term in
     let here = c.loop-term.trace.uses.items in
     let o = c.loop-term.invariant.opened in
-    let found : Found spec u c.in-Some-2.index c.in-Some-2.entries.terms = subst (λ (p : Option (ℕ × Subst)). IsFound spec u p) c.in-Some-2.is c.in_ok-index.ensures in
+    let found = found_rule (goal.at.walk-returns-then-len-budget-clause-walked t c).In-Some-2 in
     let n : length here ≡ c.args.budget = omega (arith, c.if-len-budget.true, c.len.ensures, o.within) in
     exceeds_after spec c.args.trace.now.place.items c.args.budget (apply c.args.entries.now.terms c.args.term.now) u o.uses c.args.trace.now.uses.items here o.runs o.added (root_exceeds spec c.args.budget u c.in-Some-2.index c.in-Some-2.entries.terms here o.normal found n)
 
 pub walk-overflow_cast-index : goal.walk-overflow_cast-index
 walk-overflow_cast-index t c =
     let spec = c.args.self.now in
-    let found : Found spec c.loop-term.term c.in-Some-2.index c.in-Some-2.entries.terms = subst (λ (p : Option (ℕ × Subst)). IsFound spec c.loop-term.term p) c.in-Some-2.is c.in_ok-index.ensures in
+    let found = found_rule (goal.at.walk-overflow_cast-index t c).In-Some-2 in
     omega (arith, slice_get_within spec.rules c.in-Some-2.index found.rule found.listed, c.requires.fine.few_rules)
 
 pub walk-overflow_add-index : goal.walk-overflow_add-index
 walk-overflow_add-index t c =
     let spec = c.args.self.now in
-    let found : Found spec c.loop-term.term c.in-Some-2.index c.in-Some-2.entries.terms = subst (λ (p : Option (ℕ × Subst)). IsFound spec c.loop-term.term p) c.in-Some-2.is c.in_ok-index.ensures in
+    let found = found_rule (goal.at.walk-overflow_add-index t c).In-Some-2 in
     omega (arith, slice_get_within spec.rules c.in-Some-2.index found.rule found.listed, c.requires.fine.few_rules)
 
 pub walk-offset_bounds-rules-index : goal.walk-offset_bounds-rules-index
 walk-offset_bounds-rules-index t c =
     let spec = c.args.self.now in
-    let found : Found spec c.loop-term.term c.in-Some-2.index c.in-Some-2.entries.terms = subst (λ (p : Option (ℕ × Subst)). IsFound spec c.loop-term.term p) c.in-Some-2.is c.in_ok-index.ensures in
+    let found = found_rule (goal.at.walk-offset_bounds-rules-index t c).In-Some-2 in
     omega (arith, slice_get_within spec.rules c.in-Some-2.index found.rule found.listed, c.requires.fine.few_rules)
 
 pub walk-bounds-rules-index : goal.walk-bounds-rules-index
 walk-bounds-rules-index t c =
     let spec = c.args.self.now in
-    let found : Found spec c.loop-term.term c.in-Some-2.index c.in-Some-2.entries.terms = subst (λ (p : Option (ℕ × Subst)). IsFound spec c.loop-term.term p) c.in-Some-2.is c.in_ok-index.ensures in
+    let found = found_rule (goal.at.walk-bounds-rules-index t c).In-Some-2 in
     subst (λ rs. c.in-Some-2.index < length rs) (sym c.rules.ensures) (slice_get_within spec.rules c.in-Some-2.index found.rule found.listed)
 
 pub walk-open-requires-in-Some-2 : goal.walk-open-requires-in-Some-2
@@ -125,7 +131,7 @@ walk-open-requires-in-Some-2 t c =
     let old = c.args.trace.now.uses.items in
     let here = c.loop-term.trace.uses.items in
     let o = c.loop-term.invariant.opened in
-    let found : Found spec u c.in-Some-2.index c.in-Some-2.entries.terms = subst (λ (p : Option (ℕ × Subst)). IsFound spec u p) c.in-Some-2.is c.in_ok-index.ensures in
+    let found = found_rule (goal.at.walk-open-requires-in-Some-2 t c).In-Some-2 in
     let rule = c.index-rules-index.result in
     let same : rule ≡ found.rule = same_item spec.rules c.rules.result.now c.in-Some-2.index rule found.rule c.rules.ensures found.listed c.index-rules-index.is in
     let at : slice_get spec.rules c.in-Some-2.index ≡ Some rule = found.listed ∙ ap (λ (r : Rule). Some r) (sym same) in
@@ -146,10 +152,10 @@ walk-returns-in_default-3-clause-walked t c =
     let place = c.args.trace.now.place.items in
     let here = c.loop-term.trace.uses.items in
     let middle = c.add.new.self.uses.items in
-    let found : Found spec u c.in-Some-2.index c.in-Some-2.entries.terms = subst (λ (p : Option (ℕ × Subst)). IsFound spec u p) c.in-Some-2.is c.in_ok-index.ensures in
+    let found = found_rule (goal.at.walk-returns-in_default-3-clause-walked t c).In-Some-2 in
     let rule = c.index-rules-index.result in
     let same : rule ≡ found.rule = same_item spec.rules c.rules.result.now c.in-Some-2.index rule found.rule c.rules.ensures found.listed c.index-rules-index.is in
-    let e : middle ≡ here ++ (place, c.in-Some-2.index + 1) ∷ [] = c.in_ok-add.ensures.added ∙ ap (λ p. here ++ (p, c.in-Some-2.index + 1) ∷ []) c.loop-term.invariant.stays in
+    let e = added_at here middle c.loop-term.trace.place.items place (c.in-Some-2.index + 1) c.in_ok-add.ensures.added c.loop-term.invariant.stays in
     let w : Exceeds spec b (apply c.in-Some-2.entries.terms rule.right) middle = subst (λ o. IsOpening spec c.add.new.self.place.items b (apply c.in-Some-2.entries.terms rule.right) middle c.open-in-Some-2.new.trace.uses.items o) c.in_default-3.is c.in_ok-next.ensures.opened in
     exceeds_again spec place b (apply c.args.entries.now.terms c.args.term.now) u c.in-Some-2.index c.in-Some-2.entries.terms c.args.trace.now.uses.items here middle c.loop-term.invariant.opened found e (subst (λ (r : Rule). Exceeds spec b (apply c.in-Some-2.entries.terms r.right) middle) same w)
 
@@ -162,16 +168,16 @@ walk-loop-term-preserved t c =
     let here = c.loop-term.trace.uses.items in
     let middle = c.add.new.self.uses.items in
     let new = c.open-in-Some-2.new.trace.uses.items in
-    let found : Found spec u c.in-Some-2.index c.in-Some-2.entries.terms = subst (λ (p : Option (ℕ × Subst)). IsFound spec u p) c.in-Some-2.is c.in_ok-index.ensures in
+    let found = found_rule (goal.at.walk-loop-term-preserved t c).In-Some-2 in
     let rule = c.index-rules-index.result in
     let same : rule ≡ found.rule = same_item spec.rules c.rules.result.now c.in-Some-2.index rule found.rule c.rules.ensures found.listed c.index-rules-index.is in
-    let e : middle ≡ here ++ (place, c.in-Some-2.index + 1) ∷ [] = c.in_ok-add.ensures.added ∙ ap (λ p. here ++ (p, c.in-Some-2.index + 1) ∷ []) c.loop-term.invariant.stays in
-    let stays : c.add.new.self.place.items ≡ place = c.in_ok-add.ensures.stays ∙ c.loop-term.invariant.stays in
+    let e = added_at here middle c.loop-term.trace.place.items place (c.in-Some-2.index + 1) c.in_ok-add.ensures.added c.loop-term.invariant.stays in
+    let stays : c.add.new.self.place.items ≡ place = subst (λ p. c.add.new.self.place.items ≡ p) c.loop-term.invariant.stays c.in_ok-add.ensures.stays in
     let w : Opened spec c.add.new.self.place.items b (apply c.in-Some-2.entries.terms rule.right) middle new c.in-Some-3.next = subst (λ o. IsOpening spec c.add.new.self.place.items b (apply c.in-Some-2.entries.terms rule.right) middle new o) c.in-Some-3.is c.in_ok-next.ensures.opened in
     let v : Opened spec place b (apply c.in-Some-2.entries.terms found.rule.right) middle new c.in-Some-3.next = subst (λ (r : Rule). Opened spec place b (apply c.in-Some-2.entries.terms r.right) middle new c.in-Some-3.next) same (subst (λ p. Opened spec p b (apply c.in-Some-2.entries.terms rule.right) middle new c.in-Some-3.next) stays w) in
     record {
       opened = opened_again spec place b (apply c.args.entries.now.terms c.args.term.now) u c.in-Some-2.index c.in-Some-2.entries.terms c.args.trace.now.uses.items here middle c.loop-term.invariant.opened found e new c.in-Some-3.next v;
-      stays = if_some _ _ _ c.in-Some-3.is c.in_ok-next.ensures.stays ∙ stays;
+      stays = subst (λ p. c.open-in-Some-2.new.trace.place.items ≡ p) stays (if_some _ _ _ c.in-Some-3.is c.in_ok-next.ensures.stays);
     }
 
 pub walk-loop-term-smaller : goal.walk-loop-term-smaller
@@ -245,7 +251,7 @@ walk_all-loop-index-preserved t c =
     let rest = map (apply s) (drop (c.loop-index.index + 1) c.args.args.now) in
     let at : slice_get c.args.args.now c.loop-index.index ≡ Some arg = slice_get_read c.args.args.now (length c.args.args.now) c.loop-index.index arg refl c.loop-index-test.true c.index-args-index.is in
     let a = more_of_all spec place c.args.budget s c.args.args.now made c.loop-index.index arg old here at c.loop-index.invariant.advanced in
-    let below : c.push.new.self.items ≡ place ++ (length made + 1) ∷ [] = c.in_ok-push.ensures.items ∙ ap (λ p. p ++ (c.loop-index.index + 1) ∷ []) c.loop-index.invariant.stays ∙ ap (λ k. place ++ (k + 1) ∷ []) (sym c.loop-index.invariant.count) in
+    let below = one_deeper place c.loop-index.trace.place.items c.push.new.self.items c.loop-index.index (length made) c.in_ok-push.ensures.items c.loop-index.invariant.stays c.loop-index.invariant.count in
     let one : Normalized spec c.push.new.self.items c.args.budget (apply s arg) here new v = subst (λ o. IsWalk spec c.push.new.self.items c.args.budget (apply s arg) here new o) c.in-Some.is c.in_ok-normal.ensures.walked in
     let stays : c.walk.new.trace.place.items ≡ c.push.new.self.items = if_some _ _ _ c.in-Some.is c.in_ok-normal.ensures.stays in
     let more : c.push-in-loop-index.new.self ≡ made ++ v ∷ [] = c.in_ok-push-2.ensures.pushed in

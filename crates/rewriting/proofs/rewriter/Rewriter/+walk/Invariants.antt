@@ -2,7 +2,7 @@ use Rattle.std.proofs.Common.{◌≡◌, ◌+◌, ◌*◌, ◌-◌, length, map,
 use Rattle.term_core.specs.Measure.{weight, list_weight}
 use Rattle.substitutions.specs.Substitution.{apply}
 use Rattle.rewriting.specs.Room.{room}
-use Rattle.rewriting.specs.Walks.{Opened, Advanced}
+use Rattle.rewriting.specs.Openings.{Opened, Advanced}
 use Rattle.rewriting.proofs.rewriter.Rewriter.+walk.Given as goal
 
 abbrev pub decreases-walk : goal.decreases-walk
