@@ -1,17 +1,18 @@
 -- What an evaluation within a budget answers.
-use Rattle.std.specs.Prelude.{◌≡◌, ℕ, ◌≤◌}
-use Rattle.term_core.specs.Tree.{Tree}
+use Rattle.std.specs.Prelude.{◌≡◌, ℕ, ◌<◌, ◌≤◌}
+use Rattle.term_core.specs.Tree.{Tree, tree_size}
 use Rattle.spec_core.specs.declared.records.Spec.{Spec}
 use Rattle.spec_core.specs.Overlap.{NoOverlap}
 use Rattle.spec_core.specs.Groups.{GroupsAreWhole}
 use Rattle.spec_core.specs.Gives.{Gives}
 use Rattle.ground_eval.specs.declared.answers.Eval.{Eval}
-use Rattle.ground_eval.specs.declared.answers.Eval.TheVariants.{Value, Spent}
+use Rattle.ground_eval.specs.declared.answers.Eval.TheVariants.{Value, Large, Spent}
 
--- the term gives the value at this cost, which is within the budget; or, where left sides don't overlap and groups
--- are whole, it gives no value at a cost within the budget
+-- the term gives the value, of at most 10,000 symbols, at this cost, which is within the budget; it gives one of more
+-- symbols; or, where left sides don't overlap and groups are whole, it gives no value at a cost within the budget
 abbrev pub IsEval : Spec → Tree → ℕ → Eval → Type 0
-IsEval spec t budget (Value v n) = Gives spec t v n × (n ≤ budget)
+IsEval spec t budget (Value v n) = Gives spec t v n × (n ≤ budget) × (tree_size v ≤ 10000)
+IsEval spec t budget (Large n) = (v : Tree) × Gives spec t v n × (n ≤ budget) × (10000 < tree_size v)
 IsEval spec t budget Spent =
     NoOverlap spec → GroupsAreWhole spec
     → (v : Tree) (n : ℕ) → Gives spec t v n → n ≤ budget → ⊥
@@ -21,4 +22,7 @@ abbrev pub IsOnly : Spec → Tree → Eval → Type 0
 IsOnly spec t (Value v n) =
     NoOverlap spec → GroupsAreWhole spec
     → (w : Tree) (m : ℕ) → Gives spec t w m → (w ≡ v) × (m ≡ n)
+IsOnly spec t (Large n) =
+    NoOverlap spec → GroupsAreWhole spec
+    → (w : Tree) (m : ℕ) → Gives spec t w m → (10000 < tree_size w) × (m ≡ n)
 IsOnly spec t Spent = Unit {0}

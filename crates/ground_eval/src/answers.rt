@@ -3,9 +3,11 @@ use term_core::Term;
 /// What an evaluation found within its budget.
 #[derive(Drop)]
 pub enum Eval {
-    /// The value, and how many rule uses it cost.
+    /// The value, which has at most 10,000 symbols, and how many rule uses it cost.
     Value { value: Term, steps: u32 },
-    /// No value was found within the budget.
+    /// A value of more symbols, at this cost.
+    Large { steps: u32 },
+    /// No value has a cost within the budget.
     Spent,
 }
 

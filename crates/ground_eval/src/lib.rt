@@ -1,22 +1,20 @@
 //! Evaluation of ground terms, and the verdict of a goal under values, each within a budget of rule
 //! uses.
 //!
-//! It stands on term_core and spec_core. Its contracts say against spec_core's definitions that a
-//! value and its cost are right, that Spent comes only where nothing fits the budget, and that a
-//! verdict is the goal's. The layer above makes one [`Evaluator`] for a specification and uses the
-//! clauses of [`Evaluator::verdict`].
+//! It stands on term_core, spec_core, value_bank and bank_machine. Its contracts say against
+//! spec_core's definitions that a value and its cost are right, that Spent comes only where nothing
+//! fits the budget, and that a verdict is the goal's. The layer above makes one [`PreparedGoal`] and
+//! one bank for the verdicts of a goal and uses the clauses of [`PreparedGoal::verdict`].
 #![tactic(auto)]
 
 mod answers;
+mod comparing;
 mod evaluation;
-mod evaluators;
-mod groups;
-mod index;
 mod laws;
-mod matching;
-mod verdicts;
+mod prepared;
 
 pub use answers::Eval;
-pub use evaluators::{Evaluator, eval, verdict};
+pub use evaluation::{eval, verdict};
 pub use laws::one_verdict;
+pub use prepared::PreparedGoal;
 pub use spec_core::Verdict;

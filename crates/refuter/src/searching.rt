@@ -8,10 +8,14 @@ ghost use Rattle.refuter.specs.Finds.{Finds, IsFalse};
 use crate::answers::Search;
 use crate::fewest::MOST_SYMBOLS;
 use crate::odometer::Odometer;
-use ground_eval::{Evaluator, Verdict};
+use ground_eval::{PreparedGoal, Verdict};
 use spec_core::{Goal, Spec, VarInfo};
 use std::alloc::Global;
 use term_core::{OutOfMemory, Seq, SortId, Terms};
+use value_bank::Bank;
+
+/// A search begins its bank anew, between two tries, where it has more cells than these.
+const MANY_CELLS: usize = 1 << 18;
 
 /// Looks for the first counterexample among the first `tries` members of the goal's substitutions
 /// of this depth. Each side has the whole budget. The memory doesn't grow with the number of tries.
@@ -32,7 +36,8 @@ pub fn search(
     ensures found { IfOk result
         (IsFalse spec.now goal.now tries (substitutions spec.now goal.now depth)) }
 {
-    let evaluator = Evaluator::new(alloc, spec)?;
+    let prepared = PreparedGoal::new(alloc, spec, goal)?;
+    let mut bank = Bank::new(alloc)?;
     let odometer = Odometer::new(alloc, &spec.sig)?;
     let sorts = sorts_of_vars(alloc, goal.vars.as_slice())?;
     let bound = MOST_SYMBOLS * sorts.len() as u32;
@@ -41,7 +46,8 @@ pub fn search(
     let mut tried: u32 = 0;
     let mut skipped: u32 = 0;
     while more && tried < tries {
-        match evaluator.verdict(alloc, goal, row.as_slice(), budget)? {
+        make_room(alloc, &mut bank)?;
+        match prepared.verdict(alloc, &mut bank, row.as_slice(), budget)? {
             Verdict::Fails => {
                 return Ok(Search::Found {
                     index: tried,
@@ -59,6 +65,14 @@ pub fn search(
         skipped,
         cut: more,
     })
+}
+
+/// Begins the bank anew where it has many cells.
+fn make_room(alloc: Global, bank: &mut Bank) -> Result<(), OutOfMemory> {
+    if bank.len() > MANY_CELLS {
+        *bank = Bank::new(alloc)?;
+    }
+    Ok(())
 }
 
 /// The sorts of the variables.

@@ -1,4 +1,4 @@
-use Rattle.std.proofs.Common.{◌≡◌, ◌≢◌, ◌+◌, ◌*◌, ◌<◌, ◌≤◌, ◌∙◌, List, Some, [], false, ◌⊎◌, length, take, arith, sym, ap, subst, refl, inl, inr}
+use Rattle.std.proofs.Common.{◌≡◌, ◌≢◌, ℕ, ◌+◌, ◌*◌, ◌<◌, ◌≤◌, ◌∙◌, List, Some, [], false, ◌⊎◌, length, take, arith, sym, ap, subst, refl, inl, inr}
 use Rattle.std.specs.Prelude.{slice_get}
 use Rattle.std.specs.List.{AllByRecursion}
 use Rattle.std.proofs.lemmas.Option.{slice_get_within}
@@ -8,13 +8,14 @@ use Rattle.spec_core.specs.declared.records.Spec.{Spec}
 use Rattle.spec_core.specs.declared.records.Verdict.{Verdict}
 use Rattle.spec_core.specs.declared.records.Verdict.TheVariants.{Holds, Fails, Spent}
 use Rattle.spec_core.specs.Sig.{Sig, IsSort}
-use Rattle.spec_core.specs.WellSorted.{sorts_of}
+use Rattle.spec_core.specs.WellSorted.{IsWellSorted, sorts_of}
 use Rattle.spec_core.specs.Overlap.{NoOverlap}
 use Rattle.spec_core.specs.Groups.{GroupsAreWhole}
 use Rattle.spec_core.specs.Truth.{AreValuesOf, GoalFails}
 use Rattle.spec_core.specs.Verdict.{IsVerdict}
 use Rattle.spec_core.specs.Order.{substitutions}
 use Rattle.ground_eval.proofs.GoalSides.{goal_verdict-unique}
+use Rattle.ground_eval.specs.Prepared.{Prepared, prepared}
 use Rattle.refuter.specs.Finds.{SpentRows}
 use Rattle.refuter.specs.Bounded.{rows_within}
 use Rattle.refuter.specs.After.{rows_after}
@@ -62,16 +63,22 @@ at c = at_row c.args.spec.now.sig c.args.depth (sorts_of c.args.goal.now.vars) (
 are_values : (c : After-as_slice-in-loop-more) → AreValuesOf c.args.spec.now (sorts_of c.args.goal.now.vars) c.loop-more.row.items
 are_values c = all_at (AreValuesOf c.args.spec.now (sorts_of c.args.goal.now.vars)) (substitutions c.args.spec.now c.args.goal.now c.args.depth) (members_are c.args.spec.now c.args.goal.now c.args.depth) c.loop-more.tried c.loop-more.row.items (at c)
 
+pub verdict-requires-clause-fine : goal.verdict-requires-clause-fine
+verdict-requires-clause-fine c = subst (λ (p : Prepared). IsWellSorted p.spec) (sym c.in_ok-prepared.ensures) c.requires.fine
+
+pub verdict-requires-clause-listed : goal.verdict-requires-clause-listed
+verdict-requires-clause-listed c = subst (λ (p : Prepared). (k : ℕ) × (slice_get p.spec.goals k ≡ Some p.goal)) (sym c.in_ok-prepared.ensures) c.requires.listed
+
 pub verdict-requires-clause-values : goal.verdict-requires-clause-values
 verdict-requires-clause-values c =
-    subst (λ (spec : Spec). AreValuesOf spec (sorts_of c.args.goal.now.vars) c.as_slice-in-loop-more.result.now) (sym c.in_ok-evaluator.ensures) (subst (λ row. AreValuesOf c.args.spec.now (sorts_of c.args.goal.now.vars) row) (sym c.as_slice-in-loop-more.ensures.value) (are_values c))
+    subst (λ (p : Prepared). AreValuesOf p.spec (sorts_of p.goal.vars) c.as_slice-in-loop-more.result.now) (sym c.in_ok-prepared.ensures) (subst (λ row. AreValuesOf c.args.spec.now (sorts_of c.args.goal.now.vars) row) (sym c.as_slice-in-loop-more.ensures.value) (are_values c))
 
 -- the verdict is that of the row that the search looks at
 verdict_is : (c : In_ok-verdict) → (v : Verdict) → c.in_ok-verdict.field-0 ≡ v → (NoOverlap c.args.spec.now → GroupsAreWhole c.args.spec.now → IsVerdict c.args.spec.now c.loop-more.row.items c.args.budget c.args.goal.now v) × (v ≢ Spent → IsVerdict c.args.spec.now c.loop-more.row.items c.args.budget c.args.goal.now v) × (v ≡ Fails → GoalFails c.args.spec.now c.loop-more.row.items c.args.goal.now)
 verdict_is c v e =
-    let P : Spec → List Tree → Verdict → Type 0 = λ (spec : Spec) row w. (NoOverlap spec → GroupsAreWhole spec → IsVerdict spec row c.args.budget c.args.goal.now w) × (w ≢ Spent → IsVerdict spec row c.args.budget c.args.goal.now w) × (w ≡ Fails → GoalFails spec row c.args.goal.now) in
-    let a : P c.in_ok-evaluator.evaluator c.as_slice-in-loop-more.result.now c.in_ok-verdict.field-0 = (c.in_ok-verdict.ensures.verdict, c.in_ok-verdict.ensures.sure, c.in_ok-verdict.ensures.fails) in
-    subst (λ w. P c.args.spec.now c.loop-more.row.items w) e (subst (λ row. P c.args.spec.now row c.in_ok-verdict.field-0) c.as_slice-in-loop-more.ensures.value (subst (λ (spec : Spec). P spec c.as_slice-in-loop-more.result.now c.in_ok-verdict.field-0) c.in_ok-evaluator.ensures a))
+    let P : Prepared → List Tree → Verdict → Type 0 = λ (p : Prepared) row w. (NoOverlap p.spec → GroupsAreWhole p.spec → IsVerdict p.spec row c.args.budget p.goal w) × (w ≢ Spent → IsVerdict p.spec row c.args.budget p.goal w) × (w ≡ Fails → GoalFails p.spec row p.goal) in
+    let a : P c.in_ok-prepared.prepared c.as_slice-in-loop-more.result.now c.in_ok-verdict.field-0 = (c.in_ok-verdict.ensures.verdict, c.in_ok-verdict.ensures.sure, c.in_ok-verdict.ensures.fails) in
+    subst (λ w. P (prepared c.args.spec.now c.args.goal.now) c.loop-more.row.items w) e (subst (λ row. P (prepared c.args.spec.now c.args.goal.now) row c.in_ok-verdict.field-0) c.as_slice-in-loop-more.ensures.value (subst (λ (p : Prepared). P p c.as_slice-in-loop-more.result.now c.in_ok-verdict.field-0) c.in_ok-prepared.ensures a))
 
 -- the row has at most one verdict
 one : (c : In_ok-verdict) → AreValuesOf c.args.spec.now (sorts_of c.args.goal.now.vars) c.loop-more.row.items → NoOverlap c.args.spec.now → GroupsAreWhole c.args.spec.now → (p q : Verdict) → IsVerdict c.args.spec.now c.loop-more.row.items c.args.budget c.args.goal.now p → IsVerdict c.args.spec.now c.loop-more.row.items c.args.budget c.args.goal.now q → p ≡ q
@@ -108,7 +115,7 @@ loop-more-preserved c =
     let goes : GoesOn [] (slice_get (rows_after sig c.args.depth ss bound c.loop-more.row.items) 0) c.advance.new.row.items c.in_ok-more-2.more = subst (λ us. GoesOn [] (slice_get (rows_after sig c.args.depth us bound c.loop-more.row.items) 0) c.advance.new.row.items c.in_ok-more-2.more) (c.as_slice-in-loop-more-2.ensures ∙ sorts b.In_ok-sorts) (subst (λ (g : Sig). GoesOn [] (slice_get (rows_after g c.args.depth c.as_slice-in-loop-more-2.result.now bound c.loop-more.row.items) 0) c.advance.new.row.items c.in_ok-more-2.more) c.in_ok-odometer.ensures c.in_ok-more-2.ensures) in
     let past : c.loop-more.tried < length rows = slice_get_within rows c.loop-more.tried c.loop-more.row.items here in
     let next = moves sig c.args.depth ss bound c.loop-more.tried rows c.loop-more.row.items c.advance.new.row.items c.loop-more.more c.in_ok-more-2.more c.loop-more-test.true c.loop-more.invariant.at goes in
-    elim c.match-branch-6.branch [
+    elim c.match-branch-8.branch [
       | in-Spent w ↦
           let v = verdict_is b.In_ok-verdict Spent w.in-Spent.is in
           record {
@@ -140,5 +147,5 @@ returns-clause-finds c apart all =
     let w = ends c.args.spec.now.sig c.args.depth (sorts_of c.args.goal.now.vars) (255 * c.len.result) c.loop-more.tried c.args.tries (substitutions c.args.spec.now c.args.goal.now c.args.depth) c.loop-more.row.items c.loop-more.more c.loop-more.invariant.at c.loop-more.invariant.past c.loop-more.invariant.within over in
     (w.0, w.1, c.loop-more.invariant.before apart all, c.loop-more.invariant.spent apart all)
 
-pub new-requires-2-clause-in_range : goal.new-requires-2-clause-in_range
-new-requires-2-clause-in_range c = sorts_in_range c.args.spec.now.sig c.requires.fine.signature
+pub new-requires-3-clause-in_range : goal.new-requires-3-clause-in_range
+new-requires-3-clause-in_range c = sorts_in_range c.args.spec.now.sig c.requires.fine.signature

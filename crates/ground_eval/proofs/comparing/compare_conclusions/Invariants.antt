@@ -1,0 +1,14 @@
+use Rattle.std.proofs.Common.{List, take}
+use Rattle.std.specs.List.{AllByRecursion}
+use Rattle.term_core.specs.Tree.{Tree}
+use Rattle.spec_core.specs.declared.records.Equation.{Equation}
+use Rattle.spec_core.specs.Verdict.{SidesDiffer}
+use Rattle.value_bank.specs.Cells.{AddsCells}
+use Rattle.ground_eval.specs.Prepared.{CanCompareAll}
+use Rattle.ground_eval.proofs.comparing.compare_conclusions.Given as goal
+
+abbrev pub invariant-loop-conclusion : goal.invariant-loop-conclusion
+invariant-loop-conclusion l = record {
+  differ : (es : List Equation) (terms : List Tree) → CanCompareAll l.machine l.fn.bank l.conclusions l.values es terms → AllByRecursion (SidesDiffer l.machine.spec terms l.budget) (take l.conclusion-index es);
+  adds : AddsCells l.fn.bank l.bank;
+}

@@ -1,0 +1,44 @@
+use Rattle.std.proofs.Common.{◌≡◌, subst, get_or}
+use Rattle.std.proofs.lemmas.Option.{slice_get-get_or}
+use Rattle.spec_core.specs.Verdict.{SidesSame}
+use Rattle.value_bank.proofs.Placed.{adds_both}
+use Rattle.ground_eval.specs.Prepared.{pair_of}
+use Rattle.ground_eval.specs.Sides.{SidesAre}
+use Rattle.ground_eval.proofs.Lists.{all_more}
+use Rattle.ground_eval.proofs.Walks.{premise_differs, premise_spent}
+use Rattle.ground_eval.proofs.SharedSides.{paired}
+use Rattle.ground_eval.proofs.comparing.compare_premises.Goals as goal
+
+pub compare_sides-requires-clause-ready : goal.compare_sides-requires-clause-ready
+compare_sides-requires-clause-ready c =
+    let q = c.requires.ready in
+    let e = paired c.args.machine.now c.args.bank.now c.args.premises.now c.args.values.now q.0 q.1 q.2 c.loop-premise.premise-index _ (slice_get-get_or c.args.premises.now c.loop-premise.premise-index (pair_of 0 0) c.loop-premise-test.true) c.loop-premise-test.true c.loop-premise.bank c.loop-premise.invariant.adds in
+    (e.equation, q.1, e.ready)
+
+pub loop-premise-preserved : goal.loop-premise-preserved
+loop-premise-preserved c =
+    record {
+      same = λ es terms can.
+          let e = paired c.args.machine.now c.args.bank.now c.args.premises.now c.args.values.now es terms can c.loop-premise.premise-index _ (slice_get-get_or c.args.premises.now c.loop-premise.premise-index (pair_of 0 0) c.loop-premise-test.true) c.loop-premise-test.true c.loop-premise.bank c.loop-premise.invariant.adds in
+          let h = subst (λ r. SidesAre c.args.machine.now.spec terms c.args.budget e.equation r) c.in-Same.is (c.in_ok-compare_sides.ensures.sides e.equation terms e.ready) in
+          all_more (SidesSame c.args.machine.now.spec terms c.args.budget) es c.loop-premise.premise-index e.equation e.at (c.loop-premise.invariant.same es terms can) h;
+      adds = adds_both c.args.bank.now c.loop-premise.bank c.compare_sides.new.bank c.loop-premise.invariant.adds c.in_ok-compare_sides.ensures.adds;
+    }
+
+pub returns-in-Differ-clause-sides : goal.returns-in-Differ-clause-sides
+returns-in-Differ-clause-sides c es terms can =
+    let e = paired c.args.machine.now c.args.bank.now c.args.premises.now c.args.values.now es terms can c.loop-premise.premise-index _ (slice_get-get_or c.args.premises.now c.loop-premise.premise-index (pair_of 0 0) c.loop-premise-test.true) c.loop-premise-test.true c.loop-premise.bank c.loop-premise.invariant.adds in
+    let h = subst (λ r. SidesAre c.args.machine.now.spec terms c.args.budget e.equation r) c.in-Differ.is (c.in_ok-compare_sides.ensures.sides e.equation terms e.ready) in
+    premise_differs c.args.machine.now.spec terms c.args.budget es c.loop-premise.premise-index e.equation e.at (c.loop-premise.invariant.same es terms can) h
+
+pub returns-in-Differ-clause-adds : goal.returns-in-Differ-clause-adds
+returns-in-Differ-clause-adds c = adds_both c.args.bank.now c.loop-premise.bank c.compare_sides.new.bank c.loop-premise.invariant.adds c.in_ok-compare_sides.ensures.adds
+
+pub returns-in-Spent-clause-sides : goal.returns-in-Spent-clause-sides
+returns-in-Spent-clause-sides c es terms can =
+    let e = paired c.args.machine.now c.args.bank.now c.args.premises.now c.args.values.now es terms can c.loop-premise.premise-index _ (slice_get-get_or c.args.premises.now c.loop-premise.premise-index (pair_of 0 0) c.loop-premise-test.true) c.loop-premise-test.true c.loop-premise.bank c.loop-premise.invariant.adds in
+    let h = subst (λ r. SidesAre c.args.machine.now.spec terms c.args.budget e.equation r) c.in-Spent.is (c.in_ok-compare_sides.ensures.sides e.equation terms e.ready) in
+    premise_spent c.args.machine.now.spec terms c.args.budget es c.loop-premise.premise-index e.equation e.at (c.loop-premise.invariant.same es terms can) h
+
+pub returns-in-Spent-clause-adds : goal.returns-in-Spent-clause-adds
+returns-in-Spent-clause-adds c = adds_both c.args.bank.now c.loop-premise.bank c.compare_sides.new.bank c.loop-premise.invariant.adds c.in_ok-compare_sides.ensures.adds

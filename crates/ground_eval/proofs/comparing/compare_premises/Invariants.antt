@@ -1,0 +1,14 @@
+use Rattle.std.proofs.Common.{List, take}
+use Rattle.std.specs.List.{AllByRecursion}
+use Rattle.term_core.specs.Tree.{Tree}
+use Rattle.spec_core.specs.declared.records.Equation.{Equation}
+use Rattle.spec_core.specs.Verdict.{SidesSame}
+use Rattle.value_bank.specs.Cells.{AddsCells}
+use Rattle.ground_eval.specs.Prepared.{CanCompareAll}
+use Rattle.ground_eval.proofs.comparing.compare_premises.Given as goal
+
+abbrev pub invariant-loop-premise : goal.invariant-loop-premise
+invariant-loop-premise l = record {
+  same : (es : List Equation) (terms : List Tree) → CanCompareAll l.machine l.fn.bank l.premises l.values es terms → AllByRecursion (SidesSame l.machine.spec terms l.budget) (take l.premise-index es);
+  adds : AddsCells l.fn.bank l.bank;
+}

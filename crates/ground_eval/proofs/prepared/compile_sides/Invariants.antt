@@ -1,0 +1,11 @@
+use Rattle.std.proofs.Common.{◌≡◌, take}
+use Rattle.bank_machine.specs.Blocks.{AddsCode}
+use Rattle.ground_eval.specs.Prepared.{HaveCode}
+use Rattle.ground_eval.proofs.prepared.compile_sides.Given as goal
+
+abbrev pub invariant-loop-equation : goal.invariant-loop-equation
+invariant-loop-equation l = record {
+  code : HaveCode l.machine l.variables (take l.equation-index l.equations) l.pairs.items;
+  spec : l.machine.spec ≡ l.fn.machine.spec;
+  adds : AddsCode l.fn.machine.code l.machine.code;
+}

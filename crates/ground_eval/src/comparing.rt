@@ -1,0 +1,110 @@
+ghost use Rattle.std.specs.Prelude.{◌≡◌, ℕ, List, IfOk};
+ghost use Rattle.std.specs.List.{AllByRecursion};
+ghost use Rattle.term_core.specs.Tree.{Tree};
+ghost use Rattle.spec_core.specs.WellSorted.{IsWellSorted};
+ghost use Rattle.spec_core.specs.declared.records.Equation.{Equation};
+ghost use Rattle.value_bank.specs.Cells.{AddsCells};
+ghost use Rattle.ground_eval.specs.Prepared.{CanCompare, CanCompareAll};
+ghost use Rattle.ground_eval.specs.Sides.{SidesAre, PremisesAre, ConclusionsAre};
+
+use crate::answers::Sides;
+use bank_machine::{BankEval, Machine};
+use spec_core::Verdict;
+use std::alloc::Global;
+use term_core::OutOfMemory;
+use value_bank::{Bank, ValueId};
+
+/// Where the code of an equation's sides begins.
+#[derive(Clone, Copy)]
+pub(crate) struct SidePair {
+    pub(crate) left: usize,
+    pub(crate) right: usize,
+}
+
+/// Same where the sides of each premise are the same, else what the first other premise is.
+pub(crate) fn compare_premises(
+    alloc: Global,
+    machine: &Machine,
+    bank: &mut Bank,
+    premises: &[SidePair],
+    values: &[ValueId],
+    budget: u32,
+) -> Result<Sides, OutOfMemory>
+    requires fine { IsWellSorted machine.now.spec }
+    requires ready { (es : List Equation) × (terms : List Tree) × CanCompareAll machine.now bank.old premises.now values.now es terms }
+    ensures sides { IfOk result (λ r. (es : List Equation) (terms : List Tree)
+        → CanCompareAll machine.now bank.old premises.now values.now es terms
+        → PremisesAre machine.now.spec terms budget es r) }
+    ensures adds { AddsCells bank.old bank.new }
+{
+    for premise in premises {
+        match compare_sides(alloc, machine, bank, *premise, values, budget)? {
+            Sides::Same => continue,
+            Sides::Differ => return Ok(Sides::Differ),
+            Sides::Spent => return Ok(Sides::Spent),
+        }
+    }
+    Ok(Sides::Same)
+}
+
+/// The verdict where each premise holds.
+pub(crate) fn compare_conclusions(
+    alloc: Global,
+    machine: &Machine,
+    bank: &mut Bank,
+    conclusions: &[SidePair],
+    values: &[ValueId],
+    budget: u32,
+) -> Result<Verdict, OutOfMemory>
+    requires fine { IsWellSorted machine.now.spec }
+    requires ready { (es : List Equation) × (terms : List Tree) × CanCompareAll machine.now bank.old conclusions.now values.now es terms }
+    ensures verdict { IfOk result (λ r. (es : List Equation) (terms : List Tree)
+        → CanCompareAll machine.now bank.old conclusions.now values.now es terms
+        → ConclusionsAre machine.now.spec terms budget es r) }
+    ensures adds { AddsCells bank.old bank.new }
+{
+    for conclusion in conclusions {
+        match compare_sides(alloc, machine, bank, *conclusion, values, budget)? {
+            Sides::Same => return Ok(Verdict::Holds),
+            Sides::Differ => continue,
+            Sides::Spent => return Ok(Verdict::Spent),
+        }
+    }
+    Ok(Verdict::Fails)
+}
+
+/// What the sides give, of which the left one is evaluated first.
+fn compare_sides(
+    alloc: Global,
+    machine: &Machine,
+    bank: &mut Bank,
+    sides: SidePair,
+    values: &[ValueId],
+    budget: u32,
+) -> Result<Sides, OutOfMemory>
+    requires fine { IsWellSorted machine.now.spec }
+    requires ready { (e : Equation) × (terms : List Tree) × CanCompare machine.now bank.old sides values.now e terms }
+    ensures sides { IfOk result (λ r. (e : Equation) (terms : List Tree)
+        → CanCompare machine.now bank.old sides values.now e terms
+        → SidesAre machine.now.spec terms budget e r) }
+    ensures adds { AddsCells bank.old bank.new }
+{
+    match machine.run(alloc, bank, sides.left, values, budget)? {
+        BankEval::Spent => Ok(Sides::Spent),
+        BankEval::Value { id: left, steps: _ } => {
+            match machine.run(alloc, bank, sides.right, values, budget)? {
+                BankEval::Spent => Ok(Sides::Spent),
+                BankEval::Value {
+                    id: right,
+                    steps: _,
+                } => {
+                    if bank.same(left, right) {
+                        Ok(Sides::Same)
+                    } else {
+                        Ok(Sides::Differ)
+                    }
+                }
+            }
+        }
+    }
+}
