@@ -48,7 +48,7 @@ pub record Refused : Type 0 where
   pub no_number : AskNothing (refute (codes "a" ∷ codes "--depth=" ∷ []))
   pub below_zero : AskNothing (refute (codes "a" ∷ codes "--depth=-0" ∷ []))
   pub another_option : AskNothing (eval (codes "a" ∷ codes "x" ∷ codes "--depth" ∷ codes "2" ∷ []))
-  pub too_many_steps : AskNothing (eval (codes "a" ∷ codes "x" ∷ codes "--steps" ∷ codes "2001" ∷ []))
+  pub too_many_steps : AskNothing (eval (codes "a" ∷ codes "x" ∷ codes "--steps" ∷ codes "100001" ∷ []))
   pub no_term : AskNothing (eval (codes "a" ∷ []))
   pub flag_with_text : AskNothing (check (codes "a" ∷ codes "--print=x" ∷ []))
 

@@ -17,7 +17,7 @@ pub const TRIES: NumberRange = NumberRange {
 /// How many rule uses an evaluation may cost.
 pub const STEPS: NumberRange = NumberRange {
     least: 1,
-    most: 2_000,
+    most: 100_000,
 };
 
 /// The depth where no word gives one.

@@ -58,7 +58,7 @@ fn options_stand_anywhere(rt: HostRuntime) -> Result<(), Fail> {
 const FAULTY: [[&str; 4]; 8] = [
     ["a", "--depth 9", "--tries 5", "--steps 7"],
     ["a", "--depth 2", "--tries 0", "--steps 7"],
-    ["a", "--depth 2", "--tries 5", "--steps 2001"],
+    ["a", "--depth 2", "--tries 5", "--steps 100001"],
     ["a", "--depth 2", "--depth=2", "--steps 7"],
     ["a", "b", "--depth 2", "--tries 5"],
     ["a", "--print", "--tries 5", "--steps 7"],
