@@ -8,19 +8,22 @@ use Rattle.spec_core.specs.TermText.{term_text}
 use Rattle.spec_core.specs.Gives.{Gives}
 use Rattle.spike_cli.specs.declared.statuses.Status.{Status}
 use Rattle.spike_cli.specs.declared.statuses.Status.TheVariants.{Done, Open, Refused}
-use Rattle.spike_cli.specs.declared.evaluating.TheConstants.{MAX_SYMBOLS}
+use Rattle.value_bank.specs.declared.reading.TheConstants.{TERM_SYMBOLS}
 use Rattle.spike_cli.specs.Meanings.{TermTextStandsFor}
 use Rattle.spike_cli.specs.Refusals.{IsTermRefusal}
 
 -- the value's text, or `large` where it has too many symbols
 abbrev pub value_text : Sig → Tree → List ℕ
 value_text sig v =
-    if nat_le (tree_size v) MAX_SYMBOLS then term_text sig [] v else codes "large"
+    if nat_le (tree_size v) TERM_SYMBOLS then term_text sig [] v else codes "large"
 
--- `value V` and `steps N`
+-- `value V` and `steps N`, for the text of V
+abbrev pub lines_with : List ℕ → ℕ → List ℕ
+lines_with text n = codes "value " ++ text ++ codes "\nsteps " ++ decimal n ++ codes "\n"
+
+-- the two lines for a value and its cost
 abbrev pub value_lines : Sig → Tree → ℕ → List ℕ
-value_lines sig v n =
-    codes "value " ++ value_text sig v ++ codes "\nsteps " ++ decimal n ++ codes "\n"
+value_lines sig v n = lines_with (value_text sig v) n
 
 -- `spent B`
 abbrev pub spent_line : ℕ → List ℕ

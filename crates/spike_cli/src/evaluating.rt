@@ -1,10 +1,10 @@
-ghost use Rattle.std.specs.Prelude.{◌≡◌, ◌≤◌, ◌++◌, IfOk, OnOk};
+ghost use Rattle.std.specs.Prelude.{◌≡◌, ◌≤◌, [], IfOk, codes};
 ghost use Rattle.spec_core.specs.TermText.{SymbolsAreInRange};
 ghost use Rattle.spec_core.specs.WellSorted.{IsWellSorted};
 ghost use Rattle.path_order.specs.Above.{Above};
 ghost use Rattle.clause_core.specs.Admitted.{IsAdmitted};
-ghost use Rattle.spike_cli.specs.Evaluations.{IsEvaluation, IsEvaluationText, value_text};
-ghost use Rattle.spike_cli.specs.Evaluations.{value_lines as lines_of_value};
+ghost use Rattle.spec_core.specs.TermText.{term_text};
+ghost use Rattle.spike_cli.specs.Evaluations.{IsEvaluation, IsEvaluationText, lines_with};
 ghost use Rattle.spike_cli.specs.Evaluations.{spent_line as line_of_spent};
 ghost use Rattle.spike_cli.specs.Stops.{Finishes};
 ghost use Rattle.spike_cli.specs.Tellings.{IsLineOf};
@@ -13,14 +13,11 @@ use crate::reading::ground_term;
 use crate::refusals::Refusal;
 use crate::statuses::Status;
 use crate::stops::Stop;
-use ground_eval::{Eval, Evaluator};
+use ground_eval::{Eval, eval};
 use io_core::{Sink, write_all};
 use spec_core::{Signature, Spec};
 use std::alloc::Global;
 use term_core::{OutOfMemory, Term};
-
-/// The most symbols of a value that is written.
-const MAX_SYMBOLS: u32 = 10_000;
 
 /// What is written for a term, and the status with it.
 #[derive(Drop)]
@@ -64,9 +61,13 @@ fn evaluation_of(
         Ok(term) => term,
         Err(refusal) => return refused(refusal),
     };
-    match Evaluator::new(alloc, spec)?.eval(alloc, &term, steps)? {
+    match eval(alloc, spec, &term, steps)? {
         Eval::Value { value, steps: cost } => Ok(Evaluation {
             text: value_lines(alloc, &spec.sig, &value, cost)?,
+            status: Status::Done,
+        }),
+        Eval::Large { steps: cost } => Ok(Evaluation {
+            text: large_lines(alloc, cost)?,
             status: Status::Done,
         }),
         Eval::Spent => Ok(Evaluation {
@@ -89,7 +90,7 @@ fn refused(refusal: Refusal) -> Result<Evaluation, OutOfMemory>
     }
 }
 
-/// The lines of a value and its cost.
+/// The lines of a value that is written, and its cost.
 fn value_lines(
     alloc: Global,
     sig: &Signature,
@@ -97,32 +98,24 @@ fn value_lines(
     cost: u32,
 ) -> Result<Vec<u8>, OutOfMemory>
     requires { SymbolsAreInRange sig.now value.now }
-    ensures { IfOk result (λ text. text.items ≡ lines_of_value sig.now value.now cost) }
+    ensures { IfOk result (λ text. text.items ≡ lines_with (term_text sig.now [] value.now) cost) }
 {
     let mut text = Vec::from_slice(alloc, b"value ")?;
-    append_value(alloc, sig, value, &mut text)?;
+    sig.print(alloc, &[], value, &mut text)?;
     text.extend_from_slice(b"\nsteps ")?;
     text.extend_from_slice(cost.to_string(alloc)?.as_bytes())?;
     text.push(b'\n')?;
     Ok(text)
 }
 
-/// Appends the value, where it isn't too large.
-fn append_value(
-    alloc: Global,
-    sig: &Signature,
-    value: &Term,
-    text: &mut Vec<u8>,
-) -> Result<(), OutOfMemory>
-    requires { SymbolsAreInRange sig.now value.now }
-    ensures { OnOk result (text.new.items ≡ text.old.items ++ value_text sig.now value.now) }
+/// The lines of a value that is too large to be written, and its cost.
+fn large_lines(alloc: Global, cost: u32) -> Result<Vec<u8>, OutOfMemory>
+    ensures { IfOk result (λ text. text.items ≡ lines_with (codes "large") cost) }
 {
-    if value.size(MAX_SYMBOLS + 1) <= MAX_SYMBOLS {
-        sig.print(alloc, &[], value, text)?;
-    } else {
-        text.extend_from_slice(b"large")?;
-    }
-    Ok(())
+    let mut text = Vec::from_slice(alloc, b"value large\nsteps ")?;
+    text.extend_from_slice(cost.to_string(alloc)?.as_bytes())?;
+    text.push(b'\n')?;
+    Ok(text)
 }
 
 /// The line of an evaluation that found no value within the steps.
