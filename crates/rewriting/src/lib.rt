@@ -2,7 +2,7 @@
 //!
 //! It stands on unifier. The layers above use that [`normalize`] finds the leftmost-innermost uses
 //! of a term, each with its place and its rule, and answers Spent exactly where there are more of
-//! them than the budget ([`one_normal_form`]). Who normalizes many terms makes one [`Rewriter`].
+//! them than the budget ([`one_answer`]). Who normalizes many terms makes one [`Rewriter`].
 #![tactic(auto)]
 
 mod by_function;
@@ -14,6 +14,6 @@ mod rules;
 mod trace;
 mod walk;
 
-pub use laws::{one_normal_form, worked_examples};
+pub use laws::{one_answer, one_normal_form, worked_examples};
 pub use normal::{Normal, normalize};
 pub use rewriter::Rewriter;
