@@ -17,7 +17,7 @@ ghost use Rattle.sort_check.specs.Counted.{HasFewDeclarations};
 
 use anyhow::{Context, Result, bail};
 use coverage_check::{Coverage, covers, rows_of};
-use ground_eval::{Eval, Evaluator};
+use ground_eval::{Eval, eval};
 use overlap_check::{Linear, Overlap, linear, overlap};
 use path_order::{Lpo, TermOrder};
 use refuter::{Search, search};
@@ -153,13 +153,10 @@ fn evaluated(alloc: Global, spec: &Spec, text: &[u8], budget: u32, times: u32) -
     let Ok(term) = elaborate_term(alloc, &spec.sig, &raw) else {
         bail!("the term isn't sorted");
     };
-    let Ok(evaluator) = Evaluator::new(alloc, spec) else {
-        bail!("out of memory");
-    };
     let mut cost: u64 = 0;
     for _time in 0..times {
-        match evaluator.eval(alloc, &term, budget) {
-            Ok(Eval::Value { steps, .. }) => cost = u64::from(steps),
+        match eval(alloc, spec, &term, budget) {
+            Ok(Eval::Value { steps, .. } | Eval::Large { steps }) => cost = u64::from(steps),
             Ok(Eval::Spent) => bail!("the budget is spent"),
             Err(_) => bail!("out of memory"),
         }
