@@ -1,5 +1,5 @@
 -- Laws of tidying and of comparing.
-use Rattle.std.specs.Prelude.{◌≡◌, List}
+use Rattle.std.specs.Prelude.{◌≡◌, ◌↔◌, List}
 use Rattle.term_core.specs.Tree.{Tree}
 use Rattle.spec_core.specs.declared.records.Spec.{Spec}
 use Rattle.spec_core.specs.Sig.{Sig}
@@ -7,6 +7,7 @@ use Rattle.spec_core.specs.Declarations.{IsDeclared}
 use Rattle.clause_core.specs.declared.clauses.Clause.{Clause}
 use Rattle.clause_core.specs.declared.clauses.Relation.{Relation}
 use Rattle.clause_core.specs.Clauses.{ClauseIsSorted}
+use Rattle.clause_core.specs.Limits.{IsWithin}
 use Rattle.clause_core.specs.Tidied.{variables_of, tidied, IsTidied}
 use Rattle.clause_core.specs.Failing.{ClauseFails, values_at}
 use Rattle.clause_core.specs.Comparing.{Compares}
@@ -16,6 +17,8 @@ pub record TidyingLaws : Type 0 where
   pub is_tidied : (c : Clause) → IsTidied (tidied c)
   -- and tidying leaves it as it is
   pub stays : (c : Clause) → IsTidied c → tidied c ≡ c
+  -- it is within the limits where the clause is
+  pub keeps_limits : (c : Clause) → IsWithin (tidied c) ↔ IsWithin c
   -- it is sorted where the clause is
   pub keeps_sorts :
       (sig : Sig) (c : Clause) → IsDeclared sig → ClauseIsSorted sig c →

@@ -42,7 +42,7 @@ fn equation_instances(
     Ok(Seq::from_vec(made))
 }
 
-fn copy_sorts(alloc: Global, sorts: &[SortId]) -> Result<Seq<SortId>, OutOfMemory>
+pub(crate) fn copy_sorts(alloc: Global, sorts: &[SortId]) -> Result<Seq<SortId>, OutOfMemory>
     ensures { IfOk result (λ made. made ≡ sorts.now) }
 {
     let mut made = Vec::with_capacity(alloc, sorts.len())?;

@@ -6,11 +6,11 @@ ghost use Rattle.clause_core.specs.Limits.{IsWithin};
 use crate::clauses::Clause;
 use spec_core::Equation;
 
-const MOST_EQUATIONS: usize = 64;
+pub const MOST_EQUATIONS: usize = 64;
 
-const MOST_LEVELS: u32 = 100;
+pub const MOST_LEVELS: u32 = 100;
 
-const MOST_SYMBOLS: u32 = 4000;
+pub const MOST_SYMBOLS: u32 = 4000;
 
 /// Whether the clause is within the limits of a clause in a proof: 64 equations, depth 100 and
 /// size 4,000. No side is walked much further than the limits.

@@ -1,5 +1,0 @@
-use Rattle.proof_steps.proofs.PathsOfPlaces.{term_is_at, term_at, term_is_replaced}
-use Rattle.proof_steps.proofs.laws.places_agree.Goals as goal
-
-pub returns : goal.returns
-returns k = λ c place. record { stands = term_is_at c place; is_there = term_at c place; exchanges = term_is_replaced c place }
