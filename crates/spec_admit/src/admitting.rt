@@ -5,7 +5,7 @@ ghost use Rattle.spec_core.specs.RuleSizes.{RulesAreWithin};
 ghost use Rattle.spec_core.specs.Sorts.{Sorted};
 ghost use Rattle.spec_core.specs.WellSorted.{IsWellSorted};
 ghost use Rattle.clause_core.specs.Admitted.{IsAdmitted};
-ghost use Rattle.admitted_values.specs.OneValue.{HasOneValue};
+ghost use Rattle.descent.specs.OneValue.{HasOneValue};
 ghost use Rattle.spec_admit.specs.FirstFault.{Tells};
 
 use crate::admitted::Admitted;
@@ -14,7 +14,7 @@ use crate::faults::{AdmitError, AdmitFault};
 use crate::guards::incomplete_group;
 use crate::linearity::repeated_variable;
 use crate::ordering::unordered_rule;
-use admitted_values::values_rank_lower;
+use descent::values_rank_lower;
 use overlap_check::{Overlap, overlap};
 use path_order::TermOrder;
 use spec_core::Spec;

@@ -1,3 +1,0 @@
--- The one value of a sorted ground term.
-pub mod OneValue
-pub mod Examples
