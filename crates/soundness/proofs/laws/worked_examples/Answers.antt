@@ -1,0 +1,26 @@
+use Rattle.std.proofs.Common.{[], ◌∷◌, refl, subst}
+use Rattle.std.specs.Prelude.{codes}
+use Rattle.spec_core.specs.Truth.{GoalFails, GoalIsTrue}
+use Rattle.spec_core.specs.Naturals.{naturals, same_goal, unit_goal, zero_term, succ_term}
+use Rattle.acceptance.specs.Claims.{IsGoalNamed}
+use Rattle.acceptance.specs.Examples.{only, proves_unit, refutes, unit_steps, x_and_y}
+use Rattle.acceptance.proofs.NoRefusal.{goal_named_one}
+use Rattle.soundness.proofs.laws.worked_examples.Goals as goal
+
+unit_named : IsGoalNamed naturals (codes "unit") unit_goal
+unit_named = (1, refl, refl)
+
+same_named : IsGoalNamed naturals (codes "same") same_goal
+same_named = (0, refl, refl)
+
+pub returns : goal.returns
+returns c =
+    let fine = c.worked_examples-3.ensures.well_sorted in
+    let admitted = c.worked_examples-2.ensures.naturals_are_admitted in
+    let sound = c.accepted_are_true.ensures in
+    let proved = (sound naturals (only (proves_unit unit_steps)) fine admitted c.worked_examples.ensures.accepted).0 in
+    let refuted = (sound naturals (only (refutes (codes "same") (x_and_y zero_term (succ_term zero_term)))) fine admitted c.worked_examples.ensures.refuted).0 in
+    record {
+      unit_is_true = subst (λ g. GoalIsTrue naturals g) (goal_named_one naturals fine (codes "unit") proved.0 unit_goal proved.1 unit_named) proved.2;
+      same_fails = subst (λ g. GoalFails naturals (zero_term ∷ succ_term zero_term ∷ []) g) (goal_named_one naturals fine (codes "same") refuted.0 same_goal refuted.1 same_named) refuted.2.1;
+    }

@@ -1,0 +1,3 @@
+pub mod ReportTruth
+pub mod AcceptedAreTrue
+pub mod Examples
