@@ -1,0 +1,66 @@
+-- The end of a row: its children and references, one after the other.
+use Rattle.std.proofs.Common.{◌≡◌, ℕ, ◌+◌, ◌<◌, ◌≤◌, List, [], ◌∷◌, ◌++◌, inl, map, length, take, get_or, refl, ap, sym, ◌∙◌, subst, arith}
+use Rattle.std.specs.Prelude.{Result, Ok, Err}
+use Rattle.std.proofs.lemmas.List.{map-append, take_all}
+use Rattle.term_core.specs.Tree.{Tree}
+use Rattle.term_core.proofs.Items.{taken_next}
+use Rattle.clause_core.specs.declared.clauses.Clause.{Clause}
+use Rattle.clause_core.specs.declared.clauses.Relation.{Relation}
+use Rattle.clause_core.specs.declared.answers.Child.{Child}
+use Rattle.clause_core.specs.declared.answers.Children.{Children}
+use Rattle.clause_core.specs.declared.answers.Reference.{Reference}
+use Rattle.clause_core.specs.Tidied.{tidied}
+use Rattle.clause_core.specs.Rows.{Made, child, makes}
+use Rattle.clause_core.specs.Says.{Pairwise, AreWithin, IsChild, IsReference, Says}
+use Rattle.inference_rules.specs.declared.nodes.StepError.{StepError}
+use Rattle.inference_rules.specs.declared.nodes.StepError.TheVariants.{Why as because, OutOfMemory as out_of_memory}
+use Rattle.inference_rules.specs.Answers.{Answered, IsLimited}
+
+-- one pair more
+pub pairs_more :
+    {X Y : Type 0} (R : X → Y → Type 0) (xs : List X) (ys : List Y) (x : X) (y : Y) →
+    Pairwise R xs ys → R x y → Pairwise R (xs ++ x ∷ []) (ys ++ y ∷ [])
+pairs_more R [] [] x y p r = (r, tt)
+pairs_more R [] (z ∷ ys) x y p r = absurd p
+pairs_more R (z ∷ xs) [] x y p r = absurd p
+pairs_more R (z ∷ xs) (w ∷ ys) x y p r = (p.0, pairs_more R xs ys x y p.1 r)
+
+module _ (above : Tree → Tree → Type 0) (c : Clause) where
+  -- what is made, and limited, is the answer of a row that makes it
+  pub made_answered :
+      (children : List Made) (refs : List (ℕ × Clause)) (made : Children) (answer : Result Children StepError) →
+      Pairwise (IsChild above c) children made.clauses → Pairwise (IsReference above c) refs made.refs →
+      IsLimited made answer → Answered above c [] (makes children refs) answer
+  made_answered children refs made (Ok m) p q l = (made, p, q, l)
+  made_answered children refs made (Err (because w)) p q l = (made, p, q, l)
+  made_answered children refs made (Err out_of_memory) p q l = tt
+
+  -- nothing is made
+  pub nothing_made : (made : Children) → made.clauses ≡ [] → made.refs ≡ [] → Says above c [] (makes [] []) (Ok made)
+  nothing_made made p q = (
+    made,
+    subst (λ (xs : List Child). Pairwise (IsChild above c) [] xs) (sym p) tt,
+    subst (λ (xs : List Reference). Pairwise (IsReference above c) [] xs) (sym q) tt,
+    inl (subst (λ (xs : List Child). AreWithin [] xs) (sym p) (tt, omega arith), refl),
+  )
+
+  -- one child more with the relation that the row gives it
+  pub child_more :
+      (relation : Relation) (ds : List Clause) (i : ℕ) (d : Clause) → i < length ds → d ≡ get_or ds i d →
+      (made news : List Child) (new : Child) → Pairwise (IsChild above c) (map (child relation) (take i ds)) made →
+      new.clause ≡ tidied d → new.relation ≡ relation → news ≡ made ++ new ∷ [] →
+      Pairwise (IsChild above c) (map (child relation) (take (i + 1) ds)) news
+  child_more relation ds i d lt is made news new p t r n =
+      let more : map (child relation) (take (i + 1) ds) ≡ map (child relation) (take i ds) ++ child relation d ∷ [] =
+      ap (λ xs. map (child relation) xs) (taken_next ds i d lt is) ∙ map-append (child relation) (take i ds) (d ∷ []) in
+      subst (λ ms. Pairwise (IsChild above c) ms news) (sym more) (subst (λ (xs : List Child). Pairwise (IsChild above c) (map (child relation) (take i ds) ++ child relation d ∷ []) xs) (sym n) (pairs_more (IsChild above c) (map (child relation) (take i ds)) made (child relation d) new p (t, r)))
+
+  pub children_end :
+      (relation : Relation) (ds : List Clause) (i : ℕ) (made news : List Child) → length ds ≤ i →
+      Pairwise (IsChild above c) (map (child relation) (take i ds)) made → news ≡ made →
+      Pairwise (IsChild above c) (map (child relation) ds) news
+  children_end relation ds i made news all p n =
+      subst (λ (xs : List Child). Pairwise (IsChild above c) (map (child relation) ds) xs) (sym n) (subst (λ es. Pairwise (IsChild above c) (map (child relation) es) made) (take_all i ds all) p)
+
+  pub nothing_referred : (made : List Reference) → made ≡ [] → Pairwise (IsReference above c) [] made
+  nothing_referred made e = subst (λ (xs : List Reference). Pairwise (IsReference above c) [] xs) (sym e) tt

@@ -1,0 +1,81 @@
+-- The instance of a clause that a step refers to: what the rows say of it.
+use Rattle.std.proofs.Common.{◌≡◌, ◌↔◌, ℕ, List, [], Option, Some, Bool, true, false, IsTrue, inl, inr, refl, sym, ◌∙◌, subst, map}
+use Rattle.term_core.specs.Tree.{Tree, trees_of}
+use Rattle.term_core.specs.declared.ids.SortId.{SortId}
+use Rattle.spec_core.specs.Sorts.{SortedAll}
+use Rattle.spec_core.specs.declared.records.Spec.{Spec}
+use Rattle.clause_core.specs.declared.clauses.Clause.{Clause}
+use Rattle.clause_core.specs.declared.answers.Why.TheVariants.{DoesNotFit}
+use Rattle.clause_core.specs.ClauseInstances.{clause_instance}
+use Rattle.clause_core.specs.Limits.{IsWithin}
+use Rattle.clause_core.specs.Referred.{AreTermsFor, instance_here, with_instance}
+use Rattle.clause_core.specs.Rows.{Made, Row, needs, makes}
+use Rattle.clause_core.specs.Subsuming.{Subsumes, subsumed_by}
+use Rattle.inference_rules.specs.declared.nodes.StepError.{StepError}
+use Rattle.inference_rules.specs.declared.nodes.StepError.TheVariants.{Why as because, OutOfMemory as out_of_memory}
+use Rattle.inference_rules.specs.Conditions.{Refuses, RefusesWith, Makes}
+
+module _ (spec : Spec) (c d : Clause) (terms : List Tree) where
+  -- what is found of the terms, their sorts and the instance by them
+  pub sorted_here : (ctx sorts : List SortId) → ctx ≡ c.ctx → sorts ≡ d.ctx → SortedAll spec.sig ctx (trees_of terms) sorts → AreTermsFor spec c d terms
+  sorted_here ctx sorts p q s =
+      subst (λ (z : List SortId). SortedAll spec.sig z (trees_of terms) d.ctx) p (subst (λ (z : List SortId). SortedAll spec.sig ctx (trees_of terms) z) q s)
+
+  pub here_sorted : (ctx sorts : List SortId) → ctx ≡ c.ctx → sorts ≡ d.ctx → AreTermsFor spec c d terms → SortedAll spec.sig ctx (trees_of terms) sorts
+  here_sorted ctx sorts p q s =
+      subst (λ (z : List SortId). SortedAll spec.sig z (trees_of terms) sorts) (sym p) (subst (λ (z : List SortId). SortedAll spec.sig c.ctx (trees_of terms) z) (sym q) s)
+
+  pub past_limits :
+      (entries : List (Option Tree)) → entries ≡ map (λ (t : Tree). Some t) terms → (ok : Bool) → ok ≡ false →
+      ((ctx : List SortId) → IsTrue ok ↔ IsWithin (clause_instance entries ctx d)) → IsWithin (instance_here spec c d terms) → ⊥
+  past_limits entries e ok wrong h w =
+      let old : IsWithin (clause_instance entries c.ctx d) = subst (λ (z : List (Option Tree)). IsWithin (clause_instance z c.ctx d)) (sym e) w in
+      let q : ok ≡ true = (h c.ctx).1 old in
+      let r : false ≡ true = sym wrong ∙ q in
+      cc
+
+  pub made_here :
+      (entries : List (Option Tree)) → entries ≡ map (λ (t : Tree). Some t) terms → (ctx : List SortId) → ctx ≡ c.ctx → (ok : Bool) → ok ≡ true →
+      ((ctx : List SortId) → IsTrue ok ↔ IsWithin (clause_instance entries ctx d)) → (x : Clause) → x ≡ clause_instance entries ctx d →
+      IsWithin x × (x ≡ instance_here spec c d terms)
+  made_here entries e ctx p ok right h x is =
+      (subst IsWithin (sym is) ((h ctx).0 right), is ∙ (λ i. clause_instance (e i) (p i) d))
+
+  -- where there is no instance, no row that begins with it goes on
+  pub no_instance :
+      (rest : Clause → Row) (error : StepError) → RefusesWith (with_instance spec c d terms (λ x. makes [] [])) error →
+      RefusesWith (with_instance spec c d terms rest) error
+  no_instance rest (because why) (inl (s, inl (w, n))) = absurd n
+  no_instance rest (because why) (inl (s, inr n)) = inl (s, inr n)
+  no_instance rest (because why) (inr n) = inr n
+  no_instance rest out_of_memory r = tt
+
+  module _ (x : Clause) (sorted : AreTermsFor spec c d terms) (within : IsWithin x) (is : x ≡ instance_here spec c d terms) where
+    instance_within : IsWithin (instance_here spec c d terms)
+    instance_within = subst IsWithin is within
+
+    -- where there is one, the row goes on with it
+    pub refused_at :
+        (rest : Clause → Row) (error : StepError) → RefusesWith (rest x) error → RefusesWith (with_instance spec c d terms rest) error
+    refused_at rest (because why) r = inl (sorted, inl (instance_within, subst (λ z. Refuses (rest z) why) is r))
+    refused_at rest out_of_memory r = tt
+
+    pub made_at :
+        (rest : Clause → Row) (children : List Made) (refs : List (ℕ × Clause)) → Makes (rest x) children refs →
+        Makes (with_instance spec c d terms rest) children refs
+    made_at rest children refs m = (sorted, (instance_within, subst (λ z. Makes (rest z) children refs) is m))
+
+  pub not_subsumed :
+      (refs : Clause → List (ℕ × Clause)) (x : Clause) → AreTermsFor spec c d terms → IsWithin x → x ≡ instance_here spec c d terms →
+      (Subsumes c x → ⊥) → Refuses (subsumed_by spec c d terms refs) DoesNotFit
+  not_subsumed refs x s w is n = refused_at x s w is (λ z. needs (Subsumes c z) DoesNotFit (λ subsumes. makes [] (refs z))) (because DoesNotFit) (inr (n, refl))
+
+  pub subsumed :
+      (refs : Clause → List (ℕ × Clause)) (x : Clause) → AreTermsFor spec c d terms → IsWithin x → x ≡ instance_here spec c d terms →
+      Subsumes c x → Makes (subsumed_by spec c d terms refs) [] (refs x)
+  subsumed refs x s w is h = made_at x s w is (λ z. needs (Subsumes c z) DoesNotFit (λ subsumes. makes [] (refs z))) [] (refs x) (h, (refl, refl))
+
+  pub no_instance_subsumes :
+      (refs : Clause → List (ℕ × Clause)) (error : StepError) → RefusesWith (with_instance spec c d terms (λ x. makes [] [])) error →
+      RefusesWith (subsumed_by spec c d terms refs) error
+  no_instance_subsumes refs error r = no_instance (λ z. needs (Subsumes c z) DoesNotFit (λ subsumes. makes [] (refs z))) error r

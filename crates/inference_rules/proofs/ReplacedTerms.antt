@@ -1,0 +1,79 @@
+-- A term at a place that is exchanged by an equation: what the rows say of it.
+use Rattle.std.proofs.Common.{◌≡◌, ℕ, ◌≤◌, length, arith, List, [], ◌∷◌, Bool, not, inl, inr, refl, ap, sym, ◌∙◌, subst}
+use Rattle.term_core.specs.Tree.{Tree, tree_size}
+use Rattle.spec_core.specs.declared.records.Equation.{Equation}
+use Rattle.spec_core.specs.declared.records.Spec.{Spec}
+use Rattle.clause_core.specs.declared.clauses.Clause.{Clause}
+use Rattle.clause_core.specs.declared.steps.Place.{Place}
+use Rattle.clause_core.specs.declared.answers.Why.TheVariants.{DoesNotFit, NoSuchPlace}
+use Rattle.clause_core.specs.Comparing.{SidesAreTestable}
+use Rattle.clause_core.specs.Limits.{IsWithin}
+use Rattle.clause_core.specs.NumberedEquations.{EquationAt}
+use Rattle.clause_core.specs.Places.{TermAt, side, holding}
+use Rattle.clause_core.specs.Referred.{PremisesAreThere}
+use Rattle.clause_core.specs.Replacing.{Rewrites, context_row, replaced_by}
+use Rattle.clause_core.specs.Rows.{compared_child}
+use Rattle.inference_rules.specs.Conditions.{Refuses, Makes}
+use Rattle.inference_rules.proofs.TestableSides.{holding_testable, premise_side, conclusion_side}
+
+module _ (c : Clause) (place : Place) (left : Bool) (at : TermAt c place) (w : IsWithin c) (e : Equation) (new : Tree) (other : new ≡ side (not left) e) (d : Clause) (held : d ≡ holding at new) where
+  -- the other side of an equation of a clause within the limits makes a clause that can be compared
+  held_testable : tree_size (side (not left) e) ≤ 4000 → SidesAreTestable d
+  held_testable small =
+      subst SidesAreTestable (sym held) (holding_testable c place at new w (subst (λ z. tree_size z ≤ 4000) (sym other) small))
+
+  pub context_testable : (number : ℕ) (own : EquationAt c.premises number) → own.equation ≡ e → SidesAreTestable d
+  context_testable number own is =
+      held_testable (subst (λ z. tree_size (side (not left) z) ≤ 4000) is (premise_side c number own (not left) w))
+
+  pub replaced_testable : (x : Clause) (t : Tree) (r : Rewrites c x t left) → r.equation ≡ e → IsWithin x → SidesAreTestable d
+  replaced_testable x t r is v =
+      held_testable (subst (λ z. tree_size (side (not left) z) ≤ 4000) is (conclusion_side x r.equation (not left) r.alone v))
+
+module _ (spec : Spec) (c : Clause) (place : Place) (left : Bool) where
+  -- `context`: the term at the place and the premise are t and e
+  module _ (number : ℕ) (at : TermAt c place) (own : EquationAt c.premises number) (t : Tree) (e : Equation) (term : at.term ≡ t) (is : own.equation ≡ e) where
+    pub not_context : (side left e ≡ t → ⊥) → Refuses (context_row spec c place number left) DoesNotFit
+    not_context n = inl ((at, own), inr ((λ q. n (ap (λ z. side left z) (sym is) ∙ q ∙ term)), refl))
+
+    pub context_made :
+        side left e ≡ t → (new : Tree) → new ≡ side (not left) e → (d : Clause) → d ≡ holding at new →
+        Makes (context_row spec c place number left) (compared_child d ∷ []) []
+    context_made q new other d held =
+        let same : side left own.equation ≡ at.term = ap (λ z. side left z) is ∙ q ∙ sym term in
+        let child : holding at (side (not left) own.equation) ≡ d = ap (λ z. holding at z) (ap (λ z. side (not left) z) is ∙ sym other) ∙ sym held in
+        ((at, own), (same, ((λ i. compared_child (child i) ∷ []), refl)))
+
+  -- `hyp` and `lemma`: x is the instance
+  module _ (x : Clause) (refs : List (ℕ × Clause)) where
+    pub no_place : (TermAt c place → ⊥) → Refuses (replaced_by spec c x place left refs) NoSuchPlace
+    no_place n = inr (n, refl)
+
+    module _ (at : TermAt c place) (t : Tree) (term : at.term ≡ t) where
+      pub not_rewritten : (Rewrites c x t left → ⊥) → Refuses (replaced_by spec c x place left refs) DoesNotFit
+      not_rewritten n = inl (at, inr ((λ r. n (record { equation = r.equation; alone = r.alone; premises = r.premises; is = r.is ∙ term })), refl))
+
+      module _ (r : Rewrites c x t left) (e : Equation) (is : r.equation ≡ e) (new : Tree) (other : new ≡ side (not left) e) (d : Clause) (held : d ≡ holding at new) where
+        pub replaced : Makes (replaced_by spec c x place left refs) (compared_child d ∷ []) refs
+        replaced =
+            let child : holding at (side (not left) r.equation) ≡ d = ap (λ z. holding at z) (ap (λ z. side (not left) z) is ∙ sym other) ∙ sym held in
+            (at, (record { equation = r.equation; alone = r.alone; premises = r.premises; is = r.is ∙ sym term }, ((λ i. compared_child (child i) ∷ []), refl)))
+
+pub no_items : {X : Type 0} (xs : List X) → length xs ≡ 0 → xs ≡ []
+no_items [] e = refl
+no_items (x ∷ xs) e = absurd (omega arith)
+
+-- the one conclusion of a clause, where it rewrites
+pub no_conclusion : (c x : Clause) (t : Tree) (left : Bool) → x.conclusions ≡ [] → Rewrites c x t left → ⊥
+no_conclusion c x t left none r = let q : [] ≡ r.equation ∷ [] = sym none ∙ r.alone in cc
+
+module _ (c x : Clause) (t : Tree) (left : Bool) (e : Equation) (es : List Equation) (are : x.conclusions ≡ e ∷ es) where
+  pub rewrites : es ≡ [] → side left e ≡ t → PremisesAreThere c x → (r : Rewrites c x t left) × (r.equation ≡ e)
+  rewrites none is there = (record { equation = e; alone = are ∙ ap (λ ds. e ∷ ds) none; premises = there; is = is }, refl)
+
+  pub rewrites_not : (es ≡ [] → side left e ≡ t → PremisesAreThere c x → ⊥) → Rewrites c x t left → ⊥
+  rewrites_not h r =
+      let q : e ∷ es ≡ r.equation ∷ [] = sym are ∙ r.alone in
+      let same : e ≡ r.equation = cc in
+      let none : es ≡ [] = cc in
+      h none (ap (λ z. side left z) same ∙ r.is) r.premises

@@ -1,0 +1,154 @@
+ghost use Rattle.std.specs.Prelude.{◌≡◌, ◌↔◌, ℕ, List, Ok, [], IfOk, IsTrue, length, map};
+ghost use Rattle.std.specs.List.{AllByRecursion};
+ghost use Rattle.term_core.specs.Tree.{Tree};
+ghost use Rattle.clause_core.specs.declared.clauses.Clause.{Clause as ClauseOf};
+ghost use Rattle.clause_core.specs.declared.answers.Child.{Child as ChildOf};
+ghost use Rattle.clause_core.specs.Limits.{IsWithin};
+ghost use Rattle.clause_core.specs.Comparing.{SidesAreTestable};
+ghost use Rattle.clause_core.specs.Rows.{child, compared_child, makes};
+ghost use Rattle.clause_core.specs.Says.{Pairwise, IsChild, IsReference, Says};
+ghost use Rattle.inference_rules.specs.Answers.{Answered, AnsweredAlone, IsLimited};
+ghost use Rattle.inference_rules.specs.Counting.{IsCounted};
+ghost use Rattle.inference_rules.specs.Nodes.{children_with};
+
+use crate::nodes::StepError;
+use clause_core::{Child, Children, Clause, Reference, Relation, Why, compare, tidy, within};
+use path_order::TermOrder;
+use std::alloc::Global;
+use term_core::{OutOfMemory, Seq};
+
+/// The most nodes of a block.
+const MOST_NODES: usize = 10_000;
+
+/// What closes a node: neither children nor references.
+pub(crate) fn closed(alloc: Global) -> Children
+    ensures { (c : ClauseOf) → Says (λ t s. ⊥) c [] (makes [] []) (Ok result) }
+{
+    Children {
+        clauses: Seq::new(alloc),
+        refs: Seq::new(alloc),
+    }
+}
+
+/// What is made of these clauses, with one relation of the node to each of them.
+pub(crate) fn related(
+    alloc: Global,
+    relation: Relation,
+    clauses: &[Clause],
+) -> Result<Children, StepError>
+    ensures { (c : ClauseOf) →
+        AnsweredAlone c (makes (map (child relation) clauses.now) []) result }
+{
+    limited(tidied_all(alloc, relation, clauses)?, Seq::new(alloc))
+}
+
+/// The clauses, each tidied and with this relation.
+fn tidied_all(
+    alloc: Global,
+    relation: Relation,
+    clauses: &[Clause],
+) -> Result<Seq<Child>, OutOfMemory>
+    ensures { IfOk result (λ made. (c : ClauseOf) →
+        Pairwise (IsChild (λ t s. ⊥) c) (map (child relation) clauses.now) made) }
+{
+    let mut made = Vec::with_capacity(alloc, clauses.len())?;
+    for clause in clauses {
+        made.push(Child {
+            clause: tidy(alloc, clause)?,
+            relation,
+        })?;
+    }
+    Ok(Seq::from_vec(made))
+}
+
+/// These clauses as children, with one relation of the node to each of them. They are tidied.
+pub(crate) fn with_relation(
+    alloc: Global,
+    relation: Relation,
+    clauses: Vec<Clause>,
+) -> Result<Children, OutOfMemory>
+    ensures { IfOk result (λ made. made ≡ children_with relation clauses.items) }
+{
+    let mut made = Vec::with_capacity(alloc, clauses.len())?;
+    for clause in clauses {
+        made.push(Child { clause, relation })?;
+    }
+    Ok(Children {
+        clauses: Seq::from_vec(made),
+        refs: Seq::new(alloc),
+    })
+}
+
+/// A child, tidied, that is compared with the node's clause as it is before that.
+pub(crate) fn compared<O: TermOrder>(
+    alloc: Global,
+    order: &O,
+    clause: &Clause,
+    other: &Clause,
+) -> Result<Child, OutOfMemory>
+    requires node { SidesAreTestable clause.now }
+    requires child { SidesAreTestable other.now }
+    ensures { IfOk result (λ made.
+        IsChild (O.above order.now) clause.now (compared_child other.now) made) }
+{
+    Ok(Child {
+        clause: tidy(alloc, other)?,
+        relation: compare(alloc, order, clause, other)?,
+    })
+}
+
+/// A reference to the node of this number, with whose instance the node's clause is compared.
+pub(crate) fn reference<O: TermOrder>(
+    alloc: Global,
+    order: &O,
+    clause: &Clause,
+    node: u32,
+    instance: &Clause,
+) -> Result<Reference, OutOfMemory>
+    requires node { SidesAreTestable clause.now }
+    requires instance { SidesAreTestable instance.now }
+    ensures { IfOk result (λ made.
+        IsReference (O.above order.now) clause.now (node, instance.now) made) }
+{
+    Ok(Reference {
+        node,
+        relation: compare(alloc, order, clause, instance)?,
+    })
+}
+
+/// The children and references, where the children are within the limits. No other nodes are
+/// counted.
+pub(crate) fn limited(clauses: Seq<Child>, refs: Seq<Reference>) -> Result<Children, StepError>
+    ensures { IsLimited (record { clauses = clauses; refs = refs }) result }
+{
+    if clauses.len() > MOST_NODES || !are_within(clauses.as_slice()) {
+        return Err(StepError::Why(Why::Limit));
+    }
+    Ok(Children { clauses, refs })
+}
+
+/// Whether each child is within the limits of a clause in a proof.
+fn are_within(children: &[Child]) -> bool
+    ensures { IsTrue result ↔ AllByRecursion (λ (d : ChildOf). IsWithin d.clause) children.now }
+{
+    for child in children {
+        if !within(&child.clause) {
+            return false;
+        }
+    }
+    true
+}
+
+/// The answer of a step where so many nodes stand before the children that it makes.
+pub(crate) fn counted(
+    count: usize,
+    answer: Result<Children, StepError>,
+) -> Result<Children, StepError>
+    ensures { IsCounted count answer result }
+{
+    let made = answer?;
+    if count > MOST_NODES || made.clauses.len() > MOST_NODES - count {
+        return Err(StepError::Why(Why::Limit));
+    }
+    Ok(made)
+}

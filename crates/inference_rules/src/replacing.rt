@@ -1,0 +1,171 @@
+ghost use Rattle.std.specs.Prelude.{◌≡◌, ℕ, List, [], ◌∷◌, IfOk, MatchOption, MatchResult, Contains};
+ghost use Rattle.spec_core.specs.declared.records.Spec.{Spec as SpecOf};
+ghost use Rattle.clause_core.specs.declared.clauses.Clause.{Clause as ClauseOf};
+ghost use Rattle.clause_core.specs.Comparing.{SidesAreTestable};
+ghost use Rattle.clause_core.specs.Limits.{IsWithin};
+ghost use Rattle.clause_core.specs.Replacing.{Rewrites, context_row, hyp_row, lemma_row, rewritten_by};
+ghost use Rattle.clause_core.specs.Rows.{compared_child};
+ghost use Rattle.clause_core.specs.Places.{side as side_of};
+ghost use Rattle.inference_rules.specs.Answers.{Answered, clauses_of};
+ghost use Rattle.inference_rules.specs.Conditions.{Makes, RefusesWith};
+
+use crate::making::{compared, limited, reference};
+use crate::nodes::{Node, StepError};
+use crate::referring::{instance_here, node_at, premises_are_there, usable_goal};
+use clause_core::{Children, Clause, Place, Why, of_goal};
+use path_order::TermOrder;
+use spec_core::{Equation, Spec};
+use std::alloc::Global;
+use term_core::{Name, Seq, Term, front};
+
+/// How an equation that is referred to rewrites: by the instance with these terms for its
+/// variables, the term at this place, from left to right where `left` is true.
+#[derive(Drop)]
+pub(crate) struct Rewriting<'a> {
+    pub(crate) terms: &'a [Term],
+    pub(crate) place: &'a Place,
+    pub(crate) left: bool,
+}
+
+/// `context`: the term at the place is a side of the premise and becomes the other side. The
+/// premise is used from left to right where `left` is true.
+pub(crate) fn context<O: TermOrder>(
+    alloc: Global,
+    order: &O,
+    here: &Clause,
+    place: &Place,
+    number: u16,
+    left: bool,
+) -> Result<Children, StepError>
+    requires { IsWithin here.now }
+    ensures { (spec : SpecOf) → Answered (O.above order.now) here.now []
+        (context_row spec here.now place.now number left) result }
+{
+    let (Some(term), Some(premise)) = (here.term_at(place), here.equation(false, number)) else {
+        return Err(StepError::Why(Why::NoSuchPlace));
+    };
+    if !side(premise, left).same(term) {
+        return Err(StepError::Why(Why::DoesNotFit));
+    }
+    let child = here.holding(alloc, place, side(premise, !left))?;
+    let mut clauses = Seq::new(alloc);
+    clauses.push(compared(alloc, order, here, &child)?)?;
+    limited(clauses, Seq::new(alloc))
+}
+
+/// `hyp`: the term at the place is a side of the one conclusion of an instance of the node of this
+/// number and becomes the other side.
+pub(crate) fn hyp<O: TermOrder>(
+    alloc: Global,
+    spec: &Spec,
+    order: &O,
+    nodes: &[Node],
+    here: &Clause,
+    number: u32,
+    how: &Rewriting,
+) -> Result<Children, StepError>
+    requires { IsWithin here.now }
+    ensures { Answered (O.above order.now) here.now []
+        (hyp_row spec.now here.now (clauses_of nodes.now) number
+        how.now.terms.now how.now.place.now how.now.left) result }
+{
+    let Some(node) = node_at(nodes, number) else {
+        return Err(StepError::Why(Why::NoSuchNode));
+    };
+    let made = rewrite(alloc, spec, here, &node.clause, how)?;
+    let mut refs = Seq::new(alloc);
+    refs.push(reference(alloc, order, here, number, &made.instance)?)?;
+    let mut clauses = Seq::new(alloc);
+    clauses.push(compared(alloc, order, here, &made.child)?)?;
+    limited(clauses, refs)
+}
+
+/// `lemma`: the same with an instance of the goal of this name, of those that may be used.
+pub(crate) fn lemma<O: TermOrder>(
+    alloc: Global,
+    spec: &Spec,
+    order: &O,
+    proved: &[u32],
+    here: &Clause,
+    name: &Name,
+    how: &Rewriting,
+) -> Result<Children, StepError>
+    requires { IsWithin here.now }
+    ensures { Answered (O.above order.now) here.now []
+        (lemma_row spec.now here.now (Contains proved.now) name.now
+        how.now.terms.now how.now.place.now how.now.left) result }
+{
+    let Some(goal) = usable_goal(spec, proved, name) else {
+        return Err(StepError::Why(Why::NotProvedBefore));
+    };
+    let lemma = of_goal(alloc, goal)?;
+    let made = rewrite(alloc, spec, here, &lemma, how)?;
+    let mut clauses = Seq::new(alloc);
+    clauses.push(compared(alloc, order, here, &made.child)?)?;
+    limited(clauses, Seq::new(alloc))
+}
+
+/// An instance of a clause, and what its conclusion makes of the clause here.
+#[derive(Drop)]
+struct Rewritten {
+    instance: Clause,
+    child: Clause,
+}
+
+/// The clause here with the other side of an instance's conclusion at the place.
+fn rewrite(
+    alloc: Global,
+    spec: &Spec,
+    here: &Clause,
+    clause: &Clause,
+    how: &Rewriting,
+) -> Result<Rewritten, StepError>
+    requires { IsWithin here.now }
+    ensures within { IfOk result (λ made. IsWithin made.instance × SidesAreTestable made.child) }
+    ensures row { (refs : ClauseOf → List (ℕ × ClauseOf)) → MatchResult result
+        (λ made. Makes (rewritten_by spec.now here.now clause.now
+        how.now.terms.now how.now.place.now how.now.left refs)
+        (compared_child made.child ∷ []) (refs made.instance))
+        (λ error. RefusesWith (rewritten_by spec.now here.now clause.now
+        how.now.terms.now how.now.place.now how.now.left refs) error) }
+{
+    let instance = instance_here(alloc, spec, here, clause, how.terms)?;
+    let Some(term) = here.term_at(how.place) else {
+        return Err(StepError::Why(Why::NoSuchPlace));
+    };
+    let Some(equation) = usable_conclusion(here, &instance, term, how.left) else {
+        return Err(StepError::Why(Why::DoesNotFit));
+    };
+    let child = here.holding(alloc, how.place, side(equation, !how.left))?;
+    Ok(Rewritten { instance, child })
+}
+
+/// The one conclusion of the instance, if this side of it is the term and the premises of the
+/// instance are there.
+fn usable_conclusion<'a>(
+    here: &Clause,
+    instance: &'a Clause,
+    term: &Term,
+    left: bool,
+) -> Option<&'a Equation>
+    ensures { MatchOption result (Rewrites here.now instance.now term.now left → ⊥)
+        (λ e. (rewrites : Rewrites here.now instance.now term.now left)
+        × (rewrites.equation ≡ e.now)) }
+{
+    let (equation, others) = front(instance.conclusions.as_slice())?;
+    if others.is_empty() && side(equation, left).same(term) && premises_are_there(here, instance) {
+        return Some(equation);
+    }
+    None
+}
+
+/// The left side where true, the right one where false.
+fn side(equation: &Equation, left: bool) -> &Term
+    ensures { result.now ≡ side_of left equation.now }
+{
+    if left {
+        &equation.left
+    } else {
+        &equation.right
+    }
+}

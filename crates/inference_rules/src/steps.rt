@@ -1,0 +1,122 @@
+ghost use Rattle.std.specs.Prelude.{◌≡◌, ◌<◌, ℕ, List, [], Some, IfOk, Contains, length, slice_get};
+ghost use Rattle.term_core.specs.Tree.{Tree};
+ghost use Rattle.spec_core.specs.WellSorted.{IsWellSorted};
+ghost use Rattle.clause_core.specs.declared.clauses.Clause.{Clause as ClauseOf};
+ghost use Rattle.clause_core.specs.Admitted.{IsAdmitted};
+ghost use Rattle.clause_core.specs.Failing.{ClauseFails};
+ghost use Rattle.clause_core.specs.Steps.{row_of};
+ghost use Rattle.descent.specs.SortedChildren.{IsNode};
+ghost use Rattle.descent.specs.Descent.{AreTrue, GoesOn};
+ghost use Rattle.inference_rules.specs.Answers.{Answered, clauses_of};
+ghost use Rattle.inference_rules.specs.Nodes.{AreNodes, clauses_made};
+
+use crate::closing::{absurd_premise, match_premise, trivial};
+use crate::covering::cover_variable;
+use crate::generalizing::generalize;
+use crate::making::counted;
+use crate::nodes::{Node, StepError};
+use crate::replacing::{Rewriting, context, hyp, lemma};
+use crate::rewriting::{rewrite, rewrite_by_cases};
+use crate::simplifying::{clash, decompose, drop_equation};
+use crate::solving::solve;
+use crate::subsuming::{by_lemma, subsume};
+use clause_core::{Children, Clause, Step};
+use descent::{children_are_sorted, steps_descend};
+use path_order::TermOrder;
+use spec_core::Spec;
+use std::alloc::Global;
+
+/// What the step makes at the node of this number, which counts from 0, by the table of steps. The
+/// goals of the numbers `proved` may be used as lemmas. `Why` comes exactly where the step isn't
+/// defined, with the first condition of its row that isn't met.
+///
+/// Each child can be a node. Where the specification is admitted and the goals of `proved` are
+/// true, a failing instance of the node's clause goes on to a child or to a node that is referred
+/// to, and weighs there what the relation says.
+pub fn children<O: TermOrder>(
+    alloc: Global,
+    spec: &Spec,
+    order: &O,
+    proved: &[u32],
+    nodes: &[Node],
+    node: u32,
+    step: &Step,
+) -> Result<Children, StepError>
+    requires fine { IsWellSorted spec.now }
+    requires in_range { node < length nodes.now }
+    requires nodes { AreNodes spec.now.sig (clauses_of nodes.now) }
+    ensures answered { (c : ClauseOf) → slice_get (clauses_of nodes.now) node ≡ Some c →
+        Answered (O.above order.now) c (clauses_of nodes.now)
+        (row_of spec.now (Contains proved.now) (clauses_of nodes.now) c step.now) result }
+    ensures nodes { IfOk result (λ made. AreNodes spec.now.sig (clauses_made made)) }
+    ensures descends { IfOk result (λ made. (c : ClauseOf) (values : List Tree) →
+        slice_get (clauses_of nodes.now) node ≡ Some c →
+        IsAdmitted (O.above order.now) spec.now → AreTrue spec.now proved.now →
+        ClauseFails spec.now c values →
+        GoesOn (O.rank order.now) spec.now (clauses_of nodes.now) c values made) }
+{
+    children_are_sorted(order);
+    steps_descend(order);
+    let here = &nodes[node as usize].clause;
+    counted(
+        nodes.len(),
+        taken(alloc, spec, order, proved, nodes, here, step),
+    )
+}
+
+/// What the step makes of the clause here, where no other nodes are counted.
+fn taken<O: TermOrder>(
+    alloc: Global,
+    spec: &Spec,
+    order: &O,
+    proved: &[u32],
+    nodes: &[Node],
+    here: &Clause,
+    step: &Step,
+) -> Result<Children, StepError>
+    requires fine { IsWellSorted spec.now }
+    requires here { IsNode spec.now.sig here.now }
+    ensures { Answered (O.above order.now) here.now []
+        (row_of spec.now (Contains proved.now) (clauses_of nodes.now) here.now step.now) result }
+{
+    match step {
+        Step::Trivial(conclusion) => trivial(alloc, here, *conclusion),
+        Step::Match(conclusion, premise) => match_premise(alloc, here, *conclusion, *premise),
+        Step::Absurd(premise) => absurd_premise(alloc, spec, here, *premise),
+        Step::Subsume(number, terms) => {
+            subsume(alloc, spec, order, nodes, here, *number, terms.as_slice())
+        }
+        Step::ByLemma(name, terms) => by_lemma(alloc, spec, proved, here, name, terms.as_slice()),
+        Step::Rule(place, rule) => rewrite(alloc, spec, here, place, *rule),
+        Step::Case(place, rule) => rewrite_by_cases(alloc, spec, here, place, *rule),
+        Step::Decompose(conclusion, number) => {
+            decompose(alloc, spec, here, *conclusion, *number)
+        }
+        Step::Clash(conclusion) => clash(alloc, spec, here, *conclusion),
+        Step::Drop(conclusion, number) => drop_equation(alloc, here, *conclusion, *number),
+        Step::Solve(premise) => solve(alloc, spec, here, *premise),
+        Step::Cover(variable, patterns) => {
+            cover_variable(alloc, spec, here, *variable, patterns.as_slice())
+        }
+        Step::Generalize(term) => generalize(alloc, spec, here, term),
+        Step::Context(place, premise, left) => {
+            context(alloc, order, here, place, *premise, *left)
+        }
+        Step::Hyp(number, terms, place, left) => {
+            let how = Rewriting {
+                terms: terms.as_slice(),
+                place,
+                left: *left,
+            };
+            hyp(alloc, spec, order, nodes, here, *number, &how)
+        }
+        Step::Lemma(name, terms, place, left) => {
+            let how = Rewriting {
+                terms: terms.as_slice(),
+                place,
+                left: *left,
+            };
+            lemma(alloc, spec, order, proved, here, name, &how)
+        }
+    }
+}
