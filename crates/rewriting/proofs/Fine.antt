@@ -4,21 +4,21 @@ use Rattle.std.specs.Option.{IsSome}
 use Rattle.std.specs.List.{AllByRecursion}
 use Rattle.term_core.specs.Tree.{Tree, Trees, var, app, none, some, trees_of, list_of}
 use Rattle.term_core.specs.Measure.{weight, list_weight, list_weight_is}
-use Rattle.term_core.proofs.Trees.{list_of-trees_of}
+use Rattle.term_core.proofs.Trees.{list_of-trees_of, trees_of-inj, args_eq}
 use Rattle.term_core.specs.declared.ids.SortId.{SortId}
 use Rattle.spec_core.specs.declared.records.Spec.{Spec}
 use Rattle.spec_core.specs.Sig.{Sig}
 use Rattle.spec_core.specs.Sorts.{Sorted, SortedAll}
 use Rattle.term_core.specs.Variables.{Occurs, OccursAny}
-use Rattle.spec_core.specs.WellSorted.{HasFewArguments, IsLeft}
+use Rattle.spec_core.specs.WellSorted.{IsWellSorted, HasFewArguments, IsLeft}
 use Rattle.substitutions.specs.Substitution.{entry, image, apply, apply_all}
-use Rattle.substitutions.proofs.Instances.{apply_all-trees_of}
+use Rattle.substitutions.proofs.Instances.{apply_all-trees_of, image_entry, image_none}
 use Rattle.unifier.specs.Matching.{IsMatch}
 use Rattle.rewriting.specs.NormalForms.{IsNormal}
 use Rattle.rewriting.specs.Narrow.{IsNarrow, AreNarrow}
 use Rattle.rewriting.specs.Walks.{IsFine}
 use Rattle.rewriting.specs.Openings.{HasNormalArguments}
-use Rattle.rewriting.proofs.NormalTerms.{args_normal}
+use Rattle.rewriting.proofs.NormalTerms.{args_normal, variable_normal}
 
 sorted_length : (sig : Sig) (ctx : List SortId) (ts : Trees) (ss : List SortId) → SortedAll sig ctx ts ss → length (list_of ts) ≡ length ss
 sorted_length sig ctx none [] h = refl
@@ -94,3 +94,28 @@ parts f args slice t e s n =
 pub walk_args : (f : ℕ) (args slice : List Tree) (t : Tree) (entries : List (Option Tree)) → app f (trees_of args) ≡ t → slice ≡ args → app f (trees_of (map (apply entries) slice)) ≡ apply entries t
 walk_args f args slice t entries e s =
     ap (λ ts. app f (trees_of (map (apply entries) ts))) s ∙ ap (λ us. app f us) (sym (apply_all-trees_of entries args)) ∙ ap (λ u. apply entries u) e
+
+-- the arguments of a term that is an instance of a pattern
+pub args_of_instance : (s : List (Option Tree)) (f g : ℕ) (ps slice terms items : List Tree) (pattern term : Tree) → app f (trees_of ps) ≡ pattern → slice ≡ ps → app g (trees_of terms) ≡ term → items ≡ terms → apply s pattern ≡ term → map (apply s) slice ≡ items
+args_of_instance s f g ps slice terms items pattern term e k d j is =
+    let q : app f (apply_all s (trees_of ps)) ≡ app g (trees_of terms) = ap (λ x. apply s x) e ∙ is ∙ sym d in
+    let r : trees_of (map (apply s) ps) ≡ trees_of terms = sym (apply_all-trees_of s ps) ∙ args_eq q in
+    ap (λ xs. map (apply s) xs) k ∙ trees_of-inj (map (apply s) ps) terms r ∙ sym j
+
+pub same_symbol : (s : List (Option Tree)) (f g : ℕ) (ps terms : List Tree) (pattern term : Tree) → app f (trees_of ps) ≡ pattern → app g (trees_of terms) ≡ term → apply s pattern ≡ term → g ≡ f
+same_symbol s f g ps terms pattern term e d is =
+    let q : app f (apply_all s (trees_of ps)) ≡ app g (trees_of terms) = ap (λ x. apply s x) e ∙ is ∙ sym d in
+    cc
+
+-- what stands for a variable is normal and narrow
+pub image_done : (spec : Spec) → IsWellSorted spec → (s : List (Option Tree)) → IsFine spec s → (n : ℕ) → IsNormal spec (image s n) × IsNarrow (image s n)
+image_done spec fine s h n = by (entry s n) refl
+  where
+    by : (o : Option Tree) → entry s n ≡ o → IsNormal spec (image s n) × IsNarrow (image s n)
+    by (Some t) e =
+        let k = sym (image_entry s n t e) in
+        let d = h n t e in
+        (subst (λ x. IsNormal spec x) k d.0, subst (λ x. IsNarrow x) k d.1)
+    by None e =
+        let k = sym (image_none s n e) in
+        (subst (λ x. IsNormal spec x) k (variable_normal spec fine n), subst (λ x. IsNarrow x) k tt)

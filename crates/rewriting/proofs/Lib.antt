@@ -7,6 +7,8 @@ pub mod RuleTable
 pub mod RuleIndices
 pub mod FirstRules
 pub mod Fine
+pub mod Slotting
+pub mod Matchings
 pub mod Steps
 pub mod Falls
 pub mod Searching

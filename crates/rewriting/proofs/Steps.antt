@@ -1,12 +1,12 @@
 -- How what a walk finds is put together.
-use Rattle.std.proofs.Common.{◌≡◌, ℕ, ◌+◌, suc, ◌≤◌, length, List, [], ◌∷◌, ◌++◌, map, Some, Option, refl, ap, sym, ◌∙◌, subst, arith, append_assoc, length-append, get_or, take, drop, add-one, ◌-◌}
+use Rattle.std.proofs.Common.{◌≡◌, ℕ, ◌+◌, suc, ◌≤◌, length, List, [], ◌∷◌, ◌++◌, map, Some, Option, refl, ap, sym, ◌∙◌, subst, arith, append_assoc, length-append, get_or, take, add-one, ◌-◌}
 use Rattle.std.specs.Prelude.{slice_get, IfSome}
 use Rattle.std.specs.List.{AllByRecursion}
 use Rattle.std.proofs.lemmas.Option.{get_or_from_slice_get}
 use Rattle.std.proofs.lemmas.List.{map-append, append-nil, length-map}
 use Rattle.term_core.specs.Tree.{Tree, Trees, var, app, trees_of, list_of}
 use Rattle.term_core.specs.Places.{IsAt}
-use Rattle.term_core.proofs.Items.{all_at, all_append, drop_here}
+use Rattle.term_core.proofs.Items.{all_at, all_append}
 use Rattle.spec_core.specs.declared.records.Spec.{Spec}
 use Rattle.substitutions.specs.Substitution.{apply}
 use Rattle.rewriting.specs.Uses.{Use, IsStuck}
@@ -235,11 +235,6 @@ popped place long short k n e t m =
 -- a fact that holds where there is a value
 pub if_some : {X : Type 0} (o : Option X) (x : X) (P : Type 0) → o ≡ Some x → IfSome o (λ _. P) → P
 if_some o x P e h = subst (λ p. IfSome p (λ _. P)) e h
-
--- the arguments that are left begin with the next one
-pub more_of_all : (spec : Spec) (place : List ℕ) (budget : ℕ) (entries : List (Option Tree)) (args made : List Tree) (i : ℕ) (arg : Tree) (old new : List (List ℕ × ℕ)) → slice_get args i ≡ Some arg → Advanced spec place budget (map (apply entries) args) old new made (map (apply entries) (drop i args)) → Advanced spec place budget (map (apply entries) args) old new made (apply entries arg ∷ map (apply entries) (drop (i + 1) args))
-more_of_all spec place budget entries args made i arg old new at a =
-    subst (λ rest. Advanced spec place budget (map (apply entries) args) old new made rest) (ap (λ xs. map (apply entries) xs) (drop_here args i arg at)) a
 
 -- below the root of a symbol with normal arguments all is stuck
 pub normal_before : (spec : Spec) (f : ℕ) (ts : Trees) → AllByRecursion (IsNormal spec) (list_of ts) → (p : List ℕ) (s : Tree) → Before p [] → IsAt p (app f ts) s → IsStuck spec s

@@ -3,7 +3,6 @@ use Rattle.std.specs.Prelude.{◌≡◌, ℕ, suc, ◌<◌, List, [], Option, So
 use Rattle.term_core.specs.Tree.{Tree}
 use Rattle.spec_core.specs.declared.records.Rule.{Rule}
 use Rattle.spec_core.specs.declared.records.Spec.{Spec}
-use Rattle.substitutions.specs.declared.subst.Subst.{Subst}
 use Rattle.unifier.specs.Matching.{IsMatch, HasNoMatch}
 use Rattle.rewriting.specs.Uses.{Use, IsStuck}
 
@@ -15,8 +14,8 @@ pub record Found (spec : Spec) (t : Tree) (index : ℕ) (entries : List (Option 
   pub matched : IsMatch rule.left t entries
   pub least : (m : ℕ) (v : Tree) → m < suc index → Use spec m t v → ⊥
 
-abbrev pub IsFound : Spec → Tree → Option (ℕ × Subst) → Type 0
-IsFound spec t (Some p) = Found spec t p.0 p.1.terms
+abbrev pub IsFound : Spec → Tree → Option ℕ → Type 0
+IsFound spec t (Some index) = (entries : List (Option Tree)) × Found spec t index entries
 IsFound spec t None = IsStuck spec t
 
 -- the left side of none of the rules at the first n of these indices matches the term

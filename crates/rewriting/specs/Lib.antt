@@ -8,6 +8,8 @@ pub mod Examples
 -- What only this crate's own contracts speak of.
 pub mod Narrow
 pub mod ByFunction
+pub mod Matched
+pub mod Slots
 pub mod Found
 pub mod Walks
 pub mod Openings

@@ -2,7 +2,7 @@
 use Rattle.std.specs.Prelude.{◌≡◌, ℕ, suc, ◌+◌, ◌≤◌, List, ◌++◌, map, length, Option, Some, None}
 use Rattle.term_core.specs.Tree.{Tree}
 use Rattle.spec_core.specs.declared.records.Spec.{Spec}
-use Rattle.substitutions.specs.Substitution.{entry}
+use Rattle.substitutions.specs.Substitution.{entry, apply}
 use Rattle.rewriting.specs.NormalForms.{IsNormal, Runs}
 use Rattle.rewriting.specs.Narrow.{IsNarrow}
 
@@ -13,6 +13,16 @@ below place w = (place ++ w.0, w.1)
 -- each entry is normal and narrow
 abbrev pub IsFine : Spec → List (Option Tree) → Type 0
 IsFine spec entries = (n : ℕ) (t : Tree) → entry entries n ≡ Some t → IsNormal spec t × IsNarrow t
+
+-- the term is an instance of the pattern, in which normal and narrow terms stand for the variables
+abbrev pub IsInstance : Spec → Tree → Tree → Type 0
+IsInstance spec pattern t =
+    (entries : List (Option Tree)) × IsFine spec entries × (apply entries pattern ≡ t)
+
+-- the same of terms and their patterns, by the same entries
+abbrev pub AreInstances : Spec → List Tree → List Tree → Type 0
+AreInstances spec patterns ts =
+    (entries : List (Option Tree)) × IsFine spec entries × (map (apply entries) patterns ≡ ts)
 
 -- the term has this normal form, and its uses are added at places below this one, within the budget
 pub record Normalized (spec : Spec) (place : List ℕ) (budget : ℕ) (t : Tree) (old new : List (List ℕ × ℕ)) (v : Tree) : Type 0 where

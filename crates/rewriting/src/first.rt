@@ -28,7 +28,7 @@ impl<'a> Rewriter<'a> {
                 return Ok(Some((place, number)));
             }
         }
-        let Some((index, _entries)) = self.first_rule(alloc, term)? else {
+        let Some(index) = self.first_rule(alloc, term)? else {
             return Ok(None);
         };
         Ok(Some((Vec::new(alloc), index as u32 + 1)))

@@ -8,9 +8,12 @@
 mod by_function;
 mod first;
 mod laws;
+mod matching;
 mod normal;
 mod rewriter;
+mod rewritten;
 mod rules;
+mod slots;
 mod trace;
 mod walk;
 

@@ -7,7 +7,6 @@ use crate::rewriter::Rewriter;
 use crate::trace::Trace;
 use spec_core::Spec;
 use std::alloc::Global;
-use substitutions::Subst;
 use term_core::{OutOfMemory, Seq, Term};
 
 /// The normal form of a term, or that it takes too many uses.
@@ -27,9 +26,10 @@ impl<'a> Rewriter<'a> {
     /// The normal form of the term by leftmost-innermost uses of rules without guards, of which the
     /// one of least number is used at each place. `budget` is the greatest number of uses.
     ///
-    /// Each subterm is normalized once: what stands for a variable of a rule is normal already. A
-    /// use costs by its place's length, the rule, and the terms that stand for the rule's variables,
-    /// and nothing for the rest of the term.
+    /// The term is copied once. Each subterm is normalized once: what stands for a variable of a
+    /// rule is normal already. A use costs by its place's length and the rule, and nothing for the
+    /// rest of the term. What stands for a variable is moved, and adds to the cost only where the
+    /// variable occurs more than once on a side: it is compared, or copied, there.
     ///
     /// The stack grows with the length of the place and a right side's depth alone, so with the
     /// depth of the terms on the way, and not with the number of uses.
@@ -38,9 +38,9 @@ impl<'a> Rewriter<'a> {
         requires narrow { IsNarrow term.now }
         ensures { IfOk result (IsNormalizing self.now term.now budget) }
     {
-        let none = Subst::new(alloc);
         let mut trace = Trace::new(alloc);
-        match self.walk(alloc, &none, term, budget, &mut trace)? {
+        let copied = term.copy(alloc)?;
+        match self.walk(alloc, term, copied, budget, &mut trace)? {
             Some(term) => Ok(Normal::Done {
                 term,
                 uses: Seq::from_vec(trace.uses),

@@ -2,20 +2,19 @@ ghost use Rattle.std.specs.Prelude.{IfOk};
 ghost use Rattle.spec_core.specs.WellSorted.{IsWellSorted};
 ghost use Rattle.rewriting.specs.Found.{IsFound};
 
+use crate::matching::fits;
 use crate::rewriter::Rewriter;
 use std::alloc::Global;
-use substitutions::Subst;
 use term_core::{Node, OutOfMemory, Term};
-use unifier::matches;
 
 impl<'a> Rewriter<'a> {
     /// The first rule without guards whose left side matches the term, as its index among all
-    /// rules, with its match.
+    /// rules.
     pub(crate) fn first_rule(
         &self,
         alloc: Global,
         term: &Term,
-    ) -> Result<Option<(usize, Subst)>, OutOfMemory>
+    ) -> Result<Option<usize>, OutOfMemory>
         requires fine { IsWellSorted self.now }
         ensures { IfOk result (IsFound self.now term.now) }
     {
@@ -24,8 +23,8 @@ impl<'a> Rewriter<'a> {
         };
         let rules = self.rules();
         for index in self.rules_of(*sym) {
-            if let Some(entries) = matches(alloc, &rules[*index].left, term)? {
-                return Ok(Some((*index, entries)));
+            if fits(alloc, &rules[*index].left, term)? {
+                return Ok(Some(*index));
             }
         }
         Ok(None)

@@ -3,8 +3,7 @@ use Rattle.std.specs.Global.{Vec}
 use Rattle.std.proofs.lemmas.Option.{slice_get_within}
 use Rattle.term_core.specs.Tree.{app, var, trees_of}
 use Rattle.term_core.specs.View.{tree_of}
-use Rattle.substitutions.specs.declared.subst.Subst.{Subst}
-use Rattle.rewriting.specs.Found.{Found, IsFound}
+use Rattle.rewriting.specs.Found.{IsFound}
 use Rattle.rewriting.specs.FirstUses.{IsFirstUse}
 use Rattle.rewriting.specs.NormalForms.{IsNormal}
 use Rattle.rewriting.specs.Firsts.{HasFirst}
@@ -52,18 +51,20 @@ returns-in_default-3 t c =
     let s = c.as_slice-arg-items.result.now in
     let p = parts c.in-App.field-0.0 c.in-App.args s c.args.term.now e c.as_slice-arg-items.ensures c.requires.narrow in
     let a = arguments_normal spec c.in-App.field-0.0 c.in-App.args s c.args.term.now e c.as_slice-arg-items.ensures p (λ j y l at. c.loop-index.invariant j y (omega (arith, l, c.loop-index-test.false)) at) in
-    args_stuck_normal spec c.args.term.now a (subst (λ (o : Option (ℕ × Subst)). IsFound spec c.args.term.now o) c.in_default-3.is c.in_ok-index.ensures)
+    args_stuck_normal spec c.args.term.now a (subst (λ (o : Option ℕ). IsFound spec c.args.term.now o) c.in_default-3.is c.in_ok-index.ensures)
 
 pub overflow_cast-result : goal.overflow_cast-result
 overflow_cast-result t c =
     let spec = c.args.self.now in
-    let found : Found spec c.args.term.now c.in-Some-2.index c.in-Some-2._entries.terms = subst (λ (o : Option (ℕ × Subst)). IsFound spec c.args.term.now o) c.in-Some-2.is c.in_ok-index.ensures in
+    let the_match : IsFound spec c.args.term.now (Some c.in-Some-2.index) = subst (λ (o : Option ℕ). IsFound spec c.args.term.now o) c.in-Some-2.is c.in_ok-index.ensures in
+    let found = the_match.1 in
     omega (arith, slice_get_within spec.rules c.in-Some-2.index found.rule found.listed, c.requires.fine.few_rules)
 
 pub overflow_add-result : goal.overflow_add-result
 overflow_add-result t c =
     let spec = c.args.self.now in
-    let found : Found spec c.args.term.now c.in-Some-2.index c.in-Some-2._entries.terms = subst (λ (o : Option (ℕ × Subst)). IsFound spec c.args.term.now o) c.in-Some-2.is c.in_ok-index.ensures in
+    let the_match : IsFound spec c.args.term.now (Some c.in-Some-2.index) = subst (λ (o : Option ℕ). IsFound spec c.args.term.now o) c.in-Some-2.is c.in_ok-index.ensures in
+    let found = the_match.1 in
     omega (arith, slice_get_within spec.rules c.in-Some-2.index found.rule found.listed, c.requires.fine.few_rules)
 
 pub returns : goal.returns
@@ -73,6 +74,7 @@ returns t c =
     let s = c.as_slice-arg-items.result.now in
     let p = parts c.in-App.field-0.0 c.in-App.args s c.args.term.now e c.as_slice-arg-items.ensures c.requires.narrow in
     let a = arguments_normal spec c.in-App.field-0.0 c.in-App.args s c.args.term.now e c.as_slice-arg-items.ensures p (λ j y l at. c.loop-index.invariant j y (omega (arith, l, c.loop-index-test.false)) at) in
-    let found : Found spec c.args.term.now c.in-Some-2.index c.in-Some-2._entries.terms = subst (λ (o : Option (ℕ × Subst)). IsFound spec c.args.term.now o) c.in-Some-2.is c.in_ok-index.ensures in
-    let w = root_use spec c.args.term.now c.in-Some-2.index c.in-Some-2._entries.terms a found in
-    (apply c.in-Some-2._entries.terms found.rule.right, subst (λ q. IsFirstUse spec c.args.term.now q (c.in-Some-2.index + 1) (apply c.in-Some-2._entries.terms found.rule.right)) (sym c.new.ensures.items) (subst (λ k. IsFirstUse spec c.args.term.now [] k (apply c.in-Some-2._entries.terms found.rule.right)) (sym (add-one c.in-Some-2.index)) w))
+    let the_match : IsFound spec c.args.term.now (Some c.in-Some-2.index) = subst (λ (o : Option ℕ). IsFound spec c.args.term.now o) c.in-Some-2.is c.in_ok-index.ensures in
+    let found = the_match.1 in
+    let w = root_use spec c.args.term.now c.in-Some-2.index the_match.0 a found in
+    (apply the_match.0 found.rule.right, subst (λ q. IsFirstUse spec c.args.term.now q (c.in-Some-2.index + 1) (apply the_match.0 found.rule.right)) (sym c.new.ensures.items) (subst (λ k. IsFirstUse spec c.args.term.now [] k (apply the_match.0 found.rule.right)) (sym (add-one c.in-Some-2.index)) w))

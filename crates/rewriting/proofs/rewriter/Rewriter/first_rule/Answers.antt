@@ -1,11 +1,11 @@
-use Rattle.std.proofs.Common.{◌≡◌, ◌<◌, [], length, get_or, Option, ap, sym, ◌∙◌, subst, refl, arith}
-use Rattle.std.specs.Prelude.{IfSome}
-use Rattle.std.specs.Option.{IfNone}
+use Rattle.std.proofs.Common.{◌≡◌, ◌<◌, ℕ, true, [], length, get_or, ap, sym, ◌∙◌, subst, refl, arith}
 use Rattle.std.proofs.lemmas.Option.{slice_get-get_or}
 use Rattle.term_core.specs.Tree.{var, app, trees_of}
 use Rattle.term_core.specs.View.{tree_of}
 use Rattle.spec_core.specs.declared.records.Rule.{Rule}
-use Rattle.substitutions.specs.declared.subst.Subst.{Subst}
+use Rattle.term_core.specs.Variables.{Numbered}
+use Rattle.spec_core.specs.WellSorted.{sorts_of}
+use Rattle.rewriting.specs.Matched.{Fits}
 use Rattle.unifier.specs.Matching.{IsMatch, HasNoMatch}
 use Rattle.rewriting.specs.Uses.{IsStuck}
 use Rattle.rewriting.specs.Found.{Found, NoneBefore}
@@ -35,8 +35,20 @@ offset_bounds-rules-index c =
     let w = index_within spec c.requires.fine c.in-App.sym.0 (trees_of c.in-App.field-1) indices c.rules_of-index-items.ensures c.loop-index.index-index _ (slice_get-get_or indices c.loop-index.index-index 0 c.loop-index-test.true) in
     omega (arith, w, c.requires.fine.few_rules)
 
-pub returns-in-Some : goal.returns-in-Some
-returns-in-Some c =
+pub fits-requires : goal.fits-requires
+fits-requires c =
+    let spec = c.args.self.now in
+    let indices = c.rules_of-index-items.result.now in
+    let i = c.loop-index.index-index in
+    let rule = c.index-rules-index.result in
+    let at = slice_get-get_or indices i 0 c.loop-index-test.true in
+    let w = index_within spec c.requires.fine c.in-App.sym.0 (trees_of c.in-App.field-1) indices c.rules_of-index-items.ensures i _ at in
+    let listed = rule_at spec.rules c.rules-rules.result.now (get_or indices i 0) rule c.rules-rules.ensures w c.index-rules-index.is in
+    let sorted = c.requires.fine.rules (get_or indices i 0) rule listed in
+    subst (λ (x : Rule). (count : ℕ) × Numbered 0 x.left count) c.index-rules-index.is (length (sorts_of rule.vars), sorted.numbered)
+
+pub returns-then-branch : goal.returns-then-branch
+returns-then-branch c =
     let spec = c.args.self.now in
     let indices = c.rules_of-index-items.result.now in
     let i = c.loop-index.index-index in
@@ -46,8 +58,8 @@ returns-in-Some c =
     let w = index_within spec c.requires.fine c.in-App.sym.0 (trees_of c.in-App.field-1) indices c.rules_of-index-items.ensures i _ at in
     let listed = rule_at spec.rules c.rules-rules.result.now (get_or indices i 0) rule c.rules-rules.ensures w c.index-rules-index.is in
     let read : Rule = get_or c.rules-rules.result.now (get_or indices i 0) rule in
-    let matched : IsMatch read.left c.args.term.now c.in-Some.entries.terms = subst (λ (o : Option Subst). IfSome o (λ s. IsMatch read.left c.args.term.now s.terms)) c.in-Some.is c.in_ok-entries.ensures.matching in
-    subst (λ x. Found spec x (get_or indices i 0) c.in-Some.entries.terms) e (found_at spec c.requires.fine c.in-App.sym.0 (trees_of c.in-App.field-1) indices c.rules_of-index-items.ensures i _ rule c.in-Some.entries.terms at listed (subst (λ (x : Rule). IsMatch x.left (app c.in-App.sym.0 (trees_of c.in-App.field-1)) c.in-Some.entries.terms) (sym c.index-rules-index.is) (subst (λ x. IsMatch read.left x c.in-Some.entries.terms) (sym e) matched)) (subst (λ x. NoneBefore spec.rules indices x i) (sym e) c.loop-index.invariant))
+    let found : Fits read.left c.args.term.now true = subst (λ b. Fits read.left c.args.term.now b) c.if-branch.true c.in_ok-fits.ensures in
+    (found.0, subst (λ x. Found spec x (get_or indices i 0) found.0) e (found_at spec c.requires.fine c.in-App.sym.0 (trees_of c.in-App.field-1) indices c.rules_of-index-items.ensures i _ rule found.0 at listed (subst (λ (x : Rule). IsMatch x.left (app c.in-App.sym.0 (trees_of c.in-App.field-1)) found.0) (sym c.index-rules-index.is) (subst (λ x. IsMatch read.left x found.0) (sym e) found.1)) (subst (λ x. NoneBefore spec.rules indices x i) (sym e) c.loop-index.invariant)))
 
 pub loop-index-preserved : goal.loop-index-preserved
 loop-index-preserved c =
@@ -59,7 +71,7 @@ loop-index-preserved c =
     let w = index_within spec c.requires.fine c.in-App.sym.0 (trees_of c.in-App.field-1) indices c.rules_of-index-items.ensures i _ at in
     let listed = rule_at spec.rules c.rules-rules.result.now (get_or indices i 0) rule c.rules-rules.ensures w c.index-rules-index.is in
     let read : Rule = get_or c.rules-rules.result.now (get_or indices i 0) rule in
-    let none : HasNoMatch read.left c.args.term.now = subst (λ (o : Option Subst). IfNone o (HasNoMatch read.left c.args.term.now)) c.in_default-2.is c.in_ok-entries.ensures.none in
+    let none : HasNoMatch read.left c.args.term.now = subst (λ b. Fits read.left c.args.term.now b) c.if-branch.false c.in_ok-fits.ensures in
     none_next spec.rules indices c.args.term.now i _ rule at listed (subst (λ (x : Rule). HasNoMatch x.left c.args.term.now) (sym c.index-rules-index.is) none) c.loop-index.invariant
 
 pub returns : goal.returns
