@@ -1,0 +1,29 @@
+pub mod Lists
+pub mod Decimals
+pub mod Spelled
+pub mod SymbolNames
+pub mod Prefixes
+pub mod Faulty
+pub mod Runs
+pub mod TermReads
+pub mod PlainNames
+pub mod SameTerms
+pub mod PlaceReads
+pub mod WordReads
+pub mod StepReads
+pub mod ClaimReads
+mod FaultsByHand
+pub mod TermsAt
+pub mod ListsAt
+pub mod SingleLines
+pub mod SoFar
+pub mod Begun
+pub mod ClaimSoFar
+mod NoSteps
+pub mod NextWords
+pub mod NextTerms
+pub mod LineParts
+pub mod StepsByName
+pub mod PathsAt
+pub mod PlacesAt
+pub mod StepLines
