@@ -1,0 +1,92 @@
+ghost use Rattle.std.specs.Prelude.{◌≡◌, ◌↔◌, ◌≤◌, ◌<◌, IfOk, IsTrue, Some, length as length_of};
+ghost use Rattle.spec_core.specs.declared.records.SymInfo.{SymInfo as Info};
+ghost use Rattle.spec_core.specs.Sig.{info_of};
+ghost use Rattle.spec_core.specs.WellSorted.{IsWellSorted};
+ghost use Rattle.plain_proof.specs.CaseAnswers.{HasSort, IsCase, HasCases};
+
+use crate::cases::case_of;
+use crate::closing::close;
+use crate::limits::are_within;
+use crate::staying::normal_side;
+use rewriting::Rewriter;
+use spec_core::{Equation, Spec};
+use std::alloc::Global;
+use term_core::{OutOfMemory, SortId, SymId, VarId};
+
+/// Whether the cases of the variable close, by lengths that sum up to at most `most`. It stops at
+/// the first case that passes what is left.
+pub(crate) fn has_cases(
+    alloc: Global,
+    spec: &Spec,
+    rewriter: &Rewriter,
+    ctx: &[SortId],
+    equation: &Equation,
+    var: VarId,
+    sort: SortId,
+    most: u32,
+) -> Result<bool, OutOfMemory>
+    requires fine { IsWellSorted spec.now }
+    requires its { rewriter.now ≡ spec.now }
+    requires few { length_of ctx.now ≤ 16 }
+    requires sorted { HasSort spec.now ctx.now equation.now }
+    requires short { most ≤ 1000 }
+    ensures { IfOk result (λ has.
+        IsTrue has ↔ HasCases spec.now ctx.now equation.now most sort var.0) }
+{
+    let constructors = spec.sig.constructors_of(alloc, sort)?;
+    let mut left = most;
+    for sym in constructors.as_slice() {
+        match case_length(alloc, spec, rewriter, ctx, equation, var, *sym, left)? {
+            Some(length) => left -= length,
+            None => return Ok(false),
+        }
+    }
+    Ok(true)
+}
+
+/// The length of the variable's case with this constructor, where it closes by at most `budget`.
+fn case_length(
+    alloc: Global,
+    spec: &Spec,
+    rewriter: &Rewriter,
+    ctx: &[SortId],
+    equation: &Equation,
+    var: VarId,
+    sym: SymId,
+    budget: u32,
+) -> Result<Option<u32>, OutOfMemory>
+    requires fine { IsWellSorted spec.now }
+    requires its { rewriter.now ≡ spec.now }
+    requires few { length_of ctx.now ≤ 16 }
+    requires sorted { HasSort spec.now ctx.now equation.now }
+    requires short { budget ≤ 1000 }
+    requires known { sym.0 < length_of spec.now.sig.table }
+    ensures { IfOk result (λ found. (i : Info) → info_of spec.now.sig sym.0 ≡ Some i →
+        IsCase spec.now ctx.now equation.now var.0 (sym.0, i.args) budget found) }
+{
+    let args = spec.sig.info(sym).args.as_slice();
+    let mut over = Vec::new(alloc);
+    over.extend_from_slice(ctx)?;
+    over.extend_from_slice(args)?;
+    let theta = case_of(alloc, var, sym, ctx.len(), args.len())?;
+    let left = theta.apply(alloc, &equation.left)?;
+    let right = theta.apply(alloc, &equation.right)?;
+    if !are_within(alloc, &left, &right)? {
+        return Ok(None);
+    }
+    let Some((left, uses)) = normal_side(alloc, spec, rewriter, &right, left, budget)? else {
+        return Ok(None);
+    };
+    let Some((right, more)) = normal_side(alloc, spec, rewriter, &left, right, budget)? else {
+        return Ok(None);
+    };
+    let length = uses + more + left.size(budget + 1) + right.size(budget + 1);
+    if length > budget {
+        return Ok(None);
+    }
+    let closing = close(alloc, &spec.sig, ctx, equation, &over, &left, &right)?;
+    if !closing.suffices(uses + more) {
+        return Ok(None);
+    }
+    Ok(Some(length))
+}
