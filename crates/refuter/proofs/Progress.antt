@@ -14,10 +14,11 @@ use Rattle.spec_core.specs.Verdict.{IsVerdict}
 use Rattle.spec_core.specs.Order.{product, constructors_of, values, is_small}
 use Rattle.refuter.proofs.Numbers.{le_true, true_le, lt_true, lt_false}
 use Rattle.refuter.specs.Finds.{SpentRows}
-use Rattle.term_core.proofs.Members.{in_contained, contained_in}
+use Rattle.term_core.proofs.Members.{In, all_in, in_contained, contained_in}
 use Rattle.refuter.specs.Bounded.{rows_within}
 use Rattle.refuter.specs.After.{rows_after}
 use Rattle.refuter.specs.Moves.{GoesOn}
+use Rattle.value_bank.specs.Cells.{Cell, AreTerms}
 use Rattle.refuter.proofs.InLists.{first_in}
 use Rattle.refuter.proofs.Members.{all_flat_map, all_map}
 use Rattle.refuter.proofs.Chains.{first_row, next_row, drop_at}
@@ -56,46 +57,72 @@ module _ (sig : Sig) where
   unfolding rows_within
   whole depth ss bound e = all_kept _ (product (map (λ s. values sig depth s) ss)) (subst (λ b. AllByRecursion (λ r. nat_le (sizes (trees_of r)) b ≡ true) (product (map (λ s. values sig depth s) ss))) (sym e) (all_true (255 * length ss) (product (map (λ s. values sig depth s) ss)) (rows_small depth ss)))
 
-  -- the rows that are left begin with this one, or there are none
-  abbrev pub IsAt : ℕ → List SortId → ℕ → List (List Tree) → List Tree → Bool → Type 0
-  IsAt depth ss bound rest row false = rest ≡ []
-  IsAt depth ss bound rest row true = (rest ≡ row ∷ rows_after sig depth ss bound row) × Contains (rows_within sig depth ss bound) row
+  -- the values at the places are the first row of those that are left
+  pub record Here (cells : List Cell) (depth : ℕ) (ss : List SortId) (bound : ℕ) (rest : List (List Tree)) (places : List ℕ) : Type 0 where
+    pub row : List Tree
+    pub is : rest ≡ row ∷ rows_after sig depth ss bound row
+    pub listed : Contains (rows_within sig depth ss bound) row
+    pub stand : AreTerms cells places (trees_of row)
 
-  pub starts : (depth : ℕ) (ss : List SortId) (bound : ℕ) (all : List (List Tree)) (old row : List Tree) (more : Bool) → rows_within sig depth ss bound ≡ all → old ≡ [] → GoesOn old (slice_get (rows_within sig depth ss bound) 0) row more → IsAt depth ss bound (drop 0 all) row more
-  starts depth ss bound all old row false e o g = sym e ∙ no_first (rows_within sig depth ss bound) (goes_false old (slice_get (rows_within sig depth ss bound) 0) row false g refl).0
-  starts depth ss bound all old row true e o g =
-      let w = goes_true old (slice_get (rows_within sig depth ss bound) 0) row true g refl in
-      let k : row ≡ w.0 = w.2 ∙ ap (λ xs. xs ++ w.0) o in
-      let f : slice_get (rows_within sig depth ss bound) 0 ≡ Some row = w.1 ∙ ap (λ xs. Some xs) (sym k) in
-      (sym e ∙ first_row sig depth ss bound row f, contained_in (rows_within sig depth ss bound) row (first_in (rows_within sig depth ss bound) row f))
+  -- the rows that are left begin with the one at these places, or there are none
+  abbrev pub IsAt : List Cell → ℕ → List SortId → ℕ → List (List Tree) → List ℕ → Bool → Type 0
+  IsAt cells depth ss bound rest places false = rest ≡ []
+  IsAt cells depth ss bound rest places true = Here cells depth ss bound rest places
 
-  pub moves : (depth : ℕ) (ss : List SortId) (bound i : ℕ) (all : List (List Tree)) (old row : List Tree) (before more : Bool) → before ≡ true → IsAt depth ss bound (drop i all) old before → GoesOn [] (slice_get (rows_after sig depth ss bound old) 0) row more → IsAt depth ss bound (drop (i + 1) all) row more
-  moves depth ss bound i all old row false more b s g = absurd (let q : false ≡ true = b in cc)
-  moves depth ss bound i all old row true false b s g =
-      let d = drop_at all i old (rows_after sig depth ss bound old) s.0 in
+  pub starts : (cells : List Cell) (depth : ℕ) (ss : List SortId) (bound : ℕ) (all : List (List Tree)) (old places : List ℕ) (more : Bool) → rows_within sig depth ss bound ≡ all → old ≡ [] → GoesOn cells old (slice_get (rows_within sig depth ss bound) 0) places more → IsAt cells depth ss bound (drop 0 all) places more
+  starts cells depth ss bound all old places false e o g = sym e ∙ no_first (rows_within sig depth ss bound) (goes_false cells old (slice_get (rows_within sig depth ss bound) 0) places false g refl).0
+  starts cells depth ss bound all old places true e o g =
+      let w = goes_true cells old (slice_get (rows_within sig depth ss bound) 0) places true g refl in
+      record {
+        row = w.values;
+        is = sym e ∙ first_row sig depth ss bound w.values w.is;
+        listed = contained_in (rows_within sig depth ss bound) w.values (first_in (rows_within sig depth ss bound) w.values w.is);
+        stand = subst (λ ps. AreTerms cells ps (trees_of w.values)) (sym (w.row_is ∙ ap (λ xs. xs ++ w.places) o)) w.stand;
+      }
+
+  pub moves : (cells : List Cell) (depth : ℕ) (ss : List SortId) (bound i : ℕ) (all : List (List Tree)) (old : List Tree) (places : List ℕ) (more : Bool) → drop i all ≡ old ∷ rows_after sig depth ss bound old → Contains (rows_within sig depth ss bound) old → GoesOn cells [] (slice_get (rows_after sig depth ss bound old) 0) places more → IsAt cells depth ss bound (drop (i + 1) all) places more
+  moves cells depth ss bound i all old places false is listed g =
+      let d = drop_at all i old (rows_after sig depth ss bound old) is in
       let e : i + 1 ≡ suc i = omega arith in
-      rw e (d.1 ∙ no_first (rows_after sig depth ss bound old) (goes_false [] (slice_get (rows_after sig depth ss bound old) 0) row false g refl).0)
-  moves depth ss bound i all old row true true b s g =
-      let d = drop_at all i old (rows_after sig depth ss bound old) s.0 in
-      let w = goes_true [] (slice_get (rows_after sig depth ss bound old) 0) row true g refl in
-      let f : slice_get (rows_after sig depth ss bound old) 0 ≡ Some row = w.1 ∙ ap (λ xs. Some xs) (sym w.2) in
-      let n = next_row sig depth ss bound old row (in_contained (rows_within sig depth ss bound) old s.1) f in
+      rw e (d.1 ∙ no_first (rows_after sig depth ss bound old) (goes_false cells [] (slice_get (rows_after sig depth ss bound old) 0) places false g refl).0)
+  moves cells depth ss bound i all old places true is listed g =
+      let d = drop_at all i old (rows_after sig depth ss bound old) is in
+      let w = goes_true cells [] (slice_get (rows_after sig depth ss bound old) 0) places true g refl in
+      let n = next_row sig depth ss bound old w.values (in_contained (rows_within sig depth ss bound) old listed) w.is in
       let e : i + 1 ≡ suc i = omega arith in
-      rw e (d.1 ∙ n.0, contained_in (rows_within sig depth ss bound) row n.1)
+      record {
+        row = w.values;
+        is = ap (λ k. drop k all) e ∙ d.1 ∙ n.0;
+        listed = contained_in (rows_within sig depth ss bound) w.values n.1;
+        stand = subst (λ ps. AreTerms cells ps (trees_of w.values)) (sym w.row_is) w.stand;
+      }
 
-  pub at_row : (depth : ℕ) (ss : List SortId) (bound i : ℕ) (all : List (List Tree)) (row : List Tree) (more : Bool) → more ≡ true → IsAt depth ss bound (drop i all) row more → slice_get all i ≡ Some row
-  at_row depth ss bound i all row false b s = absurd (let q : false ≡ true = b in cc)
-  at_row depth ss bound i all row true b s = (drop_at all i row (rows_after sig depth ss bound row) s.0).0
+  pub here : (cells : List Cell) (depth : ℕ) (ss : List SortId) (bound : ℕ) (rest : List (List Tree)) (places : List ℕ) (more : Bool) → more ≡ true → IsAt cells depth ss bound rest places more → Here cells depth ss bound rest places
+  here cells depth ss bound rest places false b s = absurd (let q : false ≡ true = b in cc)
+  here cells depth ss bound rest places true b s = s
+
+  pub at_row : (cells : List Cell) (depth : ℕ) (ss : List SortId) (bound i : ℕ) (all : List (List Tree)) (places : List ℕ) (h : Here cells depth ss bound (drop i all) places) → slice_get all i ≡ Some h.row
+  at_row cells depth ss bound i all places h = (drop_at all i h.row (rows_after sig depth ss bound h.row) h.is).0
+
+  -- the values of a row have at most 255 symbols
+  pub row_small : (depth : ℕ) (ss : List SortId) (row : List Tree) → In row (product (map (λ s. values sig depth s) ss)) → AllByRecursion (λ t. tree_size t ≤ 255) row
+  row_small depth ss row a = all_in (λ r. AllByRecursion (λ t. tree_size t ≤ 255) r) (product (map (λ s. values sig depth s) ss)) row (all_small depth ss) a
+    where
+      all_small : (depth : ℕ) (ss : List SortId) → AllByRecursion (λ r. AllByRecursion (λ t. tree_size t ≤ 255) r) (product (map (λ s. values sig depth s) ss))
+      all_small depth [] = (tt, tt)
+      all_small depth (s ∷ ss) =
+          all_flat_map (λ t. tree_size t ≤ 255) (λ r. AllByRecursion (λ t. tree_size t ≤ 255) r) (λ t. map (λ r. t ∷ r) (product (map (λ u. values sig depth u) ss))) (values sig depth s) (values_small depth s) (λ t a.
+          all_map (λ r. AllByRecursion (λ t. tree_size t ≤ 255) r) (λ r. AllByRecursion (λ t. tree_size t ≤ 255) r) (λ r. t ∷ r) (product (map (λ u. values sig depth u) ss)) (all_small depth ss) (λ r b. (a, b)))
 
   -- where the search ends: the list ends here, or the tries are used up
-  pub ends : (depth : ℕ) (ss : List SortId) (bound i tries : ℕ) (all : List (List Tree)) (row : List Tree) (more : Bool) → IsAt depth ss bound (drop i all) row more → i ≤ length all → i ≤ tries → (more ≡ false) ⊎ (tries ≤ i) → (i ≡ min tries (length all)) × (more ≡ nat_lt tries (length all))
-  ends depth ss bound i tries all row false s l m h =
+  pub ends : (cells : List Cell) (depth : ℕ) (ss : List SortId) (bound i tries : ℕ) (all : List (List Tree)) (row : List ℕ) (more : Bool) → IsAt cells depth ss bound (drop i all) row more → i ≤ length all → i ≤ tries → (more ≡ false) ⊎ (tries ≤ i) → (i ≡ min tries (length all)) × (more ≡ nat_lt tries (length all))
+  ends cells depth ss bound i tries all row false s l m h =
       let n : length (drop i all) ≡ 0 = ap (λ xs. length xs) s in
       let k = length-drop i all in
       (omega arith, sym (lt_false tries (length all) (omega arith)))
-  ends depth ss bound i tries all row true s l m (inl b) = absurd (let q : true ≡ false = b in cc)
-  ends depth ss bound i tries all row true s l m (inr h) =
-      let n : length (drop i all) ≡ suc (length (rows_after sig depth ss bound row)) = ap (λ xs. length xs) s.0 in
+  ends cells depth ss bound i tries all row true s l m (inl b) = absurd (let q : true ≡ false = b in cc)
+  ends cells depth ss bound i tries all row true s l m (inr h) =
+      let n : length (drop i all) ≡ suc (length (rows_after sig depth ss bound s.row)) = ap (λ xs. length xs) s.is in
       let k = length-drop i all in
       (omega arith, sym (lt_true tries (length all) (omega arith)))
 

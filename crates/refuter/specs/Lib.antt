@@ -4,3 +4,4 @@ pub mod Bounded
 pub mod Fewest
 pub mod After
 pub mod Moves
+pub mod Sizes

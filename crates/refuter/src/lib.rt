@@ -12,6 +12,7 @@ mod answers;
 mod fewest;
 mod odometer;
 mod searching;
+mod sized_bank;
 
 pub use answers::Search;
 pub use searching::search;

@@ -1,5 +1,6 @@
 use Rattle.std.proofs.Common.{◌≡◌, ◌+◌, ◌*◌, length}
 use Rattle.std.specs.Prelude.{slice_get}
+use Rattle.value_bank.specs.Cells.{AddsCells}
 use Rattle.refuter.specs.After.{made_from}
 use Rattle.refuter.proofs.odometer.Odometer.+first.Given as goal
 
@@ -13,4 +14,8 @@ abbrev pub decreases-first_made : goal.decreases-first_made
 decreases-first_made l = 10 * l.depth + 10
 
 abbrev pub invariant-first_made-loop-number : goal.invariant-first_made-loop-number
-invariant-first_made-loop-number l = slice_get (made_from l.self l.depth l.sort l.bound l.number) 0 ≡ slice_get (made_from l.self l.depth l.sort l.bound l.from) 0
+invariant-first_made-loop-number l = record {
+  first : slice_get (made_from l.self l.depth l.sort l.bound l.number) 0 ≡ slice_get (made_from l.self l.depth l.sort l.bound l.from) 0;
+  same : l.row.items ≡ l.fn.row.items;
+  adds : AddsCells l.fn.bank l.bank;
+}

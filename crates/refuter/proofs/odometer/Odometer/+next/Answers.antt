@@ -1,156 +1,507 @@
-use Rattle.std.proofs.Common.{rules, arith, ℕ, suc, true, ◌≡◌, ◌+◌, ◌-◌, ◌<◌, ◌≤◌, ◌∙◌, ◌++◌, ◌∷◌, [], Some, None, refl, ap, sym, subst, length, take, drop}
-use Rattle.std.specs.Prelude.{IfOk, slice_get}
-use Rattle.std.specs.List.{AllByRecursion, Contains}
+use Rattle.std.proofs.Common.{arith, suc, true, ◌≡◌, ◌+◌, ◌-◌, ◌<◌, ◌≤◌, ◌∙◌, ◌++◌, ◌∷◌, [], Some, refl, ap, sym, subst, length, take, drop, min, length-append}
+use Rattle.std.specs.Prelude.{slice_get}
+use Rattle.std.specs.List.{AllByRecursion}
 use Rattle.std.proofs.lemmas.List.{length_push}
 use Rattle.std.proofs.lemmas.Option.{slice_get_read}
 use Rattle.term_core.specs.Tree.{app, trees_of, tree_size}
-use Rattle.term_core.specs.View.{tree_of}
 use Rattle.spec_core.specs.Sig.{Sig, info_of, IsSort}
-use Rattle.term_core.proofs.Members.{in_contained, contained_in}
-use Rattle.refuter.specs.Bounded.{rows_within, values_within}
-use Rattle.refuter.specs.After.{room_within, rows_after, values_after}
-use Rattle.refuter.specs.Moves.{GoesOn}
-use Rattle.ground_eval.proofs.Lists.{take_here}
-use Rattle.refuter.proofs.Steps.{goes_true, goes_false, room_is, next_end, next_same, next_none, next_first, whole_taken, place_within, rest_listed, first_listed, last_same, application_is, arguments_listed, value_goes, value_ends, var_is_no_value}
-use Rattle.refuter.proofs.odometer.Odometer.+next.Goals as goal
-use Rattle.refuter.proofs.odometer.Odometer.+next.Goals.{advance-Else-branch, next_value-In-App, next_value-After-into_vec-row}
 use Rattle.term_core.proofs.Items.{drop_here, if_ok_map}
+use Rattle.term_core.proofs.Members.{in_contained, contained_in}
+use Rattle.value_bank.specs.Cells.{IsTerm, AreTerms, AreBelow, AddsCells}
+use Rattle.value_bank.proofs.Terms.{term_kept}
+use Rattle.value_bank.proofs.Placed.{terms_within, term_within}
+use Rattle.bank_machine.proofs.Stacked.{drop_whole}
+use Rattle.ground_eval.proofs.Lists.{take_here}
+use Rattle.refuter.specs.After.{rows_after, values_after}
+use Rattle.refuter.specs.Moves.{IsPlaceOf, GoesOn}
+use Rattle.refuter.proofs.Steps.{parted, application_at, goes_true, goes_false, room_is, next_end, next_same, next_none, next_first, whole_taken, place_within, rest_listed, first_listed, last_same, application_is, arguments_listed, value_goes, value_ends, at_places, at_term, place_some, behind_row, made_at, cut_back, on_ok_map}
+use Rattle.refuter.proofs.odometer.Odometer.+next.Goals as goal
 
-pub advance-returns-in_default : goal.advance-returns-in_default
-advance-returns-in_default t c =
-    let e : c.args.sorts.now ≡ [] = c.in_default.ensures in
-    next_end c.args.self.now c.args.depth c.args.sorts.now c.args.bound (drop c.args.place c.args.row.now.items) (take c.args.place c.args.row.now.items) c.args.row.now.items e (whole_taken c.args.self.now c.args.depth c.args.sorts.now c.args.bound c.args.place c.args.row.now.items e (in_contained _ _ c.requires.listed))
+pub advance-returns-in_default-clause-goes : goal.advance-returns-in_default-clause-goes
+advance-returns-in_default-clause-goes t c =
+    let sig = c.args.self.now in
+    let row = c.args.row.now.items in
+    let l = c.requires.listed in
+    at_places c.args.bank.now (drop c.args.place row) (λ values. GoesOn c.args.bank.now (take c.args.place row) (slice_get (rows_after sig c.args.depth c.args.sorts.now c.args.bound values) 0) row _) l.0 l.1 (next_end sig c.args.bank.now c.args.depth c.args.sorts.now c.args.bound l.0 (take c.args.place row) row c.in_default.ensures (whole_taken c.args.bank.now sig c.args.depth c.args.sorts.now c.args.bound c.args.place row l.0 c.in_default.ensures l.1 (in_contained _ _ l.2)))
 
 pub advance-index-requires : goal.advance-index-requires
 advance-index-requires t c =
-    omega (arith, c.args.row.now.ok.0, place_within c.args.self.now c.args.depth c.args.sorts.now c.in-Some.sort.now c.in-Some.others.now c.args.bound c.args.place c.args.row.now.items c.in-Some.ensures (in_contained _ _ c.requires.listed))
+    let sig = c.args.self.now in
+    let row = c.args.row.now.items in
+    let l = c.requires.listed in
+    let ss = c.in-Some.others.now in
+    let within : c.args.place < length row = place_within sig c.args.bank.now c.args.depth c.args.sorts.now c.in-Some.sort.now ss c.args.bound c.args.place row l.0 c.in-Some.ensures l.1 (in_contained _ _ l.2) in
+    omega (arith, c.args.row.now.ok.0, within)
+
+pub advance-size-requires-clause-there : goal.advance-size-requires-clause-there
+advance-size-requires-clause-there t c =
+    let sig = c.args.self.now in
+    let row = c.args.row.now.items in
+    let l = c.requires.listed in
+    let ss = c.in-Some.others.now in
+    let within : c.args.place < length row = place_within sig c.args.bank.now c.args.depth c.args.sorts.now c.in-Some.sort.now ss c.args.bound c.args.place row l.0 c.in-Some.ensures l.1 (in_contained _ _ l.2) in
+    let p = c.index.result.now in
+    let at : slice_get row c.args.place ≡ Some p = slice_get_read row (length row) c.args.place p refl within c.index.ensures in
+    let part = parted c.args.bank.now (drop c.args.place row) p (drop (c.args.place + 1) row) l.0 (drop_here row c.args.place p at) l.1 in
+    (part.first, part.here)
+
+pub advance-overflow_sub-bound : goal.advance-overflow_sub-bound
+advance-overflow_sub-bound t c =
+    let sig = c.args.self.now in
+    let row = c.args.row.now.items in
+    let l = c.requires.listed in
+    let ss = c.in-Some.others.now in
+    let within : c.args.place < length row = place_within sig c.args.bank.now c.args.depth c.args.sorts.now c.in-Some.sort.now ss c.args.bound c.args.place row l.0 c.in-Some.ensures l.1 (in_contained _ _ l.2) in
+    let p = c.index.result.now in
+    let at : slice_get row c.args.place ≡ Some p = slice_get_read row (length row) c.args.place p refl within c.index.ensures in
+    let part = parted c.args.bank.now (drop c.args.place row) p (drop (c.args.place + 1) row) l.0 (drop_here row c.args.place p at) l.1 in
+    let size = c.in_ok-size.size in
+    let sized : size ≡ min (tree_size part.first) c.args.bound = c.in_ok-size.ensures.size part.first part.here in
+    omega (arith, sized)
 
 pub advance-advance-requires : goal.advance-advance-requires
 advance-advance-requires t c =
     let sig = c.args.self.now in
     let row = c.args.row.now.items in
-    let e : c.args.sorts.now ≡ c.in-Some.sort.now ∷ c.in-Some.others.now = c.in-Some.ensures in
-    let long : length c.args.sorts.now ≡ suc (length c.in-Some.others.now) = ap (λ xs. length xs) e in
-    let within : c.args.place < length row = place_within sig c.args.depth c.args.sorts.now c.in-Some.sort.now c.in-Some.others.now c.args.bound c.args.place row e (in_contained _ _ c.requires.listed) in
-    let at : slice_get row c.args.place ≡ Some c.index.result.now = slice_get_read row (length row) c.args.place c.index.result.now refl within c.index.ensures in
-    let sorts : AllByRecursion (IsSort sig) (c.in-Some.sort.now ∷ c.in-Some.others.now) = subst (λ ss. AllByRecursion (IsSort sig) ss) e c.requires.sorts in
-    (omega arith, (sorts.1, (omega (arith, c.requires.few), (omega arith, contained_in _ _ (rest_listed sig c.args.depth c.args.sorts.now c.in-Some.sort.now c.in-Some.others.now c.args.bound c.size.result c.index.result.now (drop (c.args.place + 1) row) (drop c.args.place row) e (drop_here row c.args.place c.index.result.now at) c.size.ensures (in_contained _ _ c.requires.listed))))))
+    let l = c.requires.listed in
+    let ss = c.in-Some.others.now in
+    let within : c.args.place < length row = place_within sig c.args.bank.now c.args.depth c.args.sorts.now c.in-Some.sort.now ss c.args.bound c.args.place row l.0 c.in-Some.ensures l.1 (in_contained _ _ l.2) in
+    let p = c.index.result.now in
+    let at : slice_get row c.args.place ≡ Some p = slice_get_read row (length row) c.args.place p refl within c.index.ensures in
+    let part = parted c.args.bank.now (drop c.args.place row) p (drop (c.args.place + 1) row) l.0 (drop_here row c.args.place p at) l.1 in
+    let size = c.in_ok-size.size in
+    let sized : size ≡ min (tree_size part.first) c.args.bound = c.in_ok-size.ensures.size part.first part.here in
+    let stand : AreTerms c.size.new.self (drop (c.args.place + 1) row) (trees_of part.others) = subst (λ b. AreTerms b (drop (c.args.place + 1) row) (trees_of part.others)) (sym c.in_ok-size.ensures.same) part.behind in
+    let long : length c.args.sorts.now ≡ suc (length ss) = ap (λ xs. length xs) c.in-Some.ensures in
+    let sorts : AllByRecursion (IsSort sig) (c.in-Some.sort.now ∷ ss) = subst (λ us. AllByRecursion (IsSort sig) us) c.in-Some.ensures c.requires.sorts in
+    let listed = contained_in _ _ (rest_listed sig c.args.depth c.args.sorts.now c.in-Some.sort.now ss c.args.bound size part.first part.others l.0 c.in-Some.ensures part.is sized (in_contained _ _ l.2)) in
+    (omega arith, (sorts.1, (omega (arith, c.requires.few), (omega arith, (part.others, stand, listed)))))
 
-pub advance-returns-then-branch : goal.advance-returns-then-branch
-advance-returns-then-branch t c =
+pub advance-returns-then-branch-clause-goes : goal.advance-returns-then-branch-clause-goes
+advance-returns-then-branch-clause-goes t c =
     let sig = c.args.self.now in
     let row = c.args.row.now.items in
-    let e : c.args.sorts.now ≡ c.in-Some.sort.now ∷ c.in-Some.others.now = c.in-Some.ensures in
-    let within : c.args.place < length row = place_within sig c.args.depth c.args.sorts.now c.in-Some.sort.now c.in-Some.others.now c.args.bound c.args.place row e (in_contained _ _ c.requires.listed) in
-    let at : slice_get row c.args.place ≡ Some c.index.result.now = slice_get_read row (length row) c.args.place c.index.result.now refl within c.index.ensures in
-    let left : c.args.bound - c.size.result ≡ c.args.bound - tree_size c.index.result.now = omega (arith, c.size.ensures) in
-    let goes : GoesOn (take (c.args.place + 1) row) (slice_get (rows_after sig c.args.depth c.in-Some.others.now (c.args.bound - c.size.result) (drop (c.args.place + 1) row)) 0) c.advance.new.row.items true = subst (λ b. GoesOn (take (c.args.place + 1) row) (slice_get (rows_after sig c.args.depth c.in-Some.others.now (c.args.bound - c.size.result) (drop (c.args.place + 1) row)) 0) c.advance.new.row.items b) c.if-branch.true c.in_ok-advance.ensures in
-    next_same sig c.args.depth c.args.sorts.now c.in-Some.sort.now c.in-Some.others.now c.args.bound (c.args.bound - c.size.result) c.index.result.now (drop (c.args.place + 1) row) (drop c.args.place row) (take c.args.place row) (take (c.args.place + 1) row) c.advance.new.row.items e (drop_here row c.args.place c.index.result.now at) left (take_here row c.args.place c.index.result.now at) goes
-
--- the value that goes on next, that nothing comes after what is behind it, and the row without that
-cut : {t : ℕ} (c : advance-Else-branch t) → (slice_get c.args.row.now.items c.args.place ≡ Some c.index.result.now) × (slice_get (rows_after c.args.self.now c.args.depth c.in-Some.others.now (c.args.bound - c.size.result) (drop (c.args.place + 1) c.args.row.now.items)) 0 ≡ None) × (c.advance.new.row.items ≡ take c.args.place c.args.row.now.items ++ c.index.result.now ∷ [])
-cut c =
-    let sig = c.args.self.now in
-    let row = c.args.row.now.items in
-    let within : c.args.place < length row = place_within sig c.args.depth c.args.sorts.now c.in-Some.sort.now c.in-Some.others.now c.args.bound c.args.place row c.in-Some.ensures (in_contained _ _ c.requires.listed) in
-    let at : slice_get row c.args.place ≡ Some c.index.result.now = slice_get_read row (length row) c.args.place c.index.result.now refl within c.index.ensures in
-    let w = goes_false (take (c.args.place + 1) row) (slice_get (rows_after sig c.args.depth c.in-Some.others.now (c.args.bound - c.size.result) (drop (c.args.place + 1) row)) 0) c.advance.new.row.items c.in_ok-advance.field-0 c.in_ok-advance.ensures c.if-branch.false in
-    (at, w.0, w.1 ∙ take_here row c.args.place c.index.result.now at)
+    let l = c.requires.listed in
+    let ss = c.in-Some.others.now in
+    let within : c.args.place < length row = place_within sig c.args.bank.now c.args.depth c.args.sorts.now c.in-Some.sort.now ss c.args.bound c.args.place row l.0 c.in-Some.ensures l.1 (in_contained _ _ l.2) in
+    let p = c.index.result.now in
+    let at : slice_get row c.args.place ≡ Some p = slice_get_read row (length row) c.args.place p refl within c.index.ensures in
+    let part = parted c.args.bank.now (drop c.args.place row) p (drop (c.args.place + 1) row) l.0 (drop_here row c.args.place p at) l.1 in
+    let size = c.in_ok-size.size in
+    let sized : size ≡ min (tree_size part.first) c.args.bound = c.in_ok-size.ensures.size part.first part.here in
+    let stand : AreTerms c.size.new.self (drop (c.args.place + 1) row) (trees_of part.others) = subst (λ b. AreTerms b (drop (c.args.place + 1) row) (trees_of part.others)) (sym c.in_ok-size.ensures.same) part.behind in
+    let adds : AddsCells c.args.bank.now c.advance.new.bank = subst (λ b. AddsCells b c.advance.new.bank) c.in_ok-size.ensures.same c.in_ok-advance.ensures.adds in
+    let left : c.args.bound - size ≡ c.args.bound - tree_size part.first = omega (arith, sized) in
+    let after = slice_get (rows_after sig c.args.depth ss (c.args.bound - size) (part.others)) 0 in
+    let moved = c.in_ok-advance.ensures.goes part.others stand in
+    let here : IsTerm c.advance.new.bank p part.first = term_kept c.args.bank.now c.advance.new.bank p part.first adds part.here in
+    let goes : GoesOn c.advance.new.bank (take (c.args.place + 1) row) after c.advance.new.row.items true = subst (λ b. GoesOn c.advance.new.bank (take (c.args.place + 1) row) after c.advance.new.row.items b) c.if-branch.true moved in
+    at_places c.args.bank.now (drop c.args.place row) (λ values. GoesOn c.advance.new.bank (take c.args.place row) (slice_get (rows_after sig c.args.depth c.args.sorts.now c.args.bound values) 0) c.advance.new.row.items true) l.0 l.1 (next_same sig c.advance.new.bank c.args.depth c.args.sorts.now c.in-Some.sort.now ss c.args.bound (c.args.bound - size) p part.first part.others l.0 (take c.args.place row) (take (c.args.place + 1) row) c.advance.new.row.items c.in-Some.ensures part.is here left (take_here row c.args.place p at) goes)
 
 pub advance-unreachable-requires : goal.advance-unreachable-requires
 advance-unreachable-requires t c =
-    let b = cut (goal.at.advance-unreachable-requires t c).Else-branch in
-    let long : length c.advance.new.row.items ≡ length (take c.args.place c.args.row.now.items) + 1 = ap (λ xs. length xs) b.2 ∙ length_push (take c.args.place c.args.row.now.items) c.index.result.now in
+    let sig = c.args.self.now in
+    let row = c.args.row.now.items in
+    let l = c.requires.listed in
+    let ss = c.in-Some.others.now in
+    let within : c.args.place < length row = place_within sig c.args.bank.now c.args.depth c.args.sorts.now c.in-Some.sort.now ss c.args.bound c.args.place row l.0 c.in-Some.ensures l.1 (in_contained _ _ l.2) in
+    let p = c.index.result.now in
+    let at : slice_get row c.args.place ≡ Some p = slice_get_read row (length row) c.args.place p refl within c.index.ensures in
+    let part = parted c.args.bank.now (drop c.args.place row) p (drop (c.args.place + 1) row) l.0 (drop_here row c.args.place p at) l.1 in
+    let size = c.in_ok-size.size in
+    let sized : size ≡ min (tree_size part.first) c.args.bound = c.in_ok-size.ensures.size part.first part.here in
+    let stand : AreTerms c.size.new.self (drop (c.args.place + 1) row) (trees_of part.others) = subst (λ b. AreTerms b (drop (c.args.place + 1) row) (trees_of part.others)) (sym c.in_ok-size.ensures.same) part.behind in
+    let adds : AddsCells c.args.bank.now c.advance.new.bank = subst (λ b. AddsCells b c.advance.new.bank) c.in_ok-size.ensures.same c.in_ok-advance.ensures.adds in
+    let left : c.args.bound - size ≡ c.args.bound - tree_size part.first = omega (arith, sized) in
+    let after = slice_get (rows_after sig c.args.depth ss (c.args.bound - size) (part.others)) 0 in
+    let moved = c.in_ok-advance.ensures.goes part.others stand in
+    let here : IsTerm c.advance.new.bank p part.first = term_kept c.args.bank.now c.advance.new.bank p part.first adds part.here in
+    let w = goes_false c.advance.new.bank (take (c.args.place + 1) row) after c.advance.new.row.items c.in_ok-advance.field-0 moved c.if-branch.false in
+    let row_is : c.advance.new.row.items ≡ take c.args.place row ++ p ∷ [] = w.1 ∙ take_here row c.args.place p at in
+    let long : length c.advance.new.row.items ≡ length (take c.args.place row) + 1 = ap (λ xs. length xs) row_is ∙ length_push (take c.args.place row) p in
     omega (arith, c.advance.new.row.ok.0, c.in_default-pop.ensures.cases.0)
 
 pub advance-next_value-requires : goal.advance-next_value-requires
 advance-next_value-requires t c =
-    let b = cut (goal.at.advance-next_value-requires t c).Else-branch in
-    let row = c.args.row.now.items in
-    let w = last_same (take c.args.place row) c.pop.new.self.items c.index.result.now c.in-Some-pop.value (sym b.2 ∙ c.in-Some-pop.ensures.items) in
-    let long : length c.args.sorts.now ≡ suc (length c.in-Some.others.now) = ap (λ xs. length xs) c.in-Some.ensures in
-    let listed = first_listed c.args.self.now c.args.depth c.args.sorts.now c.in-Some.sort.now c.in-Some.others.now c.args.bound c.room_before-room.result c.index.result.now (drop (c.args.place + 1) row) (drop c.args.place row) c.in-Some.ensures (drop_here row c.args.place c.index.result.now b.0) c.room_before-room.ensures (in_contained _ _ c.requires.listed) in
-    (omega arith, subst (λ v. Contains (values_within c.args.self.now c.args.depth c.in-Some.sort.now c.room_before-room.result) v) w.1 (contained_in _ _ listed))
-
-pub advance-returns-in-None : goal.advance-returns-in-None
-advance-returns-in-None t c =
     let sig = c.args.self.now in
-    let b = cut (goal.at.advance-returns-in-None t c).Else-branch in
     let row = c.args.row.now.items in
-    let w = last_same (take c.args.place row) c.pop.new.self.items c.index.result.now c.in-Some-pop.value (sym b.2 ∙ c.in-Some-pop.ensures.items) in
-    let left : c.args.bound - c.size.result ≡ c.args.bound - tree_size c.index.result.now = omega (arith, c.size.ensures) in
-    let found : c.in_ok-next_value.field-0 ≡ slice_get (values_after sig c.args.depth c.in-Some.sort.now c.room_before-room.result c.index.result.now) 0 = c.in_ok-next_value.ensures ∙ ap (λ v. slice_get (values_after sig c.args.depth c.in-Some.sort.now c.room_before-room.result v) 0) (sym w.1) in
-    next_none sig c.args.depth c.args.sorts.now c.in-Some.sort.now c.in-Some.others.now c.args.bound (c.args.bound - c.size.result) c.room_before-room.result c.index.result.now (drop (c.args.place + 1) row) (drop c.args.place row) (take c.args.place row) c.pop.new.self.items c.in_ok-next_value.field-0 c.in-Some.ensures (drop_here row c.args.place c.index.result.now b.0) left b.1 c.room_before-room.ensures c.in-None.is found (sym w.0)
+    let l = c.requires.listed in
+    let ss = c.in-Some.others.now in
+    let within : c.args.place < length row = place_within sig c.args.bank.now c.args.depth c.args.sorts.now c.in-Some.sort.now ss c.args.bound c.args.place row l.0 c.in-Some.ensures l.1 (in_contained _ _ l.2) in
+    let p = c.index.result.now in
+    let at : slice_get row c.args.place ≡ Some p = slice_get_read row (length row) c.args.place p refl within c.index.ensures in
+    let part = parted c.args.bank.now (drop c.args.place row) p (drop (c.args.place + 1) row) l.0 (drop_here row c.args.place p at) l.1 in
+    let size = c.in_ok-size.size in
+    let sized : size ≡ min (tree_size part.first) c.args.bound = c.in_ok-size.ensures.size part.first part.here in
+    let stand : AreTerms c.size.new.self (drop (c.args.place + 1) row) (trees_of part.others) = subst (λ b. AreTerms b (drop (c.args.place + 1) row) (trees_of part.others)) (sym c.in_ok-size.ensures.same) part.behind in
+    let adds : AddsCells c.args.bank.now c.advance.new.bank = subst (λ b. AddsCells b c.advance.new.bank) c.in_ok-size.ensures.same c.in_ok-advance.ensures.adds in
+    let left : c.args.bound - size ≡ c.args.bound - tree_size part.first = omega (arith, sized) in
+    let after = slice_get (rows_after sig c.args.depth ss (c.args.bound - size) (part.others)) 0 in
+    let moved = c.in_ok-advance.ensures.goes part.others stand in
+    let here : IsTerm c.advance.new.bank p part.first = term_kept c.args.bank.now c.advance.new.bank p part.first adds part.here in
+    let w = goes_false c.advance.new.bank (take (c.args.place + 1) row) after c.advance.new.row.items c.in_ok-advance.field-0 moved c.if-branch.false in
+    let row_is : c.advance.new.row.items ≡ take c.args.place row ++ p ∷ [] = w.1 ∙ take_here row c.args.place p at in
+    let k = last_same (take c.args.place row) c.pop.new.self.items p c.in-Some-pop.value (sym row_is ∙ c.in-Some-pop.ensures.items) in
+    let term : IsTerm c.advance.new.bank c.in-Some-pop.value part.first = subst (λ n. IsTerm c.advance.new.bank n part.first) k.1 here in
+    let room = c.room_before-room.result in
+    let long : length c.args.sorts.now ≡ suc (length ss) = ap (λ xs. length xs) c.in-Some.ensures in
+    let listed = first_listed sig c.args.depth c.args.sorts.now c.in-Some.sort.now ss c.args.bound room part.first part.others l.0 c.in-Some.ensures part.is c.room_before-room.ensures (in_contained _ _ l.2) in
+    (omega arith, (part.first, term, contained_in _ _ listed))
 
-pub advance-returns-in_ok-push-in-Some-2 : goal.advance-returns-in_ok-push-in-Some-2
-advance-returns-in_ok-push-in-Some-2 t c =
+pub advance-size-requires-in-Some-2-clause-there : goal.advance-size-requires-in-Some-2-clause-there
+advance-size-requires-in-Some-2-clause-there t c =
     let sig = c.args.self.now in
-    let b = cut (goal.at.advance-returns-in_ok-push-in-Some-2 t c).Else-branch in
     let row = c.args.row.now.items in
-    let w = last_same (take c.args.place row) c.pop.new.self.items c.index.result.now c.in-Some-pop.value (sym b.2 ∙ c.in-Some-pop.ensures.items) in
-    let left : c.args.bound - c.size.result ≡ c.args.bound - tree_size c.index.result.now = omega (arith, c.size.ensures) in
-    let found : c.in_ok-next_value.field-0 ≡ slice_get (values_after sig c.args.depth c.in-Some.sort.now c.room_before-room.result c.index.result.now) 0 = c.in_ok-next_value.ensures ∙ ap (λ v. slice_get (values_after sig c.args.depth c.in-Some.sort.now c.room_before-room.result v) 0) (sym w.1) in
-    let mid : c.push.new.self.items ≡ take c.args.place row ++ c.in-Some-2.next ∷ [] = subst (λ xs. c.push.new.self.items ≡ xs ++ c.in-Some-2.next ∷ []) (sym w.0) c.in_ok-push-in-Some-2.ensures.items in
-    if_ok_map c.push_first.result _ _ (next_first sig c.args.depth c.args.sorts.now c.in-Some.sort.now c.in-Some.others.now c.args.bound (c.args.bound - c.size.result) c.room_before-room.result c.size-in-Some-2.result c.index.result.now c.in-Some-2.next (drop (c.args.place + 1) row) (drop c.args.place row) (take c.args.place row) c.push.new.self.items c.push_first.new.row.items c.in_ok-next_value.field-0 c.in-Some.ensures (drop_here row c.args.place c.index.result.now b.0) left b.1 c.requires.few c.room_before-room.ensures (in_contained _ _ c.requires.listed) c.in-Some-2.is found c.size-in-Some-2.ensures mid) c.push_first.ensures
+    let l = c.requires.listed in
+    let ss = c.in-Some.others.now in
+    let within : c.args.place < length row = place_within sig c.args.bank.now c.args.depth c.args.sorts.now c.in-Some.sort.now ss c.args.bound c.args.place row l.0 c.in-Some.ensures l.1 (in_contained _ _ l.2) in
+    let p = c.index.result.now in
+    let at : slice_get row c.args.place ≡ Some p = slice_get_read row (length row) c.args.place p refl within c.index.ensures in
+    let part = parted c.args.bank.now (drop c.args.place row) p (drop (c.args.place + 1) row) l.0 (drop_here row c.args.place p at) l.1 in
+    let size = c.in_ok-size.size in
+    let sized : size ≡ min (tree_size part.first) c.args.bound = c.in_ok-size.ensures.size part.first part.here in
+    let stand : AreTerms c.size.new.self (drop (c.args.place + 1) row) (trees_of part.others) = subst (λ b. AreTerms b (drop (c.args.place + 1) row) (trees_of part.others)) (sym c.in_ok-size.ensures.same) part.behind in
+    let adds : AddsCells c.args.bank.now c.advance.new.bank = subst (λ b. AddsCells b c.advance.new.bank) c.in_ok-size.ensures.same c.in_ok-advance.ensures.adds in
+    let left : c.args.bound - size ≡ c.args.bound - tree_size part.first = omega (arith, sized) in
+    let after = slice_get (rows_after sig c.args.depth ss (c.args.bound - size) (part.others)) 0 in
+    let moved = c.in_ok-advance.ensures.goes part.others stand in
+    let here : IsTerm c.advance.new.bank p part.first = term_kept c.args.bank.now c.advance.new.bank p part.first adds part.here in
+    let w = goes_false c.advance.new.bank (take (c.args.place + 1) row) after c.advance.new.row.items c.in_ok-advance.field-0 moved c.if-branch.false in
+    let row_is : c.advance.new.row.items ≡ take c.args.place row ++ p ∷ [] = w.1 ∙ take_here row c.args.place p at in
+    let k = last_same (take c.args.place row) c.pop.new.self.items p c.in-Some-pop.value (sym row_is ∙ c.in-Some-pop.ensures.items) in
+    let term : IsTerm c.advance.new.bank c.in-Some-pop.value part.first = subst (λ n. IsTerm c.advance.new.bank n part.first) k.1 here in
+    let room = c.room_before-room.result in
+    let found : IsPlaceOf c.next_value.new.bank (slice_get (values_after sig c.args.depth c.in-Some.sort.now room part.first) 0) c.in_ok-next_value.field-0 = c.in_ok-next_value.ensures.placed part.first term in
+    let v = place_some c.next_value.new.bank (slice_get (values_after sig c.args.depth c.in-Some.sort.now room part.first) 0) c.in_ok-next_value.field-0 c.in-Some-2.next c.in-Some-2.is found in
+    (v.0, v.2)
 
-pub next_value-unreachable-requires : goal.next_value-unreachable-requires
-next_value-unreachable-requires t c = var_is_no_value c.args.self.now c.args.depth c.args.sort c.args.bound c.args.value c.in-Var.field-0.0 (in_contained _ _ c.requires) (ap tree_of (sym c.in-Var.is) ∙ c.value.view_is)
+pub advance-overflow_sub-bound-in-Some-2 : goal.advance-overflow_sub-bound-in-Some-2
+advance-overflow_sub-bound-in-Some-2 t c =
+    let sig = c.args.self.now in
+    let row = c.args.row.now.items in
+    let l = c.requires.listed in
+    let ss = c.in-Some.others.now in
+    let within : c.args.place < length row = place_within sig c.args.bank.now c.args.depth c.args.sorts.now c.in-Some.sort.now ss c.args.bound c.args.place row l.0 c.in-Some.ensures l.1 (in_contained _ _ l.2) in
+    let p = c.index.result.now in
+    let at : slice_get row c.args.place ≡ Some p = slice_get_read row (length row) c.args.place p refl within c.index.ensures in
+    let part = parted c.args.bank.now (drop c.args.place row) p (drop (c.args.place + 1) row) l.0 (drop_here row c.args.place p at) l.1 in
+    let size = c.in_ok-size.size in
+    let sized : size ≡ min (tree_size part.first) c.args.bound = c.in_ok-size.ensures.size part.first part.here in
+    let stand : AreTerms c.size.new.self (drop (c.args.place + 1) row) (trees_of part.others) = subst (λ b. AreTerms b (drop (c.args.place + 1) row) (trees_of part.others)) (sym c.in_ok-size.ensures.same) part.behind in
+    let adds : AddsCells c.args.bank.now c.advance.new.bank = subst (λ b. AddsCells b c.advance.new.bank) c.in_ok-size.ensures.same c.in_ok-advance.ensures.adds in
+    let left : c.args.bound - size ≡ c.args.bound - tree_size part.first = omega (arith, sized) in
+    let after = slice_get (rows_after sig c.args.depth ss (c.args.bound - size) (part.others)) 0 in
+    let moved = c.in_ok-advance.ensures.goes part.others stand in
+    let here : IsTerm c.advance.new.bank p part.first = term_kept c.args.bank.now c.advance.new.bank p part.first adds part.here in
+    let w = goes_false c.advance.new.bank (take (c.args.place + 1) row) after c.advance.new.row.items c.in_ok-advance.field-0 moved c.if-branch.false in
+    let row_is : c.advance.new.row.items ≡ take c.args.place row ++ p ∷ [] = w.1 ∙ take_here row c.args.place p at in
+    let k = last_same (take c.args.place row) c.pop.new.self.items p c.in-Some-pop.value (sym row_is ∙ c.in-Some-pop.ensures.items) in
+    let term : IsTerm c.advance.new.bank c.in-Some-pop.value part.first = subst (λ n. IsTerm c.advance.new.bank n part.first) k.1 here in
+    let room = c.room_before-room.result in
+    let found : IsPlaceOf c.next_value.new.bank (slice_get (values_after sig c.args.depth c.in-Some.sort.now room part.first) 0) c.in_ok-next_value.field-0 = c.in_ok-next_value.ensures.placed part.first term in
+    let v = place_some c.next_value.new.bank (slice_get (values_after sig c.args.depth c.in-Some.sort.now room part.first) 0) c.in_ok-next_value.field-0 c.in-Some-2.next c.in-Some-2.is found in
+    omega (arith, c.in_ok-taken-in-Some-2.ensures.size v.0 v.2)
 
--- the value is this application, under a depth of at least 1, of a constructor
-parts : {t : ℕ} (c : next_value-In-App t) → (app c.in-App.sym.0 (trees_of c.in-App.args) ≡ c.args.value) × (1 ≤ c.args.depth) × (c.in-App.sym.0 < c.args.self.now.constructors) × (c.in-App.sym.0 < length c.args.self.now.table)
-parts c =
-    let is : app c.in-App.sym.0 (trees_of c.in-App.args) ≡ c.args.value = ap tree_of (sym c.in-App.is) ∙ c.value.view_is in
-    let w = application_is c.args.self.now c.args.depth c.args.sort c.args.bound c.in-App.sym.0 c.in-App.args c.args.value (in_contained _ _ c.requires) is in
-    (is, w.0, w.1, w.2)
+pub advance-returns-in-None-clause-goes : goal.advance-returns-in-None-clause-goes
+advance-returns-in-None-clause-goes t c =
+    let sig = c.args.self.now in
+    let row = c.args.row.now.items in
+    let l = c.requires.listed in
+    let ss = c.in-Some.others.now in
+    let within : c.args.place < length row = place_within sig c.args.bank.now c.args.depth c.args.sorts.now c.in-Some.sort.now ss c.args.bound c.args.place row l.0 c.in-Some.ensures l.1 (in_contained _ _ l.2) in
+    let p = c.index.result.now in
+    let at : slice_get row c.args.place ≡ Some p = slice_get_read row (length row) c.args.place p refl within c.index.ensures in
+    let part = parted c.args.bank.now (drop c.args.place row) p (drop (c.args.place + 1) row) l.0 (drop_here row c.args.place p at) l.1 in
+    let size = c.in_ok-size.size in
+    let sized : size ≡ min (tree_size part.first) c.args.bound = c.in_ok-size.ensures.size part.first part.here in
+    let stand : AreTerms c.size.new.self (drop (c.args.place + 1) row) (trees_of part.others) = subst (λ b. AreTerms b (drop (c.args.place + 1) row) (trees_of part.others)) (sym c.in_ok-size.ensures.same) part.behind in
+    let adds : AddsCells c.args.bank.now c.advance.new.bank = subst (λ b. AddsCells b c.advance.new.bank) c.in_ok-size.ensures.same c.in_ok-advance.ensures.adds in
+    let left : c.args.bound - size ≡ c.args.bound - tree_size part.first = omega (arith, sized) in
+    let after = slice_get (rows_after sig c.args.depth ss (c.args.bound - size) (part.others)) 0 in
+    let moved = c.in_ok-advance.ensures.goes part.others stand in
+    let here : IsTerm c.advance.new.bank p part.first = term_kept c.args.bank.now c.advance.new.bank p part.first adds part.here in
+    let w = goes_false c.advance.new.bank (take (c.args.place + 1) row) after c.advance.new.row.items c.in_ok-advance.field-0 moved c.if-branch.false in
+    let row_is : c.advance.new.row.items ≡ take c.args.place row ++ p ∷ [] = w.1 ∙ take_here row c.args.place p at in
+    let k = last_same (take c.args.place row) c.pop.new.self.items p c.in-Some-pop.value (sym row_is ∙ c.in-Some-pop.ensures.items) in
+    let term : IsTerm c.advance.new.bank c.in-Some-pop.value part.first = subst (λ n. IsTerm c.advance.new.bank n part.first) k.1 here in
+    let room = c.room_before-room.result in
+    let found : IsPlaceOf c.next_value.new.bank (slice_get (values_after sig c.args.depth c.in-Some.sort.now room part.first) 0) c.in_ok-next_value.field-0 = c.in_ok-next_value.ensures.placed part.first term in
+    at_places c.args.bank.now (drop c.args.place row) (λ values. GoesOn c.next_value.new.bank (take c.args.place row) (slice_get (rows_after sig c.args.depth c.args.sorts.now c.args.bound values) 0) c.next_value.new.row.items _) l.0 l.1 (next_none sig c.next_value.new.bank c.args.depth c.args.sorts.now c.in-Some.sort.now ss c.args.bound (c.args.bound - size) room part.first part.others l.0 (take c.args.place row) c.next_value.new.row.items c.in_ok-next_value.field-0 c.in-Some.ensures part.is left w.0 c.room_before-room.ensures c.in-None.is found (c.in_ok-next_value.ensures.same ∙ sym k.0))
+
+pub advance-returns-in_ok-push-in-Some-2-clause-goes : goal.advance-returns-in_ok-push-in-Some-2-clause-goes
+advance-returns-in_ok-push-in-Some-2-clause-goes t c =
+    let sig = c.args.self.now in
+    let row = c.args.row.now.items in
+    let l = c.requires.listed in
+    let ss = c.in-Some.others.now in
+    let within : c.args.place < length row = place_within sig c.args.bank.now c.args.depth c.args.sorts.now c.in-Some.sort.now ss c.args.bound c.args.place row l.0 c.in-Some.ensures l.1 (in_contained _ _ l.2) in
+    let p = c.index.result.now in
+    let at : slice_get row c.args.place ≡ Some p = slice_get_read row (length row) c.args.place p refl within c.index.ensures in
+    let part = parted c.args.bank.now (drop c.args.place row) p (drop (c.args.place + 1) row) l.0 (drop_here row c.args.place p at) l.1 in
+    let size = c.in_ok-size.size in
+    let sized : size ≡ min (tree_size part.first) c.args.bound = c.in_ok-size.ensures.size part.first part.here in
+    let stand : AreTerms c.size.new.self (drop (c.args.place + 1) row) (trees_of part.others) = subst (λ b. AreTerms b (drop (c.args.place + 1) row) (trees_of part.others)) (sym c.in_ok-size.ensures.same) part.behind in
+    let adds : AddsCells c.args.bank.now c.advance.new.bank = subst (λ b. AddsCells b c.advance.new.bank) c.in_ok-size.ensures.same c.in_ok-advance.ensures.adds in
+    let left : c.args.bound - size ≡ c.args.bound - tree_size part.first = omega (arith, sized) in
+    let after = slice_get (rows_after sig c.args.depth ss (c.args.bound - size) (part.others)) 0 in
+    let moved = c.in_ok-advance.ensures.goes part.others stand in
+    let here : IsTerm c.advance.new.bank p part.first = term_kept c.args.bank.now c.advance.new.bank p part.first adds part.here in
+    let w = goes_false c.advance.new.bank (take (c.args.place + 1) row) after c.advance.new.row.items c.in_ok-advance.field-0 moved c.if-branch.false in
+    let row_is : c.advance.new.row.items ≡ take c.args.place row ++ p ∷ [] = w.1 ∙ take_here row c.args.place p at in
+    let k = last_same (take c.args.place row) c.pop.new.self.items p c.in-Some-pop.value (sym row_is ∙ c.in-Some-pop.ensures.items) in
+    let term : IsTerm c.advance.new.bank c.in-Some-pop.value part.first = subst (λ n. IsTerm c.advance.new.bank n part.first) k.1 here in
+    let room = c.room_before-room.result in
+    let found : IsPlaceOf c.next_value.new.bank (slice_get (values_after sig c.args.depth c.in-Some.sort.now room part.first) 0) c.in_ok-next_value.field-0 = c.in_ok-next_value.ensures.placed part.first term in
+    let z = c.in_ok-taken-in-Some-2 in
+    let later : AddsCells c.next_value.new.bank c.push_first.new.bank = subst (λ b. AddsCells b c.push_first.new.bank) z.ensures.same c.push_first.ensures.adds in
+    let mid : c.push.new.self.items ≡ take c.args.place row ++ c.in-Some-2.next ∷ [] = c.in_ok-push-in-Some-2.ensures.items ∙ ap (λ xs. xs ++ c.in-Some-2.next ∷ []) (c.in_ok-next_value.ensures.same ∙ sym k.0) in
+    if_ok_map c.push_first.result _ _ (λ r g.
+    at_places c.args.bank.now (drop c.args.place row) (λ values. GoesOn c.push_first.new.bank (take c.args.place row) (slice_get (rows_after sig c.args.depth c.args.sorts.now c.args.bound values) 0) c.push_first.new.row.items r) l.0 l.1 (next_first sig c.next_value.new.bank c.push_first.new.bank c.args.depth c.args.sorts.now c.in-Some.sort.now ss c.args.bound (c.args.bound - size) room z.taken c.in-Some-2.next part.first part.others l.0 (take c.args.place row) c.push.new.self.items c.push_first.new.row.items c.in_ok-next_value.field-0 c.in-Some.ensures part.is left w.0 c.requires.few c.room_before-room.ensures (in_contained _ _ l.2) c.in-Some-2.is found z.ensures.size later mid r g)) c.push_first.ensures.goes
+
+pub next_value-cell-sym-requires : goal.next_value-cell-sym-requires
+next_value-cell-sym-requires t c =
+    let l = c.requires in
+    term_within c.args.bank.now c.args.value l.0 l.1
 
 pub next_value-info-requires : goal.next_value-info-requires
-next_value-info-requires t c = omega (arith, (parts c).3, ap (λ (g : Sig). length g.table) c.self.view_is)
+next_value-info-requires t c =
+    let l = c.requires in
+    let sig = c.args.self.now in
+    let a = application_at c.args.bank.now c.args.value c.cell-sym.result.0 c.cell-sym.result.1.now l.0 c.cell-sym.ensures l.1 in
+    let q = application_is sig c.args.depth c.args.sort c.args.bound c.cell-sym.result.0 a.0 l.0 (in_contained _ _ l.2) a.1 in
+    omega (arith, q.2, ap (λ (g : Sig). length g.table) c.self.view_is)
 
 pub next_value-overflow_sub-depth : goal.next_value-overflow_sub-depth
-next_value-overflow_sub-depth t c = (parts (goal.at.next_value-overflow_sub-depth t c).In-App).1
-
--- the arguments that go on, of the constructor's sorts and within their room
-moved : {t : ℕ} (c : next_value-After-into_vec-row t) → (c.into_vec-row.result.items ≡ c.in-App.args) × (info_of c.args.self.now c.in-App.sym.0 ≡ Some c.info.result.now) × (c.saturating_sub-room.result ≡ room_within c.args.self.now c.args.bound)
-moved c =
-    (search rules, subst (λ g. info_of g c.in-App.sym.0 ≡ Some c.info.result.now) c.self.view_is c.info.ensures, room_is c.args.self.now c.args.bound c.min.result c.saturating_sub-room.result c.min.ensures c.saturating_sub-room.ensures)
+next_value-overflow_sub-depth t c =
+    let l = c.requires in
+    let sig = c.args.self.now in
+    let a = application_at c.args.bank.now c.args.value c.cell-sym.result.0 c.cell-sym.result.1.now l.0 c.cell-sym.ensures l.1 in
+    let q = application_is sig c.args.depth c.args.sort c.args.bound c.cell-sym.result.0 a.0 l.0 (in_contained _ _ l.2) a.1 in
+    q.0
 
 pub next_value-advance-requires : goal.next_value-advance-requires
 next_value-advance-requires t c =
-    let p = parts (goal.at.next_value-advance-requires t c).In-App in
-    let m = moved (goal.at.next_value-advance-requires t c).After-into_vec-row in
-    let i = c.info.result.now in
-    let few = c.self.invariant.arities c.in-App.sym.0 i c.info.ensures in
-    let long : length c.as_slice-sorts.result.now ≤ 8 = omega (arith, few, ap (λ xs. length xs) c.as_slice-sorts.ensures) in
-    let in_range : AllByRecursion (IsSort c.args.self.now) c.as_slice-sorts.result.now = subst (λ ss. AllByRecursion (IsSort c.args.self.now) ss) (sym c.as_slice-sorts.ensures) (subst (λ (g : Sig). AllByRecursion (IsSort g) i.args) c.self.view_is (c.self.invariant.in_range c.in-App.sym.0 i c.info.ensures).1) in
-    let listed = arguments_listed c.args.self.now c.args.depth c.args.sort c.args.bound c.in-App.sym.0 c.in-App.args c.args.value i c.as_slice-sorts.result.now c.saturating_sub-room.result (in_contained _ _ c.requires) p.0 m.1 c.as_slice-sorts.ensures m.2 in
-    (omega (arith, p.1), (in_range, (omega (arith, c.min.ensures, c.saturating_sub-room.ensures), (omega arith, subst (λ xs. Contains (rows_within c.args.self.now (c.args.depth - 1) c.as_slice-sorts.result.now c.saturating_sub-room.result) xs) (sym m.0) (contained_in _ _ listed)))))
-
-pub next_value-returns-then-branch : goal.next_value-returns-then-branch
-next_value-returns-then-branch t c =
-    let p = parts (goal.at.next_value-returns-then-branch t c).In-App in
-    let m = moved (goal.at.next_value-returns-then-branch t c).After-into_vec-row in
-    let i = c.info.result.now in
+    let l = c.requires in
     let sig = c.args.self.now in
-    let w = goes_true [] (slice_get (rows_after sig (c.args.depth - 1) c.as_slice-sorts.result.now c.saturating_sub-room.result c.into_vec-row.result.items) 0) c.advance.new.row.items c.in_ok-advance-in-App.field-0 c.in_ok-advance-in-App.ensures c.if-branch.true in
-    let first : slice_get (rows_after sig (c.args.depth - 1) c.as_slice-sorts.result.now c.saturating_sub-room.result c.in-App.args) 0 ≡ Some w.0 = ap (λ xs. slice_get (rows_after sig (c.args.depth - 1) c.as_slice-sorts.result.now c.saturating_sub-room.result xs) 0) (sym m.0) ∙ w.1 in
-    let new : c.app.result ≡ app c.in-App.sym.0 (trees_of w.0) = c.app.ensures ∙ ap (λ xs. app c.in-App.sym.0 (trees_of xs)) (c.from_vec.ensures ∙ w.2) in
-    value_goes sig c.args.depth c.args.sort c.args.bound c.in-App.sym.0 c.in-App.args c.args.value i c.as_slice-sorts.result.now c.saturating_sub-room.result w.0 c.app.result p.1 p.0 m.1 c.as_slice-sorts.ensures m.2 first new
+    let a = application_at c.args.bank.now c.args.value c.cell-sym.result.0 c.cell-sym.result.1.now l.0 c.cell-sym.ensures l.1 in
+    let q = application_is sig c.args.depth c.args.sort c.args.bound c.cell-sym.result.0 a.0 l.0 (in_contained _ _ l.2) a.1 in
+    let row = c.args.row.now.items in
+    let start_is : c.len-start.result ≡ length row = omega (arith, c.len-start.ensures, c.args.row.now.ok.0) in
+    let long = c.in_ok-extend_from_slice.ensures.items in
+    let i = c.info.result.now in
+    let at : info_of sig c.cell-sym.result.0 ≡ Some i = subst (λ g. info_of g c.cell-sym.result.0 ≡ Some i) c.self.view_is c.info.ensures in
+    let room = room_is sig c.args.bound c.min.result c.saturating_sub-room.result c.min.ensures c.saturating_sub-room.ensures in
+    let us = c.as_slice-sorts.result.now in
+    let listed = arguments_listed sig c.args.depth c.args.sort c.args.bound c.cell-sym.result.0 a.0 l.0 i us c.saturating_sub-room.result (in_contained _ _ l.2) a.1 at c.as_slice-sorts.ensures room in
+    let behind : drop c.len-start.result c.extend_from_slice.new.self.items ≡ c.cell-sym.result.1.now = ap (λ xs. drop c.len-start.result xs) long ∙ ap (λ n. drop n (row ++ c.cell-sym.result.1.now)) start_is ∙ drop_whole row c.cell-sym.result.1.now in
+    let stand : AreTerms c.args.bank.now (drop c.len-start.result c.extend_from_slice.new.self.items) (trees_of a.0) = subst (λ ps. AreTerms c.args.bank.now ps (trees_of a.0)) (sym behind) a.2 in
+    let kept : take c.len-start.result c.extend_from_slice.new.self.items ≡ row = cut_back row c.extend_from_slice.new.self.items c.cell-sym.result.1.now c.len-start.result long start_is in
+    let few = c.self.invariant.arities c.cell-sym.result.0 i c.info.ensures in
+    let count : length us ≤ 8 = omega (arith, few, ap (λ xs. length xs) c.as_slice-sorts.ensures) in
+    let in_range : AllByRecursion (IsSort sig) us = subst (λ ss. AllByRecursion (IsSort sig) ss) (sym c.as_slice-sorts.ensures) (subst (λ (g : Sig). AllByRecursion (IsSort g) i.args) c.self.view_is (c.self.invariant.in_range c.cell-sym.result.0 i c.info.ensures).1) in
+    let more : length c.extend_from_slice.new.self.items ≡ length row + length c.cell-sym.result.1.now = ap (λ xs. length xs) long ∙ length-append row c.cell-sym.result.1.now in
+    (omega (arith, q.0), (in_range, (omega (arith, c.min.ensures, c.saturating_sub-room.ensures), (omega (arith, more, start_is), (a.0, stand, contained_in _ _ listed)))))
 
-pub next_value-overflow_sub-depth-in-App : goal.next_value-overflow_sub-depth-in-App
-next_value-overflow_sub-depth-in-App t c = (parts (goal.at.next_value-overflow_sub-depth-in-App t c).In-App).1
+pub next_value-offset_bounds-deref-start : goal.next_value-offset_bounds-deref-start
+next_value-offset_bounds-deref-start t c =
+    let l = c.requires in
+    let sig = c.args.self.now in
+    let a = application_at c.args.bank.now c.args.value c.cell-sym.result.0 c.cell-sym.result.1.now l.0 c.cell-sym.ensures l.1 in
+    let q = application_is sig c.args.depth c.args.sort c.args.bound c.cell-sym.result.0 a.0 l.0 (in_contained _ _ l.2) a.1 in
+    let row = c.args.row.now.items in
+    let start_is : c.len-start.result ≡ length row = omega (arith, c.len-start.ensures, c.args.row.now.ok.0) in
+    let long = c.in_ok-extend_from_slice.ensures.items in
+    let i = c.info.result.now in
+    let at : info_of sig c.cell-sym.result.0 ≡ Some i = subst (λ g. info_of g c.cell-sym.result.0 ≡ Some i) c.self.view_is c.info.ensures in
+    let room = room_is sig c.args.bound c.min.result c.saturating_sub-room.result c.min.ensures c.saturating_sub-room.ensures in
+    let us = c.as_slice-sorts.result.now in
+    let listed = arguments_listed sig c.args.depth c.args.sort c.args.bound c.cell-sym.result.0 a.0 l.0 i us c.saturating_sub-room.result (in_contained _ _ l.2) a.1 at c.as_slice-sorts.ensures room in
+    let behind : drop c.len-start.result c.extend_from_slice.new.self.items ≡ c.cell-sym.result.1.now = ap (λ xs. drop c.len-start.result xs) long ∙ ap (λ n. drop n (row ++ c.cell-sym.result.1.now)) start_is ∙ drop_whole row c.cell-sym.result.1.now in
+    let stand : AreTerms c.args.bank.now (drop c.len-start.result c.extend_from_slice.new.self.items) (trees_of a.0) = subst (λ ps. AreTerms c.args.bank.now ps (trees_of a.0)) (sym behind) a.2 in
+    let kept : take c.len-start.result c.extend_from_slice.new.self.items ≡ row = cut_back row c.extend_from_slice.new.self.items c.cell-sym.result.1.now c.len-start.result long start_is in
+    let after = slice_get (rows_after sig (c.args.depth - 1) us c.saturating_sub-room.result a.0) 0 in
+    let moved = c.in_ok-advance.ensures.goes a.0 stand in
+    let w = goes_true c.advance.new.bank (take c.len-start.result c.extend_from_slice.new.self.items) after c.advance.new.row.items c.in_ok-advance.field-0 moved c.if-branch.true in
+    let row_is : c.advance.new.row.items ≡ row ++ w.places = w.row_is ∙ ap (λ xs. xs ++ w.places) kept in
+    let count : length c.advance.new.row.items ≡ length row + length w.places = ap (λ xs. length xs) row_is ∙ length-append row w.places in
+    omega (arith, count, start_is, ap (λ xs. length xs) c.deref.ensures.value, c.advance.new.row.ok.0)
+
+pub next_value-slice_bounds-add-count : goal.next_value-slice_bounds-add-count
+next_value-slice_bounds-add-count t c =
+    let l = c.requires in
+    let sig = c.args.self.now in
+    let a = application_at c.args.bank.now c.args.value c.cell-sym.result.0 c.cell-sym.result.1.now l.0 c.cell-sym.ensures l.1 in
+    let q = application_is sig c.args.depth c.args.sort c.args.bound c.cell-sym.result.0 a.0 l.0 (in_contained _ _ l.2) a.1 in
+    let row = c.args.row.now.items in
+    let start_is : c.len-start.result ≡ length row = omega (arith, c.len-start.ensures, c.args.row.now.ok.0) in
+    let long = c.in_ok-extend_from_slice.ensures.items in
+    let i = c.info.result.now in
+    let at : info_of sig c.cell-sym.result.0 ≡ Some i = subst (λ g. info_of g c.cell-sym.result.0 ≡ Some i) c.self.view_is c.info.ensures in
+    let room = room_is sig c.args.bound c.min.result c.saturating_sub-room.result c.min.ensures c.saturating_sub-room.ensures in
+    let us = c.as_slice-sorts.result.now in
+    let listed = arguments_listed sig c.args.depth c.args.sort c.args.bound c.cell-sym.result.0 a.0 l.0 i us c.saturating_sub-room.result (in_contained _ _ l.2) a.1 at c.as_slice-sorts.ensures room in
+    let behind : drop c.len-start.result c.extend_from_slice.new.self.items ≡ c.cell-sym.result.1.now = ap (λ xs. drop c.len-start.result xs) long ∙ ap (λ n. drop n (row ++ c.cell-sym.result.1.now)) start_is ∙ drop_whole row c.cell-sym.result.1.now in
+    let stand : AreTerms c.args.bank.now (drop c.len-start.result c.extend_from_slice.new.self.items) (trees_of a.0) = subst (λ ps. AreTerms c.args.bank.now ps (trees_of a.0)) (sym behind) a.2 in
+    let kept : take c.len-start.result c.extend_from_slice.new.self.items ≡ row = cut_back row c.extend_from_slice.new.self.items c.cell-sym.result.1.now c.len-start.result long start_is in
+    let after = slice_get (rows_after sig (c.args.depth - 1) us c.saturating_sub-room.result a.0) 0 in
+    let moved = c.in_ok-advance.ensures.goes a.0 stand in
+    let w = goes_true c.advance.new.bank (take c.len-start.result c.extend_from_slice.new.self.items) after c.advance.new.row.items c.in_ok-advance.field-0 moved c.if-branch.true in
+    let row_is : c.advance.new.row.items ≡ row ++ w.places = w.row_is ∙ ap (λ xs. xs ++ w.places) kept in
+    let count : length c.advance.new.row.items ≡ length row + length w.places = ap (λ xs. length xs) row_is ∙ length-append row w.places in
+    omega (arith, count, start_is, ap (λ xs. length xs) c.deref.ensures.value, c.advance.new.row.ok.0)
+
+pub next_value-slice_bounds-add-start : goal.next_value-slice_bounds-add-start
+next_value-slice_bounds-add-start t c =
+    let l = c.requires in
+    let sig = c.args.self.now in
+    let a = application_at c.args.bank.now c.args.value c.cell-sym.result.0 c.cell-sym.result.1.now l.0 c.cell-sym.ensures l.1 in
+    let q = application_is sig c.args.depth c.args.sort c.args.bound c.cell-sym.result.0 a.0 l.0 (in_contained _ _ l.2) a.1 in
+    let row = c.args.row.now.items in
+    let start_is : c.len-start.result ≡ length row = omega (arith, c.len-start.ensures, c.args.row.now.ok.0) in
+    let long = c.in_ok-extend_from_slice.ensures.items in
+    let i = c.info.result.now in
+    let at : info_of sig c.cell-sym.result.0 ≡ Some i = subst (λ g. info_of g c.cell-sym.result.0 ≡ Some i) c.self.view_is c.info.ensures in
+    let room = room_is sig c.args.bound c.min.result c.saturating_sub-room.result c.min.ensures c.saturating_sub-room.ensures in
+    let us = c.as_slice-sorts.result.now in
+    let listed = arguments_listed sig c.args.depth c.args.sort c.args.bound c.cell-sym.result.0 a.0 l.0 i us c.saturating_sub-room.result (in_contained _ _ l.2) a.1 at c.as_slice-sorts.ensures room in
+    let behind : drop c.len-start.result c.extend_from_slice.new.self.items ≡ c.cell-sym.result.1.now = ap (λ xs. drop c.len-start.result xs) long ∙ ap (λ n. drop n (row ++ c.cell-sym.result.1.now)) start_is ∙ drop_whole row c.cell-sym.result.1.now in
+    let stand : AreTerms c.args.bank.now (drop c.len-start.result c.extend_from_slice.new.self.items) (trees_of a.0) = subst (λ ps. AreTerms c.args.bank.now ps (trees_of a.0)) (sym behind) a.2 in
+    let kept : take c.len-start.result c.extend_from_slice.new.self.items ≡ row = cut_back row c.extend_from_slice.new.self.items c.cell-sym.result.1.now c.len-start.result long start_is in
+    let after = slice_get (rows_after sig (c.args.depth - 1) us c.saturating_sub-room.result a.0) 0 in
+    let moved = c.in_ok-advance.ensures.goes a.0 stand in
+    let w = goes_true c.advance.new.bank (take c.len-start.result c.extend_from_slice.new.self.items) after c.advance.new.row.items c.in_ok-advance.field-0 moved c.if-branch.true in
+    let row_is : c.advance.new.row.items ≡ row ++ w.places = w.row_is ∙ ap (λ xs. xs ++ w.places) kept in
+    let count : length c.advance.new.row.items ≡ length row + length w.places = ap (λ xs. length xs) row_is ∙ length-append row w.places in
+    omega (arith, count, start_is, ap (λ xs. length xs) c.deref.ensures.value, c.advance.new.row.ok.0)
+
+pub next_value-add-requires : goal.next_value-add-requires
+next_value-add-requires t c =
+    let l = c.requires in
+    let sig = c.args.self.now in
+    let a = application_at c.args.bank.now c.args.value c.cell-sym.result.0 c.cell-sym.result.1.now l.0 c.cell-sym.ensures l.1 in
+    let q = application_is sig c.args.depth c.args.sort c.args.bound c.cell-sym.result.0 a.0 l.0 (in_contained _ _ l.2) a.1 in
+    let row = c.args.row.now.items in
+    let start_is : c.len-start.result ≡ length row = omega (arith, c.len-start.ensures, c.args.row.now.ok.0) in
+    let long = c.in_ok-extend_from_slice.ensures.items in
+    let i = c.info.result.now in
+    let at : info_of sig c.cell-sym.result.0 ≡ Some i = subst (λ g. info_of g c.cell-sym.result.0 ≡ Some i) c.self.view_is c.info.ensures in
+    let room = room_is sig c.args.bound c.min.result c.saturating_sub-room.result c.min.ensures c.saturating_sub-room.ensures in
+    let us = c.as_slice-sorts.result.now in
+    let listed = arguments_listed sig c.args.depth c.args.sort c.args.bound c.cell-sym.result.0 a.0 l.0 i us c.saturating_sub-room.result (in_contained _ _ l.2) a.1 at c.as_slice-sorts.ensures room in
+    let behind : drop c.len-start.result c.extend_from_slice.new.self.items ≡ c.cell-sym.result.1.now = ap (λ xs. drop c.len-start.result xs) long ∙ ap (λ n. drop n (row ++ c.cell-sym.result.1.now)) start_is ∙ drop_whole row c.cell-sym.result.1.now in
+    let stand : AreTerms c.args.bank.now (drop c.len-start.result c.extend_from_slice.new.self.items) (trees_of a.0) = subst (λ ps. AreTerms c.args.bank.now ps (trees_of a.0)) (sym behind) a.2 in
+    let kept : take c.len-start.result c.extend_from_slice.new.self.items ≡ row = cut_back row c.extend_from_slice.new.self.items c.cell-sym.result.1.now c.len-start.result long start_is in
+    let after = slice_get (rows_after sig (c.args.depth - 1) us c.saturating_sub-room.result a.0) 0 in
+    let moved = c.in_ok-advance.ensures.goes a.0 stand in
+    let w = goes_true c.advance.new.bank (take c.len-start.result c.extend_from_slice.new.self.items) after c.advance.new.row.items c.in_ok-advance.field-0 moved c.if-branch.true in
+    let row_is : c.advance.new.row.items ≡ row ++ w.places = w.row_is ∙ ap (λ xs. xs ++ w.places) kept in
+    subst (λ ps. AreBelow (length c.advance.new.bank) ps) (sym (behind_row row c.advance.new.row.items w.places c.deref.result.now c.len-start.result row_is start_is c.deref.ensures.value)) (terms_within c.advance.new.bank w.places (trees_of w.values) w.stand)
+
+pub next_value-returns-then-branch-clause-placed : goal.next_value-returns-then-branch-clause-placed
+next_value-returns-then-branch-clause-placed t c =
+    let l = c.requires in
+    let sig = c.args.self.now in
+    let a = application_at c.args.bank.now c.args.value c.cell-sym.result.0 c.cell-sym.result.1.now l.0 c.cell-sym.ensures l.1 in
+    let q = application_is sig c.args.depth c.args.sort c.args.bound c.cell-sym.result.0 a.0 l.0 (in_contained _ _ l.2) a.1 in
+    let row = c.args.row.now.items in
+    let start_is : c.len-start.result ≡ length row = omega (arith, c.len-start.ensures, c.args.row.now.ok.0) in
+    let long = c.in_ok-extend_from_slice.ensures.items in
+    let i = c.info.result.now in
+    let at : info_of sig c.cell-sym.result.0 ≡ Some i = subst (λ g. info_of g c.cell-sym.result.0 ≡ Some i) c.self.view_is c.info.ensures in
+    let room = room_is sig c.args.bound c.min.result c.saturating_sub-room.result c.min.ensures c.saturating_sub-room.ensures in
+    let us = c.as_slice-sorts.result.now in
+    let listed = arguments_listed sig c.args.depth c.args.sort c.args.bound c.cell-sym.result.0 a.0 l.0 i us c.saturating_sub-room.result (in_contained _ _ l.2) a.1 at c.as_slice-sorts.ensures room in
+    let behind : drop c.len-start.result c.extend_from_slice.new.self.items ≡ c.cell-sym.result.1.now = ap (λ xs. drop c.len-start.result xs) long ∙ ap (λ n. drop n (row ++ c.cell-sym.result.1.now)) start_is ∙ drop_whole row c.cell-sym.result.1.now in
+    let stand : AreTerms c.args.bank.now (drop c.len-start.result c.extend_from_slice.new.self.items) (trees_of a.0) = subst (λ ps. AreTerms c.args.bank.now ps (trees_of a.0)) (sym behind) a.2 in
+    let kept : take c.len-start.result c.extend_from_slice.new.self.items ≡ row = cut_back row c.extend_from_slice.new.self.items c.cell-sym.result.1.now c.len-start.result long start_is in
+    let after = slice_get (rows_after sig (c.args.depth - 1) us c.saturating_sub-room.result a.0) 0 in
+    let moved = c.in_ok-advance.ensures.goes a.0 stand in
+    let w = goes_true c.advance.new.bank (take c.len-start.result c.extend_from_slice.new.self.items) after c.advance.new.row.items c.in_ok-advance.field-0 moved c.if-branch.true in
+    let row_is : c.advance.new.row.items ≡ row ++ w.places = w.row_is ∙ ap (λ xs. xs ++ w.places) kept in
+    let first = value_goes sig c.args.depth c.args.sort c.args.bound c.cell-sym.result.0 a.0 l.0 i us c.saturating_sub-room.result w.values (app c.cell-sym.result.0 (trees_of w.values)) q.0 a.1 at c.as_slice-sorts.ensures room w.is refl in
+    let term : IsTerm c.add.new.self c.in_ok-made.made (app c.cell-sym.result.0 (trees_of w.values)) = made_at c.advance.new.bank c.add.new.self _ w.places c.in_ok-made.made c.cell-sym.result.0 w.values (behind_row row c.advance.new.row.items w.places c.deref.result.now c.len-start.result row_is start_is c.deref.ensures.value) w.stand c.add.ensures.adds c.in_ok-made.ensures.found in
+    at_term c.args.bank.now c.args.value (λ v. IsPlaceOf c.add.new.self (slice_get (values_after sig c.args.depth c.args.sort c.args.bound v) 0) (Some c.in_ok-made.made)) l.0 l.1 (subst (λ v. IsPlaceOf c.add.new.self v (Some c.in_ok-made.made)) first term)
+
+pub next_value-returns-then-branch-clause-same : goal.next_value-returns-then-branch-clause-same
+next_value-returns-then-branch-clause-same t c =
+    let l = c.requires in
+    let sig = c.args.self.now in
+    let a = application_at c.args.bank.now c.args.value c.cell-sym.result.0 c.cell-sym.result.1.now l.0 c.cell-sym.ensures l.1 in
+    let q = application_is sig c.args.depth c.args.sort c.args.bound c.cell-sym.result.0 a.0 l.0 (in_contained _ _ l.2) a.1 in
+    let row = c.args.row.now.items in
+    let start_is : c.len-start.result ≡ length row = omega (arith, c.len-start.ensures, c.args.row.now.ok.0) in
+    let long = c.in_ok-extend_from_slice.ensures.items in
+    let i = c.info.result.now in
+    let at : info_of sig c.cell-sym.result.0 ≡ Some i = subst (λ g. info_of g c.cell-sym.result.0 ≡ Some i) c.self.view_is c.info.ensures in
+    let room = room_is sig c.args.bound c.min.result c.saturating_sub-room.result c.min.ensures c.saturating_sub-room.ensures in
+    let us = c.as_slice-sorts.result.now in
+    let listed = arguments_listed sig c.args.depth c.args.sort c.args.bound c.cell-sym.result.0 a.0 l.0 i us c.saturating_sub-room.result (in_contained _ _ l.2) a.1 at c.as_slice-sorts.ensures room in
+    let behind : drop c.len-start.result c.extend_from_slice.new.self.items ≡ c.cell-sym.result.1.now = ap (λ xs. drop c.len-start.result xs) long ∙ ap (λ n. drop n (row ++ c.cell-sym.result.1.now)) start_is ∙ drop_whole row c.cell-sym.result.1.now in
+    let stand : AreTerms c.args.bank.now (drop c.len-start.result c.extend_from_slice.new.self.items) (trees_of a.0) = subst (λ ps. AreTerms c.args.bank.now ps (trees_of a.0)) (sym behind) a.2 in
+    let kept : take c.len-start.result c.extend_from_slice.new.self.items ≡ row = cut_back row c.extend_from_slice.new.self.items c.cell-sym.result.1.now c.len-start.result long start_is in
+    let after = slice_get (rows_after sig (c.args.depth - 1) us c.saturating_sub-room.result a.0) 0 in
+    let moved = c.in_ok-advance.ensures.goes a.0 stand in
+    let w = goes_true c.advance.new.bank (take c.len-start.result c.extend_from_slice.new.self.items) after c.advance.new.row.items c.in_ok-advance.field-0 moved c.if-branch.true in
+    let row_is : c.advance.new.row.items ≡ row ++ w.places = w.row_is ∙ ap (λ xs. xs ++ w.places) kept in
+    c.truncate.ensures.items ∙ cut_back row c.advance.new.row.items w.places c.len-start.result row_is start_is
+
+pub next_value-overflow_sub-depth-2 : goal.next_value-overflow_sub-depth-2
+next_value-overflow_sub-depth-2 t c =
+    let l = c.requires in
+    let sig = c.args.self.now in
+    let a = application_at c.args.bank.now c.args.value c.cell-sym.result.0 c.cell-sym.result.1.now l.0 c.cell-sym.ensures l.1 in
+    let q = application_is sig c.args.depth c.args.sort c.args.bound c.cell-sym.result.0 a.0 l.0 (in_contained _ _ l.2) a.1 in
+    q.0
 
 pub next_value-overflow_add-sym : goal.next_value-overflow_add-sym
 next_value-overflow_add-sym t c =
-    let p = parts (goal.at.next_value-overflow_add-sym t c).In-App in
-    omega (arith, p.2, c.self.invariant.few, ap (λ (g : Sig). g.constructors) c.self.view_is)
-
-pub next_value-returns : goal.next_value-returns
-next_value-returns t c =
-    let p = parts (goal.at.next_value-returns t c).In-App in
-    let m = moved (goal.at.next_value-returns t c).After-into_vec-row in
-    let i = c.info.result.now in
+    let l = c.requires in
     let sig = c.args.self.now in
-    let w = goes_false [] (slice_get (rows_after sig (c.args.depth - 1) c.as_slice-sorts.result.now c.saturating_sub-room.result c.into_vec-row.result.items) 0) c.advance.new.row.items c.in_ok-advance-in-App.field-0 c.in_ok-advance-in-App.ensures c.if-branch.false in
-    let first : slice_get (rows_after sig (c.args.depth - 1) c.as_slice-sorts.result.now c.saturating_sub-room.result c.in-App.args) 0 ≡ None = ap (λ xs. slice_get (rows_after sig (c.args.depth - 1) c.as_slice-sorts.result.now c.saturating_sub-room.result xs) 0) (sym m.0) ∙ w.0 in
-    let e = value_ends sig c.args.depth c.args.sort c.args.bound c.in-App.sym.0 c.in-App.args c.args.value i c.as_slice-sorts.result.now c.saturating_sub-room.result p.1 p.0 m.1 c.as_slice-sorts.ensures m.2 first in
-    subst (λ x. IfOk c.first_made.result (λ r. r ≡ x)) e c.first_made.ensures
+    let a = application_at c.args.bank.now c.args.value c.cell-sym.result.0 c.cell-sym.result.1.now l.0 c.cell-sym.ensures l.1 in
+    let q = application_is sig c.args.depth c.args.sort c.args.bound c.cell-sym.result.0 a.0 l.0 (in_contained _ _ l.2) a.1 in
+    omega (arith, q.1, c.self.invariant.few, ap (λ (g : Sig). g.constructors) c.self.view_is)
+
+pub next_value-returns-clause-placed : goal.next_value-returns-clause-placed
+next_value-returns-clause-placed t c =
+    let l = c.requires in
+    let sig = c.args.self.now in
+    let a = application_at c.args.bank.now c.args.value c.cell-sym.result.0 c.cell-sym.result.1.now l.0 c.cell-sym.ensures l.1 in
+    let q = application_is sig c.args.depth c.args.sort c.args.bound c.cell-sym.result.0 a.0 l.0 (in_contained _ _ l.2) a.1 in
+    let row = c.args.row.now.items in
+    let start_is : c.len-start.result ≡ length row = omega (arith, c.len-start.ensures, c.args.row.now.ok.0) in
+    let long = c.in_ok-extend_from_slice.ensures.items in
+    let i = c.info.result.now in
+    let at : info_of sig c.cell-sym.result.0 ≡ Some i = subst (λ g. info_of g c.cell-sym.result.0 ≡ Some i) c.self.view_is c.info.ensures in
+    let room = room_is sig c.args.bound c.min.result c.saturating_sub-room.result c.min.ensures c.saturating_sub-room.ensures in
+    let us = c.as_slice-sorts.result.now in
+    let listed = arguments_listed sig c.args.depth c.args.sort c.args.bound c.cell-sym.result.0 a.0 l.0 i us c.saturating_sub-room.result (in_contained _ _ l.2) a.1 at c.as_slice-sorts.ensures room in
+    let behind : drop c.len-start.result c.extend_from_slice.new.self.items ≡ c.cell-sym.result.1.now = ap (λ xs. drop c.len-start.result xs) long ∙ ap (λ n. drop n (row ++ c.cell-sym.result.1.now)) start_is ∙ drop_whole row c.cell-sym.result.1.now in
+    let stand : AreTerms c.args.bank.now (drop c.len-start.result c.extend_from_slice.new.self.items) (trees_of a.0) = subst (λ ps. AreTerms c.args.bank.now ps (trees_of a.0)) (sym behind) a.2 in
+    let kept : take c.len-start.result c.extend_from_slice.new.self.items ≡ row = cut_back row c.extend_from_slice.new.self.items c.cell-sym.result.1.now c.len-start.result long start_is in
+    let after = slice_get (rows_after sig (c.args.depth - 1) us c.saturating_sub-room.result a.0) 0 in
+    let moved = c.in_ok-advance.ensures.goes a.0 stand in
+    let w = goes_false c.advance.new.bank (take c.len-start.result c.extend_from_slice.new.self.items) after c.advance.new.row.items c.in_ok-advance.field-0 moved c.if-branch.false in
+    let e = value_ends sig c.args.depth c.args.sort c.args.bound c.cell-sym.result.0 a.0 l.0 i us c.saturating_sub-room.result q.0 a.1 at c.as_slice-sorts.ensures room w.0 in
+    if_ok_map c.first_made.result _ _ (λ r h. at_term c.args.bank.now c.args.value (λ v. IsPlaceOf c.first_made.new.bank (slice_get (values_after sig c.args.depth c.args.sort c.args.bound v) 0) r) l.0 l.1 (subst (λ v. IsPlaceOf c.first_made.new.bank v r) e h)) c.first_made.ensures.placed
+
+pub next_value-returns-clause-same : goal.next_value-returns-clause-same
+next_value-returns-clause-same t c =
+    let l = c.requires in
+    let sig = c.args.self.now in
+    let a = application_at c.args.bank.now c.args.value c.cell-sym.result.0 c.cell-sym.result.1.now l.0 c.cell-sym.ensures l.1 in
+    let q = application_is sig c.args.depth c.args.sort c.args.bound c.cell-sym.result.0 a.0 l.0 (in_contained _ _ l.2) a.1 in
+    let row = c.args.row.now.items in
+    let start_is : c.len-start.result ≡ length row = omega (arith, c.len-start.ensures, c.args.row.now.ok.0) in
+    let long = c.in_ok-extend_from_slice.ensures.items in
+    let i = c.info.result.now in
+    let at : info_of sig c.cell-sym.result.0 ≡ Some i = subst (λ g. info_of g c.cell-sym.result.0 ≡ Some i) c.self.view_is c.info.ensures in
+    let room = room_is sig c.args.bound c.min.result c.saturating_sub-room.result c.min.ensures c.saturating_sub-room.ensures in
+    let us = c.as_slice-sorts.result.now in
+    let listed = arguments_listed sig c.args.depth c.args.sort c.args.bound c.cell-sym.result.0 a.0 l.0 i us c.saturating_sub-room.result (in_contained _ _ l.2) a.1 at c.as_slice-sorts.ensures room in
+    let behind : drop c.len-start.result c.extend_from_slice.new.self.items ≡ c.cell-sym.result.1.now = ap (λ xs. drop c.len-start.result xs) long ∙ ap (λ n. drop n (row ++ c.cell-sym.result.1.now)) start_is ∙ drop_whole row c.cell-sym.result.1.now in
+    let stand : AreTerms c.args.bank.now (drop c.len-start.result c.extend_from_slice.new.self.items) (trees_of a.0) = subst (λ ps. AreTerms c.args.bank.now ps (trees_of a.0)) (sym behind) a.2 in
+    let kept : take c.len-start.result c.extend_from_slice.new.self.items ≡ row = cut_back row c.extend_from_slice.new.self.items c.cell-sym.result.1.now c.len-start.result long start_is in
+    let after = slice_get (rows_after sig (c.args.depth - 1) us c.saturating_sub-room.result a.0) 0 in
+    let moved = c.in_ok-advance.ensures.goes a.0 stand in
+    let w = goes_false c.advance.new.bank (take c.len-start.result c.extend_from_slice.new.self.items) after c.advance.new.row.items c.in_ok-advance.field-0 moved c.if-branch.false in
+    on_ok_map c.first_made.result _ _ (λ h. h ∙ w.1 ∙ kept) c.first_made.ensures.same
