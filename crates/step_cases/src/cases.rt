@@ -1,0 +1,33 @@
+//! What is asked in a case.
+ghost use Rattle.spec_core.specs.WellSorted.{IsWellSorted};
+
+use crate::{nodes, normal_cases};
+use anyhow::{Result, bail};
+use spec_core::Spec;
+use std::alloc::Global;
+
+/// Whether the case comes out as it is written. It is one of these:
+///
+/// - `GOAL STEP -> ANSWER`, at the goal's clause, where no goal may be used
+/// - `GOAL by NAME,NAME : STEP -> ANSWER`, where these goals may be used
+/// - `normalize GOAL BUDGET -> TERM PLACE@RULE ..`, of the left side of the goal's first conclusion,
+///   where `@RULE` is a use at the root, or `spent`
+pub fn holds(alloc: Global, spec: &Spec, words: &[&str]) -> Result<bool>
+    requires fine { IsWellSorted spec.now }
+{
+    let Some(arrow) = words.iter().position(|word| *word == "->") else {
+        bail!("a case has no answer");
+    };
+    let (asked, answer) = words.split_at(arrow);
+    let Some((_, answer)) = answer.split_first() else {
+        bail!("a case has no answer");
+    };
+    match asked {
+        ["normalize", goal, budget] => normal_cases::holds(alloc, spec, goal, budget, answer),
+        [goal, "by", lemmas, ":", step @ ..] => nodes::holds(
+            alloc, spec, goal, lemmas, step, answer,
+        ),
+        [goal, step @ ..] => nodes::holds(alloc, spec, goal, "", step, answer),
+        [] => bail!("a case asks nothing"),
+    }
+}
