@@ -49,9 +49,10 @@ pub(crate) fn case_child(
     let Some(made) = rewritten(alloc, clause, place, theta, &rule.right)? else {
         return Ok(None);
     };
-    let Some(premises) = with_guards(alloc, made.premises, theta, rule.guards.as_slice())? else {
+    let Some(guards) = guard_equations(alloc, theta, rule.guards.as_slice())? else {
         return Ok(None);
     };
+    let premises = joined(made.premises, guards)?;
     let split = Clause {
         ctx: made.ctx,
         premises,
@@ -60,19 +61,18 @@ pub(crate) fn case_child(
     tidied_within(alloc, &split)
 }
 
-/// The equations and behind them each guard's instance, equated to the constant that it wants, or
-/// None where one of these alone has more symbols than a clause in a proof.
-fn with_guards(
+/// Each guard's instance, equated to the constant that it wants, or None where one of these alone
+/// has more symbols than a clause in a proof.
+fn guard_equations(
     alloc: Global,
-    equations: Seq<Equation>,
     theta: &Subst,
     guards: &[Guard],
 ) -> Result<Option<Seq<Equation>>, OutOfMemory>
     ensures { IfOk result (λ answer. MatchOption answer
         (4000 < sizes (trees_of (sides_of (map (applied_guard theta.now.terms) guards.now))))
-        (λ made. made ≡ equations ++ map (applied_guard theta.now.terms) guards.now)) }
+        (λ made. made ≡ map (applied_guard theta.now.terms) guards.now)) }
 {
-    let mut made = equations;
+    let mut made = Seq::new(alloc);
     for guard in guards {
         let Some(left) = small_instance(alloc, &guard.test, theta)? else {
             return Ok(None);
@@ -81,6 +81,16 @@ fn with_guards(
         made.push(Equation { left, right })?;
     }
     Ok(Some(made))
+}
+
+/// The equations of both lists, those of the first one in front.
+fn joined(first: Seq<Equation>, second: Seq<Equation>) -> Result<Seq<Equation>, OutOfMemory>
+    ensures { IfOk result (λ made. made ≡ first ++ second) }
+{
+    let mut made = first.into_vec();
+    let mut behind = second.into_vec();
+    made.append(&mut behind)?;
+    Ok(Seq::from_vec(made))
 }
 
 /// The clause, tidied, or None where it passes the limits of clauses.

@@ -1,7 +1,7 @@
 use Rattle.std.proofs.Common.{arith}
 use Rattle.cond_rewrite.proofs.Answered.{at_none}
 use Rattle.cond_rewrite.proofs.Sizes.{guard_size}
-use Rattle.cond_rewrite.proofs.children.with_guards.Goals as goal
+use Rattle.cond_rewrite.proofs.children.guard_equations.Goals as goal
 
 pub returns-in_default : goal.returns-in_default
 returns-in_default c =
