@@ -1,5 +1,5 @@
 -- Where a test has its answer, the rule that goes on does so with the first slots.
-use Rattle.std.proofs.Common.{◌≡◌, ℕ, zero, suc, ◌+◌, ◌<◌, ◌≤◌, List, [], ◌∷◌, ◌++◌, Option, Some, None, refl, ap, sym, ◌∙◌, subst, arith, length, length-drop, take, drop, get_or}
+use Rattle.std.proofs.Common.{◌≡◌, ℕ, zero, suc, ◌+◌, ◌-◌, ◌<◌, ◌≤◌, List, [], ◌∷◌, ◌++◌, Option, Some, None, refl, ap, sym, ◌∙◌, subst, arith, length, length-drop, take, drop, get_or}
 use Rattle.std.specs.Prelude.{slice_get, reverse}
 use Rattle.std.specs.Global.{Vec}
 use Rattle.std.specs.List.{AllByRecursion}
@@ -22,6 +22,7 @@ use Rattle.bank_machine.specs.Code.{decide, entries}
 use Rattle.bank_machine.specs.Compiled.{Fills, IsNext}
 use Rattle.bank_machine.specs.Homes.{AreOwnHomes}
 use Rattle.bank_machine.specs.Instructions.{ends, IsCodeAt}
+use Rattle.bank_machine.specs.Owed.{Owes, Pays}
 use Rattle.bank_machine.specs.Programs.{Program, IsProgram}
 use Rattle.bank_machine.specs.Ranged.{AreThere}
 use Rattle.bank_machine.specs.RuleCodes.{IsRuleCode}
@@ -37,7 +38,8 @@ use Rattle.bank_machine.proofs.Moving.{none_goes_nothing}
 use Rattle.bank_machine.proofs.Pending.{entries_kept}
 use Rattle.bank_machine.proofs.Ranges.{item_listed}
 use Rattle.bank_machine.proofs.Slots.{slot_kept}
-use Rattle.bank_machine.proofs.StackMoves.{end_is, end_ranged}
+use Rattle.bank_machine.proofs.Owing.{does_right, owes_on}
+use Rattle.bank_machine.proofs.StackMoves.{end_is, end_ranged, end_pays}
 use Rattle.bank_machine.proofs.Stacked.{waits_above, take_take, length_take}
 use Rattle.bank_machine.proofs.Testing.{slot_there, slot_within, slot_term, terms_count, trees_list}
 
@@ -89,7 +91,7 @@ module _ (p : Program) (old : List Cell) (before : Stack) (s : State) (sort : So
 
       -- no rule goes on
       pub none_follows : (left : ℕ) (after : Stack) (new : List Cell) → IsFollowerOn p.spec.rules asked_rule.rule k (instance s.top.env (var i)) None → Turns p new left after s Stuck
-      none_follows left after new f v n g le =
+      none_follows left after new f apart all v n g le =
           let stuck : NoneGoesIn p.spec s.top.env [] (decide i number k homes) = λ rule next other at at' l on.
           let same : rule ≡ asked_rule.rule = some_same (slice_get p.spec.rules number) rule asked_rule.rule at asked_rule.listed in
           f other next at' (l ∙ ap (λ (r : Rule). r.left) same) (subst (λ (r : Rule). GoesOn k (instance s.top.env (var i)) r.guards next.guards) same on) in
@@ -166,8 +168,8 @@ module _ (p : Program) (old : List Cell) (before : Stack) (s : State) (sort : So
           }
 
           -- the rule goes on
-          pub followed : (left place : ℕ) (after : Stack) → place ≡ next_block.place → after ≡ stack (take (before.base + one.left.width) before.places) before.base place before.waiting → Turns p old left after s Moved
-          followed left place after at is =
+          pub followed : (left place : ℕ) (after : Stack) → place ≡ next_block.place → after ≡ stack (take (before.base + one.left.width) before.places) before.base place before.waiting → Pays p left before s → Turns p old left after s (Moved 0)
+          followed left place after at is pays =
               let b = next_block in
               let one_more : k + 1 ≡ suc k = omega arith in
               let width : two.left.width ≡ length (take one.left.width s.top.env) = sym next_width ∙ sym first_count in
@@ -197,4 +199,5 @@ module _ (p : Program) (old : List Cell) (before : Stack) (s : State) (sort : So
                 code = subst (λ z. IsCodeAt p.code z b.steps b.end) (sym at) b.there;
                 waits = waits_above old (IsCodeAt p.code) before.places (take (before.base + one.left.width) before.places) before.base (reverse before.waiting) s.waiting same w.at.waits;
               } in
-              (go, subst (λ z. Moves p.spec z 0 go) (sym (end_is p old before s sort w (decide i number k homes) there)) (decides entered follows), subst (λ z. IsAt p.code old z go) (sym is) stands)
+              let owed : Owes p.spec p.code entered (left - 0) (reverse before.waiting) s.waiting = owes_on p.spec p.code (frame s.top.env [] (decide i number k homes)) entered 0 left (left - 0) (reverse before.waiting) s.waiting (omega arith) (does_right p.spec (frame s.top.env [] (decide i number k homes)) entered 0 fine (decides entered follows)) (end_pays p old before s sort w (decide i number k homes) there left pays) in
+              (omega arith, (go, subst (λ z. Moves p.spec z 0 go) (sym (end_is p old before s sort w (decide i number k homes) there)) (decides entered follows), subst (λ z. IsAt p.code old z go) (sym is) stands, subst (λ z. Pays p (left - 0) z go) (sym is) owed))

@@ -1,7 +1,7 @@
 -- The moves that are left fall at each move.
 use Rattle.std.proofs.Common.{◌≡◌, inl, inr, ℕ, zero, suc, ◌+◌, ◌*◌, ◌-◌, ◌<◌, ◌≤◌, List, [], ◌∷◌, Some, None, refl, ap, ◌∙◌, arith, length, drop}
 use Rattle.std.specs.Prelude.{slice_get, reverse}
-use Rattle.std.proofs.Math.Nat.{suc-mul}
+use Rattle.std.proofs.Math.Nat.{suc-mul, mul-le-mul_right}
 use Rattle.std.proofs.lemmas.Option.{slice_get_within}
 use Rattle.term_core.proofs.Items.{drop_here}
 use Rattle.spec_core.specs.Sig.{Sig}
@@ -100,12 +100,11 @@ module _ (p : Program) where
   stack_is cells stack s at = omega (arith, block_is (most_guards p.spec.rules) (suc (length p.code)) p.code stack.next s.top.steps s.top.end at.code, frames_are (most_guards p.spec.rules) (suc (length p.code)) p.code cells stack.places stack.base (reverse stack.waiting) s.waiting at.waits)
 
   -- the fuel falls where the machine moves
-  pub moved_falls : (old new : List Cell) (before after : Stack) (s next : State) (left : ℕ) → IsAt p.code old before s → IsAt p.code new after next → Moves p.spec s 0 next → fuel p after left < fuel p before left
-  moved_falls old new before after s next left a b m = omega (arith, stack_is old before s a, stack_is new after next b, (state_falls new after m b).0 refl)
-
-  -- and where a rule is used
-  pub used_falls : (old new : List Cell) (before after : Stack) (s next : State) (left : ℕ) → 0 < left → IsAt p.code old before s → IsAt p.code new after next → Moves p.spec s 1 next → fuel p after (left - 1) < fuel p before left
-  used_falls old new before after s next left some' a b m =
-      let z : left ≡ suc (left - 1) = omega (arith, some') in
-      let t : left * call_moves p ≡ (left - 1) * call_moves p + call_moves p = ap (λ n. n * call_moves p) z ∙ suc-mul (left - 1) (call_moves p) in
-      omega (arith, t, stack_is old before s a, stack_is new after next b, (state_falls new after m b).1)
+  pub move_falls : (old new : List Cell) (before after : Stack) (s next : State) (left c : ℕ) → c ≤ left → IsAt p.code old before s → IsAt p.code new after next → Moves p.spec s c next → fuel p after (left - c) < fuel p before left
+  move_falls old new before after s next left zero le a b m =
+      let z : left - 0 ≡ left = omega arith in
+      let t : (left - 0) * call_moves p ≡ left * call_moves p = ap (λ n. n * call_moves p) z in
+      omega (arith, t, stack_is old before s a, stack_is new after next b, (state_falls new after m b).0 refl)
+  move_falls old new before after s next left (suc c) le a b m =
+      let t : suc (left - suc c) * call_moves p ≤ left * call_moves p = mul-le-mul_right (call_moves p) (omega (arith, le)) in
+      omega (arith, t, suc-mul (left - suc c) (call_moves p), stack_is old before s a, stack_is new after next b, (state_falls new after m b).1)

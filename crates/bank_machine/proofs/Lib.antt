@@ -7,6 +7,7 @@ mod Bodies
 mod Pending
 mod Moving
 mod Matches
+mod Owing
 mod Running
 mod Fitting
 mod Kept
@@ -16,6 +17,7 @@ pub mod Homes
 pub mod Placed
 pub mod Ranges
 mod RuleIndex
+mod RightCalls
 mod Numbers
 mod Grown
 mod Ranging

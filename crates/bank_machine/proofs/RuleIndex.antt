@@ -11,12 +11,12 @@ use Rattle.bank_machine.specs.Heads.{has_head}
 use Rattle.bank_machine.specs.Index.{numbers_of, IsEntry, IsIndexOf, AddsNumber}
 use Rattle.term_core.proofs.Numbers.{same_or_not}
 
-set_same : {X : Type 0} (xs : List X) (f : ℕ) (x : X) → f < length xs → slice_get (set xs f x) f ≡ Some x
+pub set_same : {X : Type 0} (xs : List X) (f : ℕ) (x : X) → f < length xs → slice_get (set xs f x) f ≡ Some x
 set_same [] f x h = absurd (omega arith)
 set_same (y ∷ ys) zero x h = refl
 set_same (y ∷ ys) (suc f) x h = set_same ys f x (omega arith)
 
-set_other : {X : Type 0} (xs : List X) (f g : ℕ) (x : X) → g ≢ f → slice_get (set xs f x) g ≡ slice_get xs g
+pub set_other : {X : Type 0} (xs : List X) (f g : ℕ) (x : X) → g ≢ f → slice_get (set xs f x) g ≡ slice_get xs g
 set_other [] f g x h = refl
 set_other (y ∷ ys) zero zero x h = absurd (h refl)
 set_other (y ∷ ys) zero (suc g) x h = refl
@@ -44,7 +44,7 @@ none_adds old f number h =
       others = λ g numbers n e. e;
     }
 
-at_end : {X : Type 0} (xs : List X) (x y : X) (f : ℕ) → slice_get (xs ++ x ∷ []) f ≡ Some y → (slice_get xs f ≡ Some y) ⊎ (x ≡ y)
+pub at_end : {X : Type 0} (xs : List X) (x y : X) (f : ℕ) → slice_get (xs ++ x ∷ []) f ≡ Some y → (slice_get xs f ≡ Some y) ⊎ (x ≡ y)
 at_end [] x y zero e = inr (let q : Some x ≡ Some y = e in cc)
 at_end [] x y (suc f) e = absurd (let q : None ≡ Some y = e in cc)
 at_end (z ∷ xs) x y zero e = inl e

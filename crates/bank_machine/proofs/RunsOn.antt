@@ -6,16 +6,17 @@ use Rattle.spec_core.specs.WellSorted.{IsWellSorted}
 use Rattle.value_bank.specs.Cells.{Cell, IsTerm}
 use Rattle.value_bank.specs.declared.bank.ValueId.{ValueId}
 use Rattle.bank_machine.specs.declared.answers.BankEval.TheVariants.{Value, Spent}
-use Rattle.bank_machine.specs.declared.turns.Turn.TheVariants.{Moved, Used, Done, Stuck}
+use Rattle.bank_machine.specs.declared.turns.Turn.TheVariants.{Moved, Done, Stuck}
 use Rattle.bank_machine.specs.Code.{slot}
 use Rattle.bank_machine.specs.Fuel.{fuel}
+use Rattle.bank_machine.specs.Owed.{Pays}
 use Rattle.bank_machine.specs.Programs.{Program}
 use Rattle.bank_machine.specs.Runs.{Ran}
 use Rattle.bank_machine.specs.Stacks.{Stack, IsAt}
 use Rattle.bank_machine.specs.States.{State, state, Moves, Runs, stays, then}
 use Rattle.bank_machine.specs.Turns.{Works, Turns}
 use Rattle.bank_machine.proofs.Fitting.{moves_sound}
-use Rattle.bank_machine.proofs.Fuelled.{moved_falls, used_falls}
+use Rattle.bank_machine.proofs.Fuelled.{move_falls}
 use Rattle.bank_machine.proofs.Ranging.{move_ranged}
 
 -- how far a run has come from a state that the stack stood for
@@ -24,29 +25,24 @@ pub record HasRun (p : Program) (cells : List Cell) (stack : Stack) (from : Stat
   pub cost : ℕ
   pub ran : Runs p.spec from cost now
   pub works : Works p cells stack now sort
+  pub pays : Pays p left stack now
   pub paid : cost + left ≡ budget
 
 abbrev pub HaveRun : Program → List Cell → List Cell → Stack → Stack → ℕ → ℕ → Type 0
-HaveRun p old cells start stack budget left = (s : State) (sort : SortId) → Works p old start s sort → HasRun p cells stack s sort budget left
+HaveRun p old cells start stack budget left = (s : State) (sort : SortId) → Works p old start s sort → Pays p budget start s → HasRun p cells stack s sort budget left
 
 pub run_begins : (p : Program) (cells : List Cell) (stack : Stack) (budget left : ℕ) → left ≡ budget → HaveRun p cells cells stack stack budget left
-run_begins p cells stack budget left e s sort w = record { now = s; cost = 0; ran = stays; works = w; paid = omega (arith, e) }
+run_begins p cells stack budget left e s sort w pays = record { now = s; cost = 0; ran = stays; works = w; pays = subst (λ n. Pays p n stack s) (sym e) pays; paid = omega (arith, e) }
 
 module _ (p : Program) (fine : IsWellSorted p.spec) (cells new : List Cell) (stack after : Stack) (from : State) (sort : SortId) (budget left : ℕ) (h : HasRun p cells stack from sort budget left) where
   still_works : {next : State} {c : ℕ} → Moves p.spec h.now c next → IsAt p.code new after next → Works p new after next sort
   still_works {next} {c} m at = record { at = at; sound = moves_sound p.spec h.now next c sort fine m h.works.sound; ranged = move_ranged p.spec m h.works.ranged }
 
-  pub run_moves : Turns p new left after h.now Moved → HasRun p new after from sort budget left
-  run_moves t = record { now = t.0; cost = h.cost; ran = then h.ran t.1 (omega arith); works = still_works t.1 t.2; paid = h.paid }
+  pub run_moves : (c : ℕ) → Turns p new left after h.now (Moved c) → HasRun p new after from sort budget (left - c)
+  run_moves c t = record { now = t.1.0; cost = h.cost + c; ran = then h.ran t.1.1 refl; works = still_works t.1.1 t.1.2; pays = t.1.3; paid = omega (arith, h.paid, t.0) }
 
-  pub run_uses : Turns p new left after h.now Used → HasRun p new after from sort budget (left - 1)
-  run_uses t = record { now = t.1.0; cost = h.cost + 1; ran = then h.ran t.1.1 refl; works = still_works t.1.1 t.1.2; paid = omega (arith, h.paid, t.0) }
-
-  pub moves_fall : Turns p new left after h.now Moved → fuel p after left < fuel p stack left
-  moves_fall t = moved_falls p cells new stack after h.now t.0 left h.works.at t.2 t.1
-
-  pub uses_fall : Turns p new left after h.now Used → fuel p after (left - 1) < fuel p stack left
-  uses_fall t = used_falls p cells new stack after h.now t.1.0 left t.0 h.works.at t.1.2 t.1.1
+  pub moves_fall : (c : ℕ) → Turns p new left after h.now (Moved c) → fuel p after (left - c) < fuel p stack left
+  moves_fall c t = move_falls p cells new stack after h.now t.1.0 left c t.0 h.works.at t.1.2 t.1.1
 
   pub run_ends : (id : ValueId) (steps place : ℕ) → id.0 ≡ place → steps ≡ budget - left → Turns p new left after h.now (Done place) → Ran p.spec new from budget (Value id steps)
   run_ends id steps place e k (env, i, is, term) =

@@ -1,26 +1,32 @@
 -- What each instruction does to the stack is a move of the state that it stands for.
-use Rattle.std.proofs.Common.{◌≡◌, ℕ, zero, suc, ◌+◌, ◌<◌, ◌≤◌, List, [], ◌∷◌, ◌++◌, Some, None, true, false, refl, ap, sym, ◌∙◌, subst, arith, length, length-append, append_assoc, take, drop, get_or}
+use Rattle.std.proofs.Common.{◌≡◌, ℕ, zero, suc, ◌+◌, ◌-◌, ◌<◌, ◌≤◌, List, [], ◌∷◌, ◌++◌, Some, None, refl, ap, sym, ◌∙◌, subst, arith, length, length-append, append_assoc, take, drop, get_or}
 use Rattle.std.specs.Prelude.{slice_get, reverse}
 use Rattle.std.specs.List.{AllByRecursion}
 use Rattle.std.proofs.lemmas.List.{reverse-append, take-append-le}
 use Rattle.term_core.proofs.Items.{taken_next}
 use Rattle.term_core.specs.Tree.{Tree, var, app, some, instance, trees_of}
 use Rattle.term_core.specs.declared.ids.SortId.{SortId}
+use Rattle.spec_core.specs.Gives.{Gives}
 use Rattle.spec_core.specs.WellSorted.{IsWellSorted}
 use Rattle.value_bank.specs.Cells.{Cell, cell, IsTerm, AreTerms, AddsCells}
-use Rattle.value_bank.proofs.Terms.{terms_kept}
-use Rattle.bank_machine.specs.declared.turns.Turn.TheVariants.{Moved, Used, Done, Stuck}
+use Rattle.value_bank.proofs.Terms.{one_terms, terms_kept}
+use Rattle.bank_machine.specs.declared.kept_calls.Known.{Known}
+use Rattle.bank_machine.specs.declared.turns.Turn.TheVariants.{Moved, Done, Stuck}
 use Rattle.bank_machine.specs.Code.{Step, build, call, End, slot, last, slots, entries}
 use Rattle.bank_machine.specs.Instructions.{Instruction, does, ends, IsCodeAt}
 use Rattle.bank_machine.specs.Calls.{IsCallAt, IsFound}
+use Rattle.bank_machine.specs.KeptCalls.{IsRight}
+use Rattle.bank_machine.specs.Owed.{IsOwed, Owes, Pays, HasCalled}
 use Rattle.bank_machine.specs.Programs.{Program}
 use Rattle.bank_machine.specs.Ranged.{AreThere, IsRanged, IsRangedEnd}
 use Rattle.bank_machine.specs.Sound.{IsReady}
 use Rattle.bank_machine.specs.Stacks.{Stack, stack, held, gathered, Waits, Stands, IsAt, IsReturned}
-use Rattle.bank_machine.specs.States.{Frame, frame, State, state, Moves, builds, enters, enters_last, returns, Enters, CallsIn, CallsNext}
+use Rattle.bank_machine.specs.States.{Frame, frame, State, state, Moves, builds, enters, enters_last, returns, recalls, Enters, CallsIn, CallsNext}
 use Rattle.bank_machine.specs.Turns.{Works, Turns}
 use Rattle.bank_machine.proofs.Matches.{some_same}
-use Rattle.bank_machine.proofs.Moving.{call_next_costs, no_match_nothing}
+use Rattle.bank_machine.proofs.Moving.{call_next_costs, no_match_nothing, move_whole}
+use Rattle.bank_machine.proofs.Owing.{does_right, owes_on, owes_entered, owes_returned, call_gives}
+use Rattle.bank_machine.proofs.Slots.{slots_kept, slots_less}
 use Rattle.bank_machine.proofs.Fitting.{sound_ready}
 use Rattle.bank_machine.proofs.Stacked.{slot_added, frame_returned, stands_kept, waits_above, take_whole, drop_whole, length_take}
 use Rattle.bank_machine.proofs.Testing.{slot_term, slot_there, slot_within}
@@ -93,6 +99,9 @@ module _ (p : Program) (old : List Cell) (before : Stack) (s : State) (sort : So
     ranged : IsRanged p.spec.rules (length s.top.env) (st ∷ next.rest) s.top.end
     ranged = subst (λ steps. IsRanged p.spec.rules (length s.top.env) steps s.top.end) next.is w.ranged.top
 
+    step_pays : (left : ℕ) → Pays p left before s → Owes p.spec p.code (frame s.top.env (st ∷ next.rest) s.top.end) left (reverse before.waiting) s.waiting
+    step_pays left pays = subst (λ steps. Owes p.spec p.code (frame s.top.env steps s.top.end) left (reverse before.waiting) s.waiting) next.is pays
+
   -- where an end is next
   module _ (e : End) (there : slice_get p.code before.next ≡ Some (ends e)) where
     at_end : (s.top.steps ≡ []) × (s.top.end ≡ e)
@@ -104,6 +113,9 @@ module _ (p : Program) (old : List Cell) (before : Stack) (s : State) (sort : So
     pub end_ranged : IsRangedEnd p.spec.rules (length s.top.env) e
     end_ranged = subst (λ z. IsRangedEnd p.spec.rules (length s.top.env) z) at_end.1 (subst (λ steps. IsRanged p.spec.rules (length s.top.env) steps s.top.end) at_end.0 w.ranged.top)
 
+    pub end_pays : (left : ℕ) → Pays p left before s → Owes p.spec p.code (frame s.top.env [] e) left (reverse before.waiting) s.waiting
+    end_pays left pays = subst (λ (z : State). Owes p.spec p.code z.top left (reverse before.waiting) s.waiting) end_is pays
+
   -- a constructor is built
   pub build_slots : (f : ℕ) (ss : List ℕ) → slice_get p.code before.next ≡ Some (does (build f ss)) → AllByRecursion (λ (i : ℕ). before.base + i < length before.places) ss
   build_slots f ss there = slots_in old before.places before.base s.top.env w.at.slots w.at.within ss (ranged (build f ss) there).0
@@ -111,8 +123,8 @@ module _ (p : Program) (old : List Cell) (before : Stack) (s : State) (sort : So
   pub build_args : (f : ℕ) (ss : List ℕ) → slice_get p.code before.next ≡ Some (does (build f ss)) → AreTerms old (gathered before.places before.base ss) (slots s.top.env ss)
   build_args f ss there = gathered_terms old before.places before.base s.top.env w.at.slots ss (ranged (build f ss) there).0
 
-  pub built : (f : ℕ) (ss : List ℕ) → slice_get p.code before.next ≡ Some (does (build f ss)) → (new : List Cell) (args : List ℕ) (place : ℕ) (after : Stack) (left : ℕ) → AddsCells old new → args ≡ gathered before.places before.base ss → slice_get new place ≡ Some (cell f args) → after ≡ stack (before.places ++ place ∷ []) before.base (before.next + 1) before.waiting → Turns p new left after s Moved
-  built f ss there new args place after left adds a at e =
+  pub built : IsWellSorted p.spec → (f : ℕ) (ss : List ℕ) → slice_get p.code before.next ≡ Some (does (build f ss)) → (new : List Cell) (args : List ℕ) (place : ℕ) (after : Stack) (left : ℕ) → AddsCells old new → args ≡ gathered before.places before.base ss → slice_get new place ≡ Some (cell f args) → after ≡ stack (before.places ++ place ∷ []) before.base (before.next + 1) before.waiting → Pays p left before s → Turns p new left after s (Moved 0)
+  built fine f ss there new args place after left adds a at e pays =
       let env = s.top.env in
       let n = next (build f ss) there in
       let terms : AreTerms new args (slots env ss) = terms_kept old new args (slots env ss) adds (subst (λ z. AreTerms old z (slots env ss)) (sym a) (build_args f ss there)) in
@@ -121,7 +133,8 @@ module _ (p : Program) (old : List Cell) (before : Stack) (s : State) (sort : So
       let one : before.next + 1 ≡ suc before.next = omega arith in
       let code : IsCodeAt p.code (before.next + 1) n.rest s.top.end = subst (λ k. IsCodeAt p.code k n.rest s.top.end) (sym one) n.goes in
       let stands = slot_added new (IsCodeAt p.code) before.places before.base before.next (before.next + 1) place (reverse before.waiting) env s.top.steps n.rest s.top.end s.top.end s.waiting (app f (slots env ss)) (stands_kept old new (IsCodeAt p.code) before.places before.base before.next (reverse before.waiting) s adds w.at) value code in
-      (to, subst (λ z. Moves p.spec z 0 to) (sym (now_is (build f ss) there)) builds, subst (λ z. IsAt p.code new z to) (sym e) stands)
+      let owed : Owes p.spec p.code to.top (left - 0) (reverse before.waiting) s.waiting = owes_on p.spec p.code (frame env (build f ss ∷ n.rest) s.top.end) to.top 0 left (left - 0) (reverse before.waiting) s.waiting (omega arith) (does_right p.spec (frame env (build f ss ∷ n.rest) s.top.end) to.top 0 fine builds) (step_pays (build f ss) there left pays) in
+      (omega arith, (to, subst (λ z. Moves p.spec z 0 to) (sym (now_is (build f ss) there)) builds, subst (λ z. IsAt p.code new z to) (sym e) stands, subst (λ z. Pays p (left - 0) z to) (sym e) owed))
 
   slots_there : (ss : List ℕ) → AreThere (length s.top.env) ss → AllByRecursion (λ (i : ℕ). before.base + i < length before.places) ss
   slots_there = slots_in old before.places before.base s.top.env w.at.slots w.at.within
@@ -139,10 +152,10 @@ module _ (p : Program) (old : List Cell) (before : Stack) (s : State) (sort : So
     ready_args = subst (λ vs. IsReady p.spec f vs ready.0) (sym (slots_listed s.top.env ss)) ready.1
 
     pub none_left : (left : ℕ) → left ≡ 0 → (after : Stack) (new : List Cell) → Turns p new left after s Stuck
-    none_left left e after new v n g le = omega (arith, e, le, call_next_costs p.spec s f (slots s.top.env ss) v n fine ready.1.function calls g)
+    none_left left e after new apart whole v n g le = omega (arith, e, le, call_next_costs p.spec s f (slots s.top.env ss) v n fine ready.1.function calls g)
 
     pub no_rule : (base : ℕ) (from to : List ℕ) → AreTerms old (drop base from) (trees_of (entries s.top.env ss)) → IsFound p old f base from to None → (left : ℕ) (after : Stack) (new : List Cell) → Turns p new left after s Stuck
-    no_rule base from to terms found left after new v n g le =
+    no_rule base from to terms found left after new apart whole v n g le =
         no_match_nothing p.spec s f (slots s.top.env ss) v n fine ready.1.function ready.1.built
         (λ k rule xs at is. found.by (entries s.top.env ss) ready.0 terms ready_args k rule xs at (is ∙ ap (λ z. app f z) (sym (slots_listed s.top.env ss)))) calls g
 
@@ -175,7 +188,41 @@ module _ (p : Program) (old : List Cell) (before : Stack) (s : State) (sort : So
     pub call_slots : AllByRecursion (λ (i : ℕ). before.base + i < length before.places) ss
     call_slots = slots_there ss (ranged (call f ss) there).0
 
-    module _ (args : List ℕ) (a : args ≡ gathered before.places before.base ss) (mid : Stack) (m : mid ≡ stack (before.places ++ args) (length before.places) before.next (before.waiting ++ held before.base (before.next + 1) ∷ [])) where
+    -- it is known what the call gives
+    module _ (args : List ℕ) (a : args ≡ gathered before.places before.base ss) (known : Known) (r : IsRight p.spec old f args known) where
+      known_args : AreTerms old args (slots s.top.env ss)
+      known_args = subst (λ z. AreTerms old z (slots s.top.env ss)) (sym a) (gathered_terms old before.places before.base s.top.env w.at.slots ss (ranged (call f ss) there).0)
+
+      known_gives : Gives p.spec (app f (slots s.top.env ss)) r.value known.cost
+      known_gives = subst (λ z. Gives p.spec (app f z) r.value known.cost) (one_terms old args r.args (slots s.top.env ss) r.stand known_args) r.gives
+
+      abbrev with_value : State
+      with_value = state (s.top.env ++ r.value ∷ []) (next (call f ss) there).rest s.top.end s.waiting
+
+      recalls_value : (waiting : List Frame) → Moves p.spec (state s.top.env (call f ss ∷ (next (call f ss) there).rest) s.top.end waiting) known.cost (state (s.top.env ++ r.value ∷ []) (next (call f ss) there).rest s.top.end waiting)
+      recalls_value waiting =
+          let sorted = ready fine f ss calls_step in
+          recalls r.value known.cost sorted.0 sorted.1.sorted known_gives
+
+      value_moves : Moves p.spec s known.cost with_value
+      value_moves = subst (λ z. Moves p.spec z known.cost with_value) (sym (now_is (call f ss) there)) (recalls_value s.waiting)
+
+      pub recalled : (left : ℕ) → known.cost ≤ left → (after : Stack) → after ≡ stack (before.places ++ known.place ∷ []) before.base (before.next + 1) before.waiting → Pays p left before s → Turns p old left after s (Moved known.cost)
+      recalled left le after e pays =
+          let env = s.top.env in
+          let n = next (call f ss) there in
+          let one : before.next + 1 ≡ suc before.next = omega arith in
+          let code : IsCodeAt p.code (before.next + 1) n.rest s.top.end = subst (λ k. IsCodeAt p.code k n.rest s.top.end) (sym one) n.goes in
+          let stands = slot_added old (IsCodeAt p.code) before.places before.base before.next (before.next + 1) known.place (reverse before.waiting) env s.top.steps n.rest s.top.end s.top.end s.waiting r.value w.at r.there code in
+          let owed : Owes p.spec p.code with_value.top (left - known.cost) (reverse before.waiting) s.waiting = owes_on p.spec p.code (frame env (call f ss ∷ n.rest) s.top.end) with_value.top known.cost left (left - known.cost) (reverse before.waiting) s.waiting (omega (arith, le)) (does_right p.spec (frame env (call f ss ∷ n.rest) s.top.end) with_value.top known.cost fine (recalls_value [])) (step_pays (call f ss) there left pays) in
+          (le, (with_value, value_moves, subst (λ z. IsAt p.code old z with_value) (sym e) stands, subst (λ z. Pays p (left - known.cost) z with_value) (sym e) owed))
+
+      pub not_recalled : (left : ℕ) → left < known.cost → (after : Stack) (new : List Cell) → Turns p new left after s Stuck
+      not_recalled left lt after new apart whole v n g le =
+          let k = move_whole p.spec s with_value known.cost v n fine apart whole value_moves g in
+          omega (arith, k.2, lt, le)
+
+    module _ (args : List ℕ) (a : args ≡ gathered before.places before.base ss) (mid : Stack) (spare : ℕ) (m : mid ≡ stack (before.places ++ args) (length before.places) before.next (before.waiting ++ held before.base (before.next + 1) spare ∷ [])) where
       base_is : mid.base ≡ length before.places
       base_is = ap (λ (z : Stack). z.base) m
 
@@ -188,8 +235,8 @@ module _ (p : Program) (old : List Cell) (before : Stack) (s : State) (sort : So
       pub call_is_at : IsCallAt p.spec old f mid.base mid.places
       call_is_at = call_at fine f ss calls_step mid.base mid.places (omega (arith, base_is, ap length places_are, length-append before.places args)) call_terms
 
-      pub called : (to : List ℕ) (place : ℕ) → IsFound p old f mid.base mid.places to (Some place) → (left : ℕ) → 0 < left → (after : Stack) → after ≡ stack to mid.base place mid.waiting → Turns p old left after s Used
-      called to place found left funds after e =
+      pub called : (to : List ℕ) (place : ℕ) → IsFound p old f mid.base mid.places to (Some place) → 0 < spare → (after : Stack) → after ≡ stack to mid.base place mid.waiting → Pays p spare before s → Turns p old spare after s (Moved 1)
+      called to place found funds after e pays =
           let env = s.top.env in
           let n = next (call f ss) there in
           let c = entered_by fine f ss calls_step mid.base mid.places to place call_terms found in
@@ -199,10 +246,12 @@ module _ (p : Program) (old : List Cell) (before : Stack) (s : State) (sort : So
           let one : before.next + 1 ≡ suc before.next = omega arith in
           let long : length to ≡ length before.places + length args + length found.extends.0 = omega (arith, ap length grown, length-append (before.places ++ args) found.extends.0, length-append before.places args) in
           let same : take before.base before.places ≡ take before.base to = sym (ap (λ z. take before.base z) (grown ∙ append_assoc before.places args found.extends.0) ∙ take-append-le before.base before.places (args ++ found.extends.0) w.at.within) in
-          let waits : Waits old (IsCodeAt p.code) to mid.base (held before.base (before.next + 1) ∷ reverse before.waiting) (frame env n.rest s.top.end ∷ s.waiting) = (omega (arith, w.at.within, base_is), subst (λ z. AreTerms old (drop before.base z) (trees_of env)) (sym front) w.at.slots, subst (λ k. IsCodeAt p.code k n.rest s.top.end) (sym one) n.goes, waits_above old (IsCodeAt p.code) before.places to before.base (reverse before.waiting) s.waiting same w.at.waits) in
-          let turned : reverse mid.waiting ≡ held before.base (before.next + 1) ∷ reverse before.waiting = ap (λ (z : Stack). reverse z.waiting) m ∙ reverse-append before.waiting (held before.base (before.next + 1) ∷ []) in
+          let waits : Waits old (IsCodeAt p.code) to mid.base (held before.base (before.next + 1) spare ∷ reverse before.waiting) (frame env n.rest s.top.end ∷ s.waiting) = (omega (arith, w.at.within, base_is), subst (λ z. AreTerms old (drop before.base z) (trees_of env)) (sym front) w.at.slots, subst (λ k. IsCodeAt p.code k n.rest s.top.end) (sym one) n.goes, waits_above old (IsCodeAt p.code) before.places to before.base (reverse before.waiting) s.waiting same w.at.waits) in
+          let turned : reverse mid.waiting ≡ held before.base (before.next + 1) spare ∷ reverse before.waiting = ap (λ (z : Stack). reverse z.waiting) m ∙ reverse-append before.waiting (held before.base (before.next + 1) spare ∷ []) in
           let stands : IsAt p.code old (stack to mid.base place mid.waiting) go = record { within = omega (arith, base_is, long); slots = c.terms; code = c.code; waits = subst (λ hs. Waits old (IsCodeAt p.code) to mid.base hs (frame env n.rest s.top.end ∷ s.waiting)) (sym turned) waits } in
-          (funds, (go, subst (λ z. Moves p.spec z 1 go) (sym (now_is (call f ss) there)) (enters c.frame c.enters), subst (λ z. IsAt p.code old z go) (sym e) stands))
+          let owed = owes_entered p.spec p.code fine env f ss n.rest s.top.end c.frame c.enters before.base before.next spare (reverse before.waiting) s.waiting there (ranged (call f ss) there).0 funds (step_pays (call f ss) there spare pays) in
+          let owed₁ : Pays p (spare - 1) (stack to mid.base place mid.waiting) go = subst (λ hs. Owes p.spec p.code c.frame (spare - 1) hs (frame env n.rest s.top.end ∷ s.waiting)) (sym turned) owed in
+          (funds, (go, subst (λ z. Moves p.spec z 1 go) (sym (now_is (call f ss) there)) (enters c.frame c.enters), subst (λ z. IsAt p.code old z go) (sym e) stands, subst (λ z. Pays p (spare - 1) z go) (sym e) owed₁))
 
   module _ (fine : IsWellSorted p.spec) (f : ℕ) (ss : List ℕ) (there : slice_get p.code before.next ≡ Some (ends (last f ss))) where
     pub calls_last : CallsNext p.spec s f (slots s.top.env ss)
@@ -227,8 +276,8 @@ module _ (p : Program) (old : List Cell) (before : Stack) (s : State) (sort : So
       pub last_is_at : IsCallAt p.spec old f mid.base mid.places
       last_is_at = call_at fine f ss calls_last mid.base mid.places (omega (arith, last_base, cut_count, ap length last_places, length-append (take before.base before.places) args)) last_terms
 
-      pub called_last : (to : List ℕ) (place : ℕ) → IsFound p old f mid.base mid.places to (Some place) → (left : ℕ) → 0 < left → (after : Stack) → after ≡ stack to mid.base place mid.waiting → Turns p old left after s Used
-      called_last to place found left funds after e =
+      pub called_last : (to : List ℕ) (place : ℕ) → IsFound p old f mid.base mid.places to (Some place) → (left : ℕ) → 0 < left → (after : Stack) → after ≡ stack to mid.base place mid.waiting → Pays p left before s → Turns p old left after s (Moved 1)
+      called_last to place found left funds after e pays =
           let c = entered_by fine f ss calls_last mid.base mid.places to place last_terms found in
           let go : State = record { top = c.frame; waiting = s.waiting } in
           let cut = take before.base before.places in
@@ -238,7 +287,9 @@ module _ (p : Program) (old : List Cell) (before : Stack) (s : State) (sort : So
           let waits = waits_above old (IsCodeAt p.code) before.places to before.base (reverse before.waiting) s.waiting (sym front) w.at.waits in
           let held_are : reverse before.waiting ≡ reverse mid.waiting = ap (λ (z : Stack). reverse z.waiting) (sym m) in
           let stands : IsAt p.code old (stack to mid.base place mid.waiting) go = record { within = omega (arith, last_base, cut_count, long); slots = c.terms; code = c.code; waits = subst (λ hs. Waits old (IsCodeAt p.code) to mid.base hs s.waiting) held_are (subst (λ b. Waits old (IsCodeAt p.code) to b (reverse before.waiting) s.waiting) (sym last_base) waits) } in
-          (funds, (go, subst (λ z. Moves p.spec z 1 go) (sym (end_is (last f ss) there)) (enters_last c.frame c.enters), subst (λ z. IsAt p.code old z go) (sym e) stands))
+          let owed = owes_on p.spec p.code (frame s.top.env [] (last f ss)) c.frame 1 left (left - 1) (reverse before.waiting) s.waiting (omega (arith, funds)) (does_right p.spec (frame s.top.env [] (last f ss)) c.frame 1 fine (enters_last c.frame c.enters)) (end_pays (last f ss) there left pays) in
+          let owed₁ : Pays p (left - 1) (stack to mid.base place mid.waiting) go = subst (λ hs. Owes p.spec p.code c.frame (left - 1) hs s.waiting) held_are owed in
+          (funds, (go, subst (λ z. Moves p.spec z 1 go) (sym (end_is (last f ss) there)) (enters_last c.frame c.enters), subst (λ z. IsAt p.code old z go) (sym e) stands, subst (λ z. Pays p (left - 1) z go) (sym e) owed₁))
 
   -- a value is given
   module _ (i : ℕ) (there : slice_get p.code before.next ≡ Some (ends (slot i))) where
@@ -251,7 +302,7 @@ module _ (p : Program) (old : List Cell) (before : Stack) (s : State) (sort : So
     given_at : (place : ℕ) → place ≡ get_or before.places (before.base + i) 0 → IsTerm old place (instance s.top.env (var i))
     given_at place e = subst (λ z. IsTerm old z (instance s.top.env (var i))) (sym e) given
 
-    pub gave_last : (place left : ℕ) (after : Stack) → place ≡ get_or before.places (before.base + i) 0 → IsReturned before after place false → Turns p old left after s (Done place)
+    pub gave_last : (place left : ℕ) (after : Stack) → place ≡ get_or before.places (before.base + i) 0 → IsReturned before after place None → Turns p old left after s (Done place)
     gave_last place left after e (empty, same) =
         let waits : Waits old (IsCodeAt p.code) before.places before.base [] s.waiting = subst (λ hs. Waits old (IsCodeAt p.code) before.places before.base hs s.waiting) (ap reverse empty) w.at.waits in
         (s.top.env, i, end_is (slot i) there ∙ ap (λ fs. state s.top.env [] (slot i) fs) (no_frames s.waiting waits), given_at place e)
@@ -260,17 +311,44 @@ module _ (p : Program) (old : List Cell) (before : Stack) (s : State) (sort : So
         no_frames [] h = refl
         no_frames (x ∷ fs) h = absurd h
 
-    pub gave : (place left : ℕ) (after : Stack) → place ≡ get_or before.places (before.base + i) 0 → IsReturned before after place true → Turns p old left after s Moved
-    gave place left after e (rest, back, all, is) =
+    -- the frame that waits has called a function, and what is given is what the call gives at what was paid since then
+    pub record Gave (place left began : ℕ) (after : Stack) : Type 0 where
+      pub turns : Turns p old left after s (Moved 0)
+      pub function : ℕ
+      pub arguments : List ℕ
+      pub has_called : HasCalled p after function arguments
+      pub paid : left ≤ began
+      pub right : (known : Known) → known.place ≡ place → known.cost ≡ began - left → IsRight p.spec old function (gathered after.places after.base arguments) known
+
+    pub gave : (place left began : ℕ) (after : Stack) → place ≡ get_or before.places (before.base + i) 0 → IsReturned before after place (Some began) → Pays p left before s → Gave place left began after
+    gave place left began after e (rest, back, all, since, is) pays =
         let turned : reverse before.waiting ≡ back ∷ reverse rest = ap reverse all ∙ reverse-append rest (back ∷ []) in
         let at : Stands old (IsCodeAt p.code) before.places before.base before.next (back ∷ reverse rest) (state s.top.env s.top.steps s.top.end s.waiting) = subst (λ hs. Stands old (IsCodeAt p.code) before.places before.base before.next hs s) turned w.at in
-        by s.waiting refl at
+        let owed : Owes p.spec p.code (frame s.top.env [] (slot i)) left (back ∷ reverse rest) s.waiting = subst (λ hs. Owes p.spec p.code (frame s.top.env [] (slot i)) left hs s.waiting) turned (end_pays (slot i) there left pays) in
+        by s.waiting refl at owed
       where
-        by : (fs : List Frame) → s.waiting ≡ fs → Stands old (IsCodeAt p.code) before.places before.base before.next (back ∷ reverse rest) (state s.top.env s.top.steps s.top.end fs) → Turns p old left after s Moved
-        by [] q at = absurd at.waits
-        by (x ∷ fs) q at =
+        by : (fs : List Frame) → s.waiting ≡ fs → Stands old (IsCodeAt p.code) before.places before.base before.next (back ∷ reverse rest) (state s.top.env s.top.steps s.top.end fs) → Owes p.spec p.code (frame s.top.env [] (slot i)) left (back ∷ reverse rest) fs → Gave place left began after
+        by [] q at o = absurd at.waits
+        by (x ∷ fs) q at o =
             let env = s.top.env in
             let v = instance env (var i) in
             let go : State = state (x.env ++ instance env (var i) ∷ []) x.steps x.end fs in
             let stands = frame_returned old (IsCodeAt p.code) before.places before.base before.next place back (reverse rest) env s.top.steps s.top.end x fs (instance env (var i)) at (given_at place e) in
-            (go, subst (λ z. Moves p.spec z 0 go) (sym (end_is (slot i) there ∙ ap (λ z. state env [] (slot i) z) q)) (returns x), subst (λ z. IsAt p.code old z go) (sym is) stands)
+            let one : IsOwed p.spec p.code (frame env [] (slot i)) left back x o.0 o.1 = o.2 in
+            let more = owes_returned p.spec p.code (frame env [] (slot i)) left back (reverse rest) x fs o (instance env (var i)) (refl, refl) in
+            let zero : left ≡ left - 0 = omega arith in
+            let more₁ : Pays p (left - 0) (stack (take before.base before.places ++ place ∷ []) back.base back.next rest) go = subst (λ n. Owes p.spec p.code go.top n (reverse rest) fs) zero more in
+            let there₁ : IsAt p.code old (stack (take before.base before.places ++ place ∷ []) back.base back.next rest) go = stands in
+            let fit : AllByRecursion (λ (k : ℕ). back.base + k < length (take before.base before.places ++ place ∷ [])) o.1 = slots_in old (take before.base before.places ++ place ∷ []) back.base (x.env ++ v ∷ []) stands.slots stands.within o.1 (slots_less (length x.env) (length (x.env ++ v ∷ [])) o.1 (omega (arith, length-append x.env (v ∷ []))) one.range) in
+            let terms : AreTerms old (gathered (take before.base before.places ++ place ∷ []) back.base o.1) (slots x.env o.1) = subst (λ ts. AreTerms old (gathered (take before.base before.places ++ place ∷ []) back.base o.1) ts) (slots_kept x.env (v ∷ []) o.1 one.range) (gathered_terms old (take before.base before.places ++ place ∷ []) back.base (x.env ++ v ∷ []) stands.slots o.1 (slots_less (length x.env) (length (x.env ++ v ∷ [])) o.1 (omega (arith, length-append x.env (v ∷ []))) one.range)) in
+            record {
+              turns = (omega arith, (go, subst (λ z. Moves p.spec z 0 go) (sym (end_is (slot i) there ∙ ap (λ z. state env [] (slot i) z) q)) (returns x), subst (λ z. IsAt p.code old z go) (sym is) there₁, subst (λ z. Pays p (left - 0) z go) (sym is) more₁));
+              function = o.0;
+              arguments = o.1;
+              has_called = subst (λ (z : Stack). HasCalled p z o.0 o.1) (sym is) (record { place = one.place; next = one.next; there = one.there; range = fit });
+              paid = omega (arith, one.paid, since);
+              right = λ known at cost.
+                  let same : back.left - left ≡ known.cost = omega (arith, cost, since) in
+                  let stand : AreTerms old (gathered after.places after.base o.1) (slots x.env o.1) = subst (λ (z : Stack). AreTerms old (gathered z.places z.base o.1) (slots x.env o.1)) (sym is) terms in
+                  record { args = slots x.env o.1; value = v; stand = stand; there = given_at known.place (at ∙ e); gives = subst (λ n. Gives p.spec (app o.0 (slots x.env o.1)) v n) same (call_gives p.spec p.code (frame env [] (slot i)) left back (reverse rest) x fs o v (refl, refl)) };
+            }

@@ -5,7 +5,7 @@ use Rattle.term_core.specs.Tree.{Tree, trees_of}
 use Rattle.value_bank.specs.Cells.{Cell, IsTerm, AreTerms, AddsCells}
 use Rattle.value_bank.proofs.Terms.{terms_kept}
 use Rattle.bank_machine.specs.Code.{Step, End}
-use Rattle.bank_machine.specs.States.{Frame, frame, State, state}
+use Rattle.bank_machine.specs.States.{Frame, State, state}
 use Rattle.bank_machine.specs.declared.held.Held.{Held}
 use Rattle.bank_machine.specs.Stacks.{Waits, Stands}
 
@@ -52,16 +52,6 @@ module _ (cells : List Cell) (CodeAt : ℕ → List Step → End → Type 0) whe
         slots = subst (λ z. AreTerms cells z (trees_of (env ++ v ∷ []))) (sym (drop-append-le base stack (p ∷ []) s.within)) (joined cells (drop base stack) (p ∷ []) env (v ∷ []) s.slots (at, tt));
         code = code;
         waits = waits_above stack (stack ++ p ∷ []) base held waiting (sym (take-append-le base stack (p ∷ []) s.within)) s.waits;
-      }
-
-  -- a call is entered: its arguments stand on the stack, and the frame waits below them
-  pub call_entered : (stack ps : List ℕ) (base next then back : ℕ) (held : List Held) (env : List Tree) (steps rest more : List Step) (end wait finish : End) (waiting : List Frame) (vs : List Tree) → Stands cells CodeAt stack base next held (state env steps end waiting) → CodeAt back rest wait → AreTerms cells ps (trees_of vs) → CodeAt then more finish → Stands cells CodeAt (stack ++ ps) (length stack) then (record { base = base; next = back } ∷ held) (state vs more finish (frame env rest wait ∷ waiting))
-  call_entered stack ps base next then back held env steps rest more end wait finish waiting vs s waits args code =
-      record {
-        within = omega (arith, length-append stack ps);
-        slots = subst (λ z. AreTerms cells z (trees_of vs)) (sym (drop_whole stack ps)) args;
-        code = code;
-        waits = (s.within, subst (λ z. AreTerms cells (drop base z) (trees_of env)) (sym (take_whole stack ps)) s.slots, waits, waits_above stack (stack ++ ps) base held waiting (sym (take-append-le base stack ps s.within)) s.waits);
       }
 
   -- a frame returns: the stack is cut to its base, and the value goes to the frame below

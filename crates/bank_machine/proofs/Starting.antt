@@ -70,4 +70,4 @@ module _ (p : Program) (fine : IsWellSorted p.spec) (cells : List Cell) (side : 
   evaluated new budget (Value id n) (env, i, runs, at, le) = (instance env (var i), at, run_gives p.spec (first_numbers (length ids)) values values env term c.code.0 c.code.1 i n fine body holds runs, le)
   evaluated new budget Spent (now, cost, left, runs, paid, stuck) = λ apart whole v n g le.
       let r = run_whole p.spec (first_numbers (length ids)) values values term c.code.0 c.code.1 now cost v n fine apart whole body holds runs g in
-      stuck v r.0 r.1 (omega (arith, le, paid, r.2))
+      stuck apart whole v r.0 r.1 (omega (arith, le, paid, r.2))

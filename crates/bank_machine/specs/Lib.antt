@@ -10,6 +10,8 @@ pub mod Blocks
 pub mod RuleCodes
 pub mod Programs
 pub mod Calls
+pub mod KeptCalls
+pub mod Owed
 pub mod Turns
 pub mod Fuel
 pub mod Runs

@@ -33,7 +33,8 @@ abbrev pub IsBankEval : Spec → List Cell → Tree → ℕ → BankEval → Typ
 IsBankEval spec cells t budget (Value id steps) = (v : Tree) × IsTerm cells id.0 v × Gives spec t v steps × (steps ≤ budget)
 IsBankEval spec cells t budget Spent = NoOverlap spec → GroupsAreWhole spec → (v : Tree) (n : ℕ) → Gives spec t v n → n ≤ budget → ⊥
 
--- from the state the machine runs to its end, or to a state that gives nothing for what is left of the budget
+-- from the state the machine runs to its end; or, where left sides don't overlap and groups are whole, to a state that
+-- gives nothing for what is left of the budget
 abbrev pub Ran : Spec → List Cell → State → ℕ → BankEval → Type 0
 Ran spec cells s budget (Value id steps) = (env : List Tree) × (i : ℕ) × Runs spec s steps (state env [] (slot i) []) × IsTerm cells id.0 (instance env (var i)) × (steps ≤ budget)
-Ran spec cells s budget Spent = (now : State) × (c : ℕ) × (left : ℕ) × Runs spec s c now × (c + left ≡ budget) × ((w : Tree) (n : ℕ) → StateGives spec now w n → n ≤ left → ⊥)
+Ran spec cells s budget Spent = (now : State) × (c : ℕ) × (left : ℕ) × Runs spec s c now × (c + left ≡ budget) × (NoOverlap spec → GroupsAreWhole spec → (w : Tree) (n : ℕ) → StateGives spec now w n → n ≤ left → ⊥)

@@ -1,5 +1,5 @@
 -- States as a stack of places and a list of waiting frames.
-use Rattle.std.specs.Prelude.{◌≡◌, ℕ, ◌+◌, ◌≤◌, List, [], ◌∷◌, ◌++◌, Bool, true, false, take, drop, length, slice_index, reverse}
+use Rattle.std.specs.Prelude.{◌≡◌, ℕ, ◌+◌, ◌≤◌, List, [], ◌∷◌, ◌++◌, Option, Some, None, take, drop, length, slice_index, reverse}
 use Rattle.term_core.specs.Tree.{trees_of}
 use Rattle.value_bank.specs.Cells.{Cell, AreTerms}
 use Rattle.bank_machine.specs.declared.held.Held.{Held}
@@ -8,8 +8,8 @@ use Rattle.bank_machine.specs.Instructions.{Instruction, IsCodeAt}
 use Rattle.bank_machine.specs.Code.{Step, End}
 use Rattle.bank_machine.specs.States.{Frame, State}
 
-abbrev pub held : ℕ → ℕ → Held
-held base next = record { base = base; next = next }
+abbrev pub held : ℕ → ℕ → ℕ → Held
+held base next left = record { base = base; next = next; left = left }
 
 -- the places of the slots of all frames; where those of the frame begin that is worked at, and where its code goes on; and
 -- the frames that wait, the last one last
@@ -30,10 +30,11 @@ abbrev pub gathered : List ℕ → ℕ → List ℕ → List ℕ
 gathered places base [] = []
 gathered places base (s ∷ ss) = slice_index places (base + s) ∷ gathered places base ss
 
--- the last frame that waits goes on with this place in its next slot; or none waits
-abbrev pub IsReturned : Stack → Stack → ℕ → Bool → Type 0
-IsReturned old new place true = (rest : List Held) × (back : Held) × (old.waiting ≡ rest ++ back ∷ []) × (new ≡ stack (take old.base old.places ++ place ∷ []) back.base back.next rest)
-IsReturned old new place false = (old.waiting ≡ []) × (new ≡ old)
+-- the last frame that waits, which began to wait where so much was left, goes on with this place in its next slot; or
+-- none waits
+abbrev pub IsReturned : Stack → Stack → ℕ → Option ℕ → Type 0
+IsReturned old new place (Some left) = (rest : List Held) × (back : Held) × (old.waiting ≡ rest ++ back ∷ []) × (left ≡ back.left) × (new ≡ stack (take old.base old.places ++ place ∷ []) back.base back.next rest)
+IsReturned old new place None = (old.waiting ≡ []) × (new ≡ old)
 
 module _ (cells : List Cell) (CodeAt : ℕ → List Step → End → Type 0) (stack : List ℕ) where
   -- below `base` the stack has the places of the slots of the frames that wait, the last one first

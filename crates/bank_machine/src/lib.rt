@@ -5,7 +5,8 @@
 //! as tests of slots, its guards and its right side as blocks. A state is a frame and the frames
 //! that wait for its value (`specs/States.antt`), and each move keeps what the state gives, less its
 //! cost. The layers above use [`Machine::run`]: the value and its cost by evaluation, or Spent
-//! exactly where no value has a cost within the budget.
+//! exactly where no value has a cost within the budget. A [`KeptCalls`] beside the bank keeps what
+//! calls gave, from one run to the next.
 #![tactic(auto)]
 
 mod answers;
@@ -18,12 +19,14 @@ mod following;
 mod held;
 mod index;
 mod instructions;
+mod kept_calls;
 mod laws;
 mod left_sides;
 mod machine;
 mod matching;
 mod opening;
 mod patterns;
+mod recalling;
 mod rule_codes;
 mod stack;
 mod tests;
@@ -31,6 +34,7 @@ mod turning;
 mod turns;
 
 pub use answers::BankEval;
+pub use kept_calls::KeptCalls;
 pub use laws::{
     at_its_end, calls_cost, code_is_right, code_is_whole, moves_are_right, moves_are_whole,
     moves_keep_sound, no_match_gives_nothing, none_goes_on_gives_nothing, repeats_decide,

@@ -62,16 +62,18 @@ impl Stack {
         Ok(())
     }
 
-    /// The frame waits behind the step, and one with these slots is on top.
+    /// The frame waits behind the step, where so much of the budget is left, and one with these slots
+    /// is on top.
     #[inline(always)]
-    pub(crate) fn call(&mut self, args: &[u32]) -> Result<(), OutOfMemory>
+    pub(crate) fn call(&mut self, args: &[u32], left: u32) -> Result<(), OutOfMemory>
         requires { self.old.next + 1 < 2 ^ 64 }
         ensures { OnOk result (shown self.new ≡ stack (self.old.places.items ++ args.now) (length self.old.places.items) self.old.next
-            (self.old.held.items ++ held self.old.base (self.old.next + 1) ∷ [])) }
+            (self.old.held.items ++ held self.old.base (self.old.next + 1) left ∷ [])) }
     {
         self.held.push(Held {
             base: self.base,
             next: self.next + 1,
+            left,
         })?;
         self.base = self.places.len();
         self.places.extend_from_slice(args)?;
@@ -88,19 +90,20 @@ impl Stack {
         Ok(())
     }
 
-    /// The frame's value goes to the one that waits for it, and that one goes on. Whether one waits.
+    /// The frame's value goes to the one that waits for it, and that one goes on. What was left of
+    /// the budget when it began to wait, if one waits.
     #[inline(always)]
-    pub(crate) fn give(&mut self, place: u32) -> Result<bool, OutOfMemory>
+    pub(crate) fn give(&mut self, place: u32) -> Result<Option<u32>, OutOfMemory>
         ensures { IfOk result (IsReturned (shown self.old) (shown self.new) place) }
     {
         match self.held.pop() {
-            None => Ok(false),
+            None => Ok(None),
             Some(back) => {
                 self.places.truncate(self.base);
                 self.places.push(place)?;
                 self.base = back.base;
                 self.next = back.next;
-                Ok(true)
+                Ok(Some(back.left))
             }
         }
     }

@@ -1,12 +1,14 @@
-ghost use Rattle.std.specs.Prelude.{ℕ, ◌≡◌, ◌<◌, ◌+◌, ◌^◌, Some, IfOk, slice_get};
+ghost use Rattle.std.specs.Prelude.{ℕ, List, ◌≡◌, ◌<◌, ◌≤◌, ◌+◌, ◌^◌, Some, IfOk, slice_get};
 ghost use Rattle.spec_core.specs.WellSorted.{IsWellSorted};
 ghost use Rattle.value_bank.specs.Cells.{AddsCells};
 ghost use Rattle.bank_machine.specs.Code.{build as build_step, call as call_step, slot as slot_end, last as last_end, decide as decide_end};
 ghost use Rattle.bank_machine.specs.Instructions.{does, ends};
+ghost use Rattle.bank_machine.specs.KeptCalls.{AreRight};
 ghost use Rattle.bank_machine.specs.Stacks.{shown};
-ghost use Rattle.bank_machine.specs.Turns.{IsWorking, IsTurn};
+ghost use Rattle.bank_machine.specs.Turns.{IsWorking, IsUnderWay, IsTurn};
 
 use crate::instructions::Kind;
+use crate::kept_calls::{KeptCalls, Known};
 use crate::machine::Machine;
 use crate::stack::Stack;
 use crate::turns::Turn;
@@ -19,20 +21,23 @@ impl<'a> Machine<'a> {
     pub(crate) fn turn(
         &self,
         bank: &mut Bank,
+        kept: &mut KeptCalls,
         stack: &mut Stack,
         args: &mut Vec<u32>,
         left: u32,
     ) -> Result<Turn, OutOfMemory>
         requires fine { IsWellSorted self.now.spec }
-        requires works { IsWorking self.now bank.old (shown stack.old) }
+        requires kept { AreRight self.now.spec bank.old kept.old }
+        requires works { IsUnderWay self.now bank.old left (shown stack.old) }
         ensures turn { IfOk result (IsTurn self.now bank.old bank.new left (shown stack.old) (shown stack.new)) }
         ensures adds { AddsCells bank.old bank.new }
+        ensures kept { IfOk result (λ _. AreRight self.now.spec bank.new kept.new) }
     {
         let (kind, slots) = self.code.at(stack.next);
         match kind {
             Kind::Build(sym) => self.build(bank, stack, args, sym, slots),
-            Kind::Call(sym) => self.call(bank, stack, args, sym, slots, left),
-            Kind::Give(slot) => self.give(bank, stack, slot),
+            Kind::Call(sym) => self.call(bank, kept, stack, args, sym, slots, left),
+            Kind::Give(slot) => self.give(bank, kept, stack, args, slot, left),
             Kind::Last(sym) => self.call_last(bank, stack, args, sym, slots, left),
             Kind::Decide { slot, rule, asked } => {
                 Ok(self.decide(bank, stack, slot, rule, asked, slots))
@@ -50,6 +55,7 @@ impl<'a> Machine<'a> {
         sym: u32,
         slots: &[usize],
     ) -> Result<Turn, OutOfMemory>
+        requires fine { IsWellSorted self.now.spec }
         requires there { slice_get self.now.code stack.old.next ≡ Some (does (build_step sym slots.now)) }
         requires room { stack.old.next + 1 < 2 ^ 64 }
         requires works { IsWorking self.now bank.old (shown stack.old) }
@@ -59,14 +65,16 @@ impl<'a> Machine<'a> {
         stack.gather(slots, args)?;
         let place = bank.add(sym, args)?;
         stack.put(place)?;
-        Ok(Turn::Moved)
+        Ok(Turn::Moved(0))
     }
 
-    /// Calls a function with the values of slots. The frame waits for what the call gives.
+    /// Calls a function with the values of slots. Where the call's value is known, the frame goes on
+    /// with it.
     #[inline(always)]
     pub(crate) fn call(
         &self,
         bank: &Bank,
+        kept: &KeptCalls,
         stack: &mut Stack,
         args: &mut Vec<u32>,
         sym: u32,
@@ -76,6 +84,7 @@ impl<'a> Machine<'a> {
         requires fine { IsWellSorted self.now.spec }
         requires there { slice_get self.now.code stack.old.next ≡ Some (does (call_step sym slots.now)) }
         requires room { stack.old.next + 1 < 2 ^ 64 }
+        requires kept { AreRight self.now.spec bank.now kept.now }
         requires works { IsWorking self.now bank.now (shown stack.old) }
         ensures { IfOk result (IsTurn self.now bank.now bank.now left (shown stack.old) (shown stack.new)) }
     {
@@ -83,12 +92,14 @@ impl<'a> Machine<'a> {
             return Ok(Turn::Stuck);
         }
         stack.gather(slots, args)?;
-        stack.call(args)?;
-        match self.find(bank, sym, stack.base, &mut stack.places)? {
-            None => Ok(Turn::Stuck),
-            Some(next) => {
-                stack.next = next;
-                Ok(Turn::Used)
+        match kept.find(sym, args) {
+            None => self.enter(bank, stack, sym, args, left),
+            Some(known) => {
+                if known.cost > left {
+                    return Ok(Turn::Stuck);
+                }
+                stack.put(known.place)?;
+                Ok(Turn::Moved(known.cost))
             }
         }
     }
@@ -118,7 +129,7 @@ impl<'a> Machine<'a> {
             None => Ok(Turn::Stuck),
             Some(next) => {
                 stack.next = next;
-                Ok(Turn::Used)
+                Ok(Turn::Moved(1))
             }
         }
     }
@@ -149,7 +160,7 @@ impl<'a> Machine<'a> {
         };
         let next = &self.rules[number];
         stack.cut(code.left.width, next.begins[asked + 1]);
-        Turn::Moved
+        Turn::Moved(0)
     }
 
     /// Gives the value of a slot to the frame that waits for it.
@@ -157,18 +168,26 @@ impl<'a> Machine<'a> {
     pub(crate) fn give(
         &self,
         bank: &Bank,
+        kept: &mut KeptCalls,
         stack: &mut Stack,
+        args: &mut Vec<u32>,
         slot: usize,
+        left: u32,
     ) -> Result<Turn, OutOfMemory>
         requires there { slice_get self.now.code stack.old.next ≡ Some (ends (slot_end slot)) }
-        requires works { IsWorking self.now bank.now (shown stack.old) }
-        ensures { IfOk result (λ turn. (left : ℕ) → IsTurn self.now bank.now bank.now left (shown stack.old) (shown stack.new) turn) }
+        requires kept { AreRight self.now.spec bank.now kept.old }
+        requires works { IsUnderWay self.now bank.now left (shown stack.old) }
+        ensures turn { IfOk result (IsTurn self.now bank.now bank.now left (shown stack.old) (shown stack.new)) }
+        ensures kept { IfOk result (λ _. AreRight self.now.spec bank.now kept.new) }
     {
         let place = stack.slot(slot);
-        if stack.give(place)? {
-            Ok(Turn::Moved)
-        } else {
-            Ok(Turn::Done(place))
+        match stack.give(place)? {
+            None => Ok(Turn::Done(place)),
+            Some(before) => {
+                let cost = before - left;
+                self.keep(bank, kept, stack, args, Known { place, cost })?;
+                Ok(Turn::Moved(0))
+            }
         }
     }
 }

@@ -1,5 +1,5 @@
 -- The answers of an evaluation, of what the machine and the bank answer.
-use Rattle.std.proofs.Common.{◌≡◌, ◌<◌, ◌≤◌, ℕ, List, [], Ok, Err, ap, sym, ◌∙◌, subst}
+use Rattle.std.proofs.Common.{◌≡◌, ◌<◌, ℕ, List, [], Ok, sym, subst}
 use Rattle.term_core.specs.Tree.{Tree, instance, tree_size}
 use Rattle.term_core.proofs.Trees.{instance_none}
 use Rattle.spec_core.specs.declared.records.Spec.{Spec}
@@ -8,7 +8,7 @@ use Rattle.spec_core.specs.Sorts.{Sorted}
 use Rattle.spec_core.specs.WellSorted.{IsWellSorted}
 use Rattle.spec_core.specs.Gives.{Gives}
 use Rattle.spec_core.proofs.Determined.{determined}
-use Rattle.value_bank.specs.Cells.{Cell, IsTerm}
+use Rattle.value_bank.specs.Cells.{Cell}
 use Rattle.value_bank.specs.Answers.{IsAnswer, IsLarge}
 use Rattle.value_bank.specs.declared.bank.ValueId.{ValueId}
 use Rattle.value_bank.proofs.Terms.{one_term_at}

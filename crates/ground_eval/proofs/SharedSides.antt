@@ -1,5 +1,5 @@
 -- What runs of the machine say of the sides of equations.
-use Rattle.std.proofs.Common.{◌≡◌, ◌≢◌, ◌⊎◌, ◌↔◌, ℕ, zero, suc, ◌+◌, ◌<◌, ◌≤◌, List, [], ◌∷◌, ◌++◌, Some, None, Bool, true, false, inl, inr, refl, ap, sym, ◌∙◌, subst, arith, length, length-append, map, take}
+use Rattle.std.proofs.Common.{◌≡◌, ◌⊎◌, ◌↔◌, ℕ, zero, suc, ◌+◌, ◌<◌, List, [], ◌∷◌, ◌++◌, Some, None, Bool, true, false, inl, inr, refl, ap, sym, ◌∙◌, subst, arith, length, length-append, map, take}
 use Rattle.std.specs.Prelude.{slice_get, IsTrue}
 use Rattle.std.specs.List.{AllByRecursion}
 use Rattle.std.proofs.lemmas.List.{length-map, map-append}
@@ -12,7 +12,6 @@ use Rattle.spec_core.specs.declared.records.Spec.{Spec}
 use Rattle.spec_core.specs.Gives.{Gives}
 use Rattle.spec_core.specs.Sorts.{IsBuilt, AreBuilt}
 use Rattle.spec_core.specs.Sig.{Sig}
-use Rattle.spec_core.specs.Verdict.{SidesSame, SidesDiffer}
 use Rattle.spec_core.specs.WellSorted.{EquationsAreSorted, sorts_of}
 use Rattle.value_bank.specs.Cells.{Cell, IsTerm, AreTerms, AddsCells}
 use Rattle.value_bank.specs.Ground.{IsGround, AreGround}
@@ -21,14 +20,12 @@ use Rattle.bank_machine.proofs.Stacked.{joined}
 use Rattle.ground_eval.proofs.Lists.{take_here}
 use Rattle.value_bank.specs.declared.bank.ValueId.{ValueId}
 use Rattle.value_bank.proofs.Terms.{term_kept, terms_kept}
-use Rattle.bank_machine.specs.declared.answers.BankEval.{BankEval}
 use Rattle.bank_machine.specs.declared.answers.BankEval.TheVariants.{Value, Spent}
 use Rattle.bank_machine.specs.Blocks.{AddsCode}
 use Rattle.bank_machine.specs.Programs.{Program, IsSide, first_numbers}
 use Rattle.bank_machine.specs.Compiled.{IsBody}
 use Rattle.bank_machine.specs.Runs.{StandAt, CanRun, IsBankEval}
 use Rattle.bank_machine.proofs.Placed.{code_kept}
-use Rattle.ground_eval.specs.declared.answers.Sides.{Sides}
 use Rattle.ground_eval.specs.declared.answers.Sides.TheVariants.{Same, Differ, Spent as SidesAreSpent}
 use Rattle.ground_eval.specs.declared.comparing.SidePair.{SidePair}
 use Rattle.ground_eval.specs.Prepared.{HasCode, HaveCode, CanCompare, CanCompareAll}

@@ -4,11 +4,12 @@ ghost use Rattle.term_core.specs.Tree.{Tree};
 ghost use Rattle.spec_core.specs.WellSorted.{IsWellSorted};
 ghost use Rattle.spec_core.specs.declared.records.Equation.{Equation};
 ghost use Rattle.value_bank.specs.Cells.{AddsCells};
+ghost use Rattle.bank_machine.specs.KeptCalls.{AreRight};
 ghost use Rattle.ground_eval.specs.Prepared.{CanCompare, CanCompareAll};
 ghost use Rattle.ground_eval.specs.Sides.{SidesAre, PremisesAre, ConclusionsAre};
 
 use crate::answers::Sides;
-use bank_machine::{BankEval, Machine};
+use bank_machine::{BankEval, KeptCalls, Machine};
 use spec_core::Verdict;
 use std::alloc::Global;
 use term_core::OutOfMemory;
@@ -26,19 +27,22 @@ pub(crate) fn compare_premises(
     alloc: Global,
     machine: &Machine,
     bank: &mut Bank,
+    kept: &mut KeptCalls,
     premises: &[SidePair],
     values: &[ValueId],
     budget: u32,
 ) -> Result<Sides, OutOfMemory>
     requires fine { IsWellSorted machine.now.spec }
+    requires kept { AreRight machine.now.spec bank.old kept.old }
     requires ready { (es : List Equation) × (terms : List Tree) × CanCompareAll machine.now bank.old premises.now values.now es terms }
     ensures sides { IfOk result (λ r. (es : List Equation) (terms : List Tree)
         → CanCompareAll machine.now bank.old premises.now values.now es terms
         → PremisesAre machine.now.spec terms budget es r) }
     ensures adds { AddsCells bank.old bank.new }
+    ensures kept { IfOk result (λ _. AreRight machine.now.spec bank.new kept.new) }
 {
     for premise in premises {
-        match compare_sides(alloc, machine, bank, *premise, values, budget)? {
+        match compare_sides(alloc, machine, bank, kept, *premise, values, budget)? {
             Sides::Same => continue,
             Sides::Differ => return Ok(Sides::Differ),
             Sides::Spent => return Ok(Sides::Spent),
@@ -52,19 +56,22 @@ pub(crate) fn compare_conclusions(
     alloc: Global,
     machine: &Machine,
     bank: &mut Bank,
+    kept: &mut KeptCalls,
     conclusions: &[SidePair],
     values: &[ValueId],
     budget: u32,
 ) -> Result<Verdict, OutOfMemory>
     requires fine { IsWellSorted machine.now.spec }
+    requires kept { AreRight machine.now.spec bank.old kept.old }
     requires ready { (es : List Equation) × (terms : List Tree) × CanCompareAll machine.now bank.old conclusions.now values.now es terms }
     ensures verdict { IfOk result (λ r. (es : List Equation) (terms : List Tree)
         → CanCompareAll machine.now bank.old conclusions.now values.now es terms
         → ConclusionsAre machine.now.spec terms budget es r) }
     ensures adds { AddsCells bank.old bank.new }
+    ensures kept { IfOk result (λ _. AreRight machine.now.spec bank.new kept.new) }
 {
     for conclusion in conclusions {
-        match compare_sides(alloc, machine, bank, *conclusion, values, budget)? {
+        match compare_sides(alloc, machine, bank, kept, *conclusion, values, budget)? {
             Sides::Same => return Ok(Verdict::Holds),
             Sides::Differ => continue,
             Sides::Spent => return Ok(Verdict::Spent),
@@ -78,21 +85,24 @@ fn compare_sides(
     alloc: Global,
     machine: &Machine,
     bank: &mut Bank,
+    kept: &mut KeptCalls,
     sides: SidePair,
     values: &[ValueId],
     budget: u32,
 ) -> Result<Sides, OutOfMemory>
     requires fine { IsWellSorted machine.now.spec }
+    requires kept { AreRight machine.now.spec bank.old kept.old }
     requires ready { (e : Equation) × (terms : List Tree) × CanCompare machine.now bank.old sides values.now e terms }
     ensures sides { IfOk result (λ r. (e : Equation) (terms : List Tree)
         → CanCompare machine.now bank.old sides values.now e terms
         → SidesAre machine.now.spec terms budget e r) }
     ensures adds { AddsCells bank.old bank.new }
+    ensures kept { IfOk result (λ _. AreRight machine.now.spec bank.new kept.new) }
 {
-    match machine.run(alloc, bank, sides.left, values, budget)? {
+    match machine.run(alloc, bank, kept, sides.left, values, budget)? {
         BankEval::Spent => Ok(Sides::Spent),
         BankEval::Value { id: left, steps: _ } => {
-            match machine.run(alloc, bank, sides.right, values, budget)? {
+            match machine.run(alloc, bank, kept, sides.right, values, budget)? {
                 BankEval::Spent => Ok(Sides::Spent),
                 BankEval::Value {
                     id: right,

@@ -10,7 +10,7 @@ ghost use Rattle.ground_eval.specs.Evals.{IsEval, IsOnly};
 
 use crate::answers::Eval;
 use crate::prepared::PreparedGoal;
-use bank_machine::{BankEval, Machine};
+use bank_machine::{BankEval, KeptCalls, Machine};
 use spec_core::{Goal, Spec, Verdict};
 use std::alloc::Global;
 use term_core::{OutOfMemory, Term};
@@ -26,7 +26,8 @@ pub fn eval(alloc: Global, spec: &Spec, term: &Term, budget: u32) -> Result<Eval
     let machine = Machine::new(alloc, spec)?;
     let (prepared, side) = machine.with_term(alloc, term, 0)?;
     let mut bank = Bank::new(alloc)?;
-    match prepared.run(alloc, &mut bank, side, &[], budget)? {
+    let mut kept = KeptCalls::new(alloc);
+    match prepared.run(alloc, &mut bank, &mut kept, side, &[], budget)? {
         BankEval::Spent => Ok(Eval::Spent),
         BankEval::Value { id, steps } => match bank.term(alloc, id) {
             Ok(value) => Ok(Eval::Value { value, steps }),

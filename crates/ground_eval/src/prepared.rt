@@ -16,7 +16,7 @@ ghost use Rattle.ground_eval.specs.Sides.{IsDecided};
 
 use crate::answers::Sides;
 use crate::comparing::{SidePair, compare_conclusions, compare_premises};
-use bank_machine::Machine;
+use bank_machine::{KeptCalls, Machine};
 use spec_core::{Equation, Goal, Spec, Verdict};
 use std::alloc::Global;
 use std::marker::Model;
@@ -119,14 +119,25 @@ impl<'a> PreparedGoal<'a> {
             → IsDecided self.now.spec terms budget self.now.goal verdict) }
         ensures adds { AddsCells bank.old bank.new }
     {
-        match compare_premises(alloc, &self.machine, bank, &self.premises, values, budget)? {
+        let machine = &self.machine;
+        let mut kept = KeptCalls::new(alloc);
+        match compare_premises(
+            alloc,
+            machine,
+            bank,
+            &mut kept,
+            &self.premises,
+            values,
+            budget,
+        )? {
             Sides::Spent => Ok(Verdict::Spent),
             Sides::Differ => Ok(Verdict::Holds),
             Sides::Same => {
                 compare_conclusions(
                     alloc,
-                    &self.machine,
+                    machine,
                     bank,
+                    &mut kept,
                     &self.conclusions,
                     values,
                     budget,

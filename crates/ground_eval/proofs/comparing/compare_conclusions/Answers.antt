@@ -1,4 +1,4 @@
-use Rattle.std.proofs.Common.{◌≡◌, subst, get_or}
+use Rattle.std.proofs.Common.{subst}
 use Rattle.std.proofs.lemmas.Option.{slice_get-get_or}
 use Rattle.spec_core.specs.Verdict.{SidesDiffer}
 use Rattle.value_bank.proofs.Placed.{adds_both}
@@ -23,6 +23,7 @@ loop-conclusion-preserved c =
           let h = subst (λ r. SidesAre c.args.machine.now.spec terms c.args.budget e.equation r) c.in-Differ.is (c.in_ok-compare_sides.ensures.sides e.equation terms e.ready) in
           all_more (SidesDiffer c.args.machine.now.spec terms c.args.budget) es c.loop-conclusion.conclusion-index e.equation e.at (c.loop-conclusion.invariant.differ es terms can) h;
       adds = adds_both c.args.bank.now c.loop-conclusion.bank c.compare_sides.new.bank c.loop-conclusion.invariant.adds c.in_ok-compare_sides.ensures.adds;
+      kept = c.in_ok-compare_sides.ensures.kept;
     }
 
 pub returns-in-Same-clause-verdict : goal.returns-in-Same-clause-verdict

@@ -4,6 +4,7 @@ use Rattle.term_core.specs.Tree.{Tree}
 use Rattle.spec_core.specs.declared.records.Equation.{Equation}
 use Rattle.spec_core.specs.Verdict.{SidesDiffer}
 use Rattle.value_bank.specs.Cells.{AddsCells}
+use Rattle.bank_machine.specs.KeptCalls.{AreRight}
 use Rattle.ground_eval.specs.Prepared.{CanCompareAll}
 use Rattle.ground_eval.proofs.comparing.compare_conclusions.Given as goal
 
@@ -11,4 +12,5 @@ abbrev pub invariant-loop-conclusion : goal.invariant-loop-conclusion
 invariant-loop-conclusion l = record {
   differ : (es : List Equation) (terms : List Tree) → CanCompareAll l.machine l.fn.bank l.conclusions l.values es terms → AllByRecursion (SidesDiffer l.machine.spec terms l.budget) (take l.conclusion-index es);
   adds : AddsCells l.fn.bank l.bank;
+  kept : AreRight l.machine.spec l.bank l.kept;
 }

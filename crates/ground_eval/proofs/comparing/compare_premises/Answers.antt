@@ -1,4 +1,4 @@
-use Rattle.std.proofs.Common.{◌≡◌, subst, get_or}
+use Rattle.std.proofs.Common.{subst}
 use Rattle.std.proofs.lemmas.Option.{slice_get-get_or}
 use Rattle.spec_core.specs.Verdict.{SidesSame}
 use Rattle.value_bank.proofs.Placed.{adds_both}
@@ -23,6 +23,7 @@ loop-premise-preserved c =
           let h = subst (λ r. SidesAre c.args.machine.now.spec terms c.args.budget e.equation r) c.in-Same.is (c.in_ok-compare_sides.ensures.sides e.equation terms e.ready) in
           all_more (SidesSame c.args.machine.now.spec terms c.args.budget) es c.loop-premise.premise-index e.equation e.at (c.loop-premise.invariant.same es terms can) h;
       adds = adds_both c.args.bank.now c.loop-premise.bank c.compare_sides.new.bank c.loop-premise.invariant.adds c.in_ok-compare_sides.ensures.adds;
+      kept = c.in_ok-compare_sides.ensures.kept;
     }
 
 pub returns-in-Differ-clause-sides : goal.returns-in-Differ-clause-sides

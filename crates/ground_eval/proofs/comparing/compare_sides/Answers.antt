@@ -1,8 +1,7 @@
 use Rattle.std.proofs.Common.{subst}
-use Rattle.bank_machine.specs.declared.answers.BankEval.TheVariants.{Value, Spent}
 use Rattle.bank_machine.specs.Runs.{IsBankEval}
 use Rattle.term_core.specs.Tree.{instance}
-use Rattle.ground_eval.proofs.SharedSides.{left_runs, right_runs, left_spent, right_spent, values_same, values_differ}
+use Rattle.ground_eval.proofs.SharedSides.{left_runs, right_runs, right_spent, values_same, values_differ}
 use Rattle.ground_eval.proofs.comparing.compare_sides.Goals as goal
 
 pub run-requires-in-Value-clause-sorted : goal.run-requires-in-Value-clause-sorted

@@ -1,10 +1,10 @@
-use Rattle.std.proofs.Common.{◌≡◌, ◌<◌, refl, ap, sym, ◌∙◌, subst, arith, length}
+use Rattle.std.proofs.Common.{◌≡◌, refl, sym, ◌∙◌, subst, arith}
 use Rattle.spec_core.specs.declared.records.Spec.{Spec}
 use Rattle.spec_core.specs.TermText.{SymbolsAreInRange}
 use Rattle.spec_core.proofs.Determined.{occurs_within}
 use Rattle.bank_machine.proofs.Placed.{adds_both}
 use Rattle.bank_machine.proofs.Ranges.{item_listed, sorted_in_range}
-use Rattle.ground_eval.specs.Prepared.{HaveCode, HasCode, pair_of}
+use Rattle.ground_eval.specs.Prepared.{HasCode, pair_of}
 use Rattle.ground_eval.proofs.SharedSides.{side_kept, pairs_kept, pair_added}
 use Rattle.ground_eval.proofs.prepared.compile_sides.Goals as goal
 

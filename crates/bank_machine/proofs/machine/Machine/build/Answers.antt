@@ -18,4 +18,4 @@ add-requires c =
     subst (λ ps. AreBelow (length c.args.bank.now) ps) (sym (c.deref.ensures.value ∙ c.in_ok-gather.ensures)) (terms_within c.args.bank.now _ (slots q.0.top.env c.args.slots.now) h)
 
 pub returns-clause-turn : goal.returns-clause-turn
-returns-clause-turn c left s sort w = built c.args.self.now c.args.bank.now (shown c.args.stack.now) s sort w c.args.sym c.args.slots.now c.requires.there c.add.new.self c.deref.result.now c.in_ok-place.place (shown c.put.new.self) left c.in_ok-place.ensures.adds (c.deref.ensures.value ∙ c.in_ok-gather.ensures) c.in_ok-place.ensures.found c.in_ok-put.ensures
+returns-clause-turn c left s sort w pays = built c.args.self.now c.args.bank.now (shown c.args.stack.now) s sort w c.requires.fine c.args.sym c.args.slots.now c.requires.there c.add.new.self c.deref.result.now c.in_ok-place.place (shown c.put.new.self) left c.in_ok-place.ensures.adds (c.deref.ensures.value ∙ c.in_ok-gather.ensures) c.in_ok-place.ensures.found c.in_ok-put.ensures pays

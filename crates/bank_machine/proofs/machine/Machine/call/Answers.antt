@@ -1,11 +1,11 @@
-use Rattle.std.proofs.Common.{Some, None, refl, ◌∙◌, subst, arith}
-use Rattle.bank_machine.specs.Calls.{IsFound}
+use Rattle.std.proofs.Common.{◌∙◌, arith}
+use Rattle.bank_machine.specs.KeptCalls.{Says}
 use Rattle.bank_machine.specs.Stacks.{shown}
-use Rattle.bank_machine.proofs.StackMoves.{none_left, no_rule, calls_step, call_slots, call_is_at, call_terms, called}
+use Rattle.bank_machine.proofs.StackMoves.{none_left, calls_step, call_slots, recalled, not_recalled}
 use Rattle.bank_machine.proofs.machine.Machine.call.Goals as goal
 
 pub returns-then-left-eq0 : goal.returns-then-left-eq0
-returns-then-left-eq0 c s sort w =
+returns-then-left-eq0 c s sort w pays =
     let p = c.args.self.now in
     let before = shown c.args.stack.now in
     none_left p c.args.bank.now before s sort w c.requires.fine c.args.sym c.args.slots.now (calls_step p c.args.bank.now before s sort w c.requires.fine c.args.sym c.args.slots.now c.requires.there) c.args.left c.if-left-eq0.true before c.args.bank.now
@@ -15,25 +15,17 @@ gather-requires c =
     let q = c.requires.works in
     call_slots c.args.self.now c.args.bank.now (shown c.args.stack.now) q.0 q.1 q.2 c.requires.fine c.args.sym c.args.slots.now c.requires.there
 
-pub find-requires-clause-call : goal.find-requires-clause-call
-find-requires-clause-call c =
-    let q = c.requires.works in
-    call_is_at c.args.self.now c.args.bank.now (shown c.args.stack.now) q.0 q.1 q.2 c.requires.fine c.args.sym c.args.slots.now c.requires.there c.deref.result.now (c.deref.ensures.value ∙ c.in_ok-gather.ensures) (shown c.call.new.self) c.in_ok-call.ensures
+pub enter-requires-clause-calls : goal.enter-requires-clause-calls
+enter-requires-clause-calls c = (c.args.slots.now, c.requires.there, c.deref-in-None.ensures.value ∙ c.in_ok-gather.ensures)
 
-pub returns-in-None : goal.returns-in-None
-returns-in-None c s sort w =
+pub returns-then-known-left : goal.returns-then-known-left
+returns-then-known-left c s sort w pays =
     let p = c.args.self.now in
-    let cells = c.args.bank.now in
-    let before = shown c.args.stack.now in
-    let mid = shown c.call.new.self in
-    let found : IsFound p cells c.args.sym mid.base mid.places c.find.new.places.items None = subst (λ o. IsFound p cells c.args.sym mid.base mid.places c.find.new.places.items o) c.in-None.is c.in_ok-find.ensures in
-    no_rule p cells before s sort w c.requires.fine c.args.sym c.args.slots.now (calls_step p cells before s sort w c.requires.fine c.args.sym c.args.slots.now c.requires.there) mid.base mid.places c.find.new.places.items (call_terms p cells before s sort w c.requires.fine c.args.sym c.args.slots.now c.requires.there c.deref.result.now (c.deref.ensures.value ∙ c.in_ok-gather.ensures) mid c.in_ok-call.ensures) found c.args.left before cells
+    let says : Says c.args.kept.now c.args.sym c.deref.result.now c.in-Some.known = c.in-Some.ensures in
+    not_recalled p c.args.bank.now (shown c.args.stack.now) s sort w c.requires.fine c.args.sym c.args.slots.now c.requires.there c.deref.result.now (c.deref.ensures.value ∙ c.in_ok-gather.ensures) c.in-Some.known (c.requires.kept c.args.sym c.deref.result.now c.in-Some.known says) c.args.left (omega (arith, c.if-known-left.true)) (shown c.args.stack.now) c.args.bank.now
 
-pub returns-in-Some : goal.returns-in-Some
-returns-in-Some c s sort w =
+pub returns-in_ok-put-in-Some : goal.returns-in_ok-put-in-Some
+returns-in_ok-put-in-Some c s sort w pays =
     let p = c.args.self.now in
-    let cells = c.args.bank.now in
-    let before = shown c.args.stack.now in
-    let mid = shown c.call.new.self in
-    let found : IsFound p cells c.args.sym mid.base mid.places c.find.new.places.items (Some c.in-Some.next) = subst (λ o. IsFound p cells c.args.sym mid.base mid.places c.find.new.places.items o) c.in-Some.is c.in_ok-find.ensures in
-    called p cells before s sort w c.requires.fine c.args.sym c.args.slots.now c.requires.there c.deref.result.now (c.deref.ensures.value ∙ c.in_ok-gather.ensures) mid c.in_ok-call.ensures c.find.new.places.items c.in-Some.next found c.args.left (omega (arith, c.if-left-eq0.false)) _ refl
+    let says : Says c.args.kept.now c.args.sym c.deref.result.now c.in-Some.known = c.in-Some.ensures in
+    recalled p c.args.bank.now (shown c.args.stack.now) s sort w c.requires.fine c.args.sym c.args.slots.now c.requires.there c.deref.result.now (c.deref.ensures.value ∙ c.in_ok-gather.ensures) c.in-Some.known (c.requires.kept c.args.sym c.deref.result.now c.in-Some.known says) c.args.left (omega (arith, c.if-known-left.false)) (shown c.put.new.self) c.in_ok-put-in-Some.ensures pays

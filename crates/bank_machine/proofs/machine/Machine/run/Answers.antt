@@ -3,9 +3,10 @@ use Rattle.std.proofs.lemmas.List.{take_all}
 use Rattle.std.proofs.lemmas.Option.{slice_get-get_or}
 use Rattle.term_core.proofs.Items.{if_ok_map}
 use Rattle.value_bank.specs.declared.bank.ValueId.{ValueId}
+use Rattle.bank_machine.specs.Owed.{Pays}
 use Rattle.bank_machine.specs.Stacks.{shown}
 use Rattle.bank_machine.specs.States.{state}
-use Rattle.bank_machine.specs.Turns.{IsWorking, Works}
+use Rattle.bank_machine.specs.Turns.{IsUnderWay, Works}
 use Rattle.bank_machine.proofs.Starting.{id_within, starts, evaluated}
 use Rattle.bank_machine.proofs.machine.Machine.run.Goals as goal
 
@@ -19,7 +20,7 @@ pub run_on-requires-clause-works : goal.run_on-requires-clause-works
 run_on-requires-clause-works c =
     let q = c.requires.sorted in
     let places = c.loop-value.invariant ∙ ap (λ vs. map (λ (id : ValueId). id.0) vs) (take_all c.loop-value.value-index c.args.values.now (omega (arith, c.loop-value-test.false))) in
-    subst (λ z. IsWorking c.args.self.now c.args.bank.now z) (sym c.new.ensures) (state q.1 q.3.code.0 q.3.code.1 [], q.2, starts c.args.self.now c.requires.fine c.args.bank.now c.args.side c.args.values.now q.0 q.1 q.2 q.3 c.loop-value.slots.items places)
+    subst (λ z. IsUnderWay c.args.self.now c.args.bank.now c.args.budget z) (sym c.new.ensures) (state q.1 q.3.code.0 q.3.code.1 [], q.2, starts c.args.self.now c.requires.fine c.args.bank.now c.args.side c.args.values.now q.0 q.1 q.2 q.3 c.loop-value.slots.items places, tt)
 
 pub returns-clause-found : goal.returns-clause-found
 returns-clause-found c =
@@ -28,5 +29,6 @@ returns-clause-found c =
     (λ found h term terms sort can.
     let s = state terms can.code.0 can.code.1 [] in
     let works : Works c.args.self.now c.args.bank.now (shown c.new.result) (state terms can.code.0 can.code.1 []) sort = subst (λ z. Works c.args.self.now c.args.bank.now z (state terms can.code.0 can.code.1 []) sort) (sym c.new.ensures) (starts c.args.self.now c.requires.fine c.args.bank.now c.args.side c.args.values.now term terms sort can c.loop-value.slots.items places) in
-    evaluated c.args.self.now c.requires.fine c.args.bank.now c.args.side c.args.values.now term terms sort can c.run_on.new.bank c.args.budget found (h (state terms can.code.0 can.code.1 []) sort works))
+    let pays : Pays c.args.self.now c.args.budget (shown c.new.result) (state terms can.code.0 can.code.1 []) = subst (λ z. Pays c.args.self.now c.args.budget z (state terms can.code.0 can.code.1 [])) (sym c.new.ensures) tt in
+    evaluated c.args.self.now c.requires.fine c.args.bank.now c.args.side c.args.values.now term terms sort can c.run_on.new.bank c.args.budget found (h (state terms can.code.0 can.code.1 []) sort works pays))
     c.run_on.ensures.ran

@@ -2,6 +2,7 @@ use Rattle.std.proofs.Common.{◌<◌, sym, subst, length}
 use Rattle.term_core.proofs.Items.{if_ok_map}
 use Rattle.bank_machine.specs.Programs.{Program}
 use Rattle.bank_machine.proofs.Fuelled.{code_there}
+use Rattle.bank_machine.proofs.RightCalls.{right_kept}
 use Rattle.bank_machine.proofs.machine.Machine.turn.Goals as goal
 
 pub at-kind-requires : goal.at-kind-requires
@@ -9,11 +10,37 @@ at-kind-requires c =
     let q = c.requires.works in
     subst (λ (p : Program). c.args.stack.now.next < length p.code) (sym c.self.view_is) (code_there c.args.self.now.code c.args.stack.now.next q.0.top.steps q.0.top.end q.2.at.code)
 
+pub build-requires-clause-works : goal.build-requires-clause-works
+build-requires-clause-works c =
+    let q = c.requires.works in
+    (q.0, q.1, q.2)
+
+pub call-requires-clause-works : goal.call-requires-clause-works
+call-requires-clause-works c =
+    let q = c.requires.works in
+    (q.0, q.1, q.2)
+
+pub call_last-requires-clause-works : goal.call_last-requires-clause-works
+call_last-requires-clause-works c =
+    let q = c.requires.works in
+    (q.0, q.1, q.2)
+
+pub decide-requires-clause-works : goal.decide-requires-clause-works
+decide-requires-clause-works c =
+    let q = c.requires.works in
+    (q.0, q.1, q.2)
+
 pub returns-in-Build-clause-turn : goal.returns-in-Build-clause-turn
 returns-in-Build-clause-turn c = if_ok_map c.build.result _ _ (λ turn h. h c.args.left) c.build.ensures.turn
 
-pub returns-in-Give-clause-turn : goal.returns-in-Give-clause-turn
-returns-in-Give-clause-turn c = if_ok_map c.give.result _ _ (λ turn h. h c.args.left) c.give.ensures
+pub returns-in-Build-clause-kept : goal.returns-in-Build-clause-kept
+returns-in-Build-clause-kept c = if_ok_map c.build.result _ _ (λ turn h. right_kept c.args.self.now.spec c.args.bank.now c.build.new.bank c.args.kept.now c.build.ensures.adds c.requires.kept) c.build.ensures.turn
+
+pub returns-in-Call-clause-kept : goal.returns-in-Call-clause-kept
+returns-in-Call-clause-kept c = if_ok_map c.call.result _ _ (λ turn h. c.requires.kept) c.call.ensures
+
+pub returns-in-Last-clause-kept : goal.returns-in-Last-clause-kept
+returns-in-Last-clause-kept c = if_ok_map c.call_last.result _ _ (λ turn h. c.requires.kept) c.call_last.ensures
 
 pub returns-in-Decide-clause-turn : goal.returns-in-Decide-clause-turn
 returns-in-Decide-clause-turn c = c.decide.ensures c.args.left
