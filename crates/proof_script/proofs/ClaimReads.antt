@@ -55,7 +55,7 @@ module _ (sig : Sig) (d : NamesDiffer sig) where
   equals_run : AllRun (codes "=")
   equals_run = runs_all (codes "=") refl
 
-  value_reads : (v w : List ℕ × Tree) (r s : List ℕ) → ValueStands sig v → ValueStands sig w → line_text sig (value_line v) ++ r ≡ line_text sig (value_line w) ++ s → (v ≡ w) × (r ≡ s)
+  pub value_reads : (v w : List ℕ × Tree) (r s : List ℕ) → ValueStands sig v → ValueStands sig w → line_text sig (value_line v) ++ r ≡ line_text sig (value_line w) ++ s → (v ≡ w) × (r ≡ s)
   value_reads v w r s p q e =
       let one = head_reads sig (value_line v) (value_line w) r s (name_plain v.0 p.name).run (name_plain w.0 q.name).run e in
       let two = words_reads sig d (value_line v).words (value_line w).words r s refl (equals_run, (p.stands, tt)) (equals_run, (q.stands, tt)) one.rest in

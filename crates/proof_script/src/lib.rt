@@ -4,7 +4,8 @@
 //! folder `specs/` says what the text of each step, claim and report is, which reports have a text,
 //! and which line of some bytes is the first that can't continue: by the texts of reports alone,
 //! apart from any reader. The layers above use that [`print_report`] and [`print_claim`] write these
-//! texts, and that [`read_step`] reads the line of a step.
+//! texts, that [`read_step`] reads the line of a step, and that the readers of words are exact against
+//! `specs/LineWords.antt`.
 #![tactic(auto)]
 
 mod equation_steps;
@@ -28,5 +29,9 @@ mod verbs;
 mod words;
 
 pub use laws::{fault_examples, one_fault, one_report, refused_steps, worked_examples};
-pub use printing::{print_claim, print_report};
+pub use line_words::{next_name, next_number};
+pub use names::is_report_name;
+pub use printing::{print_claim, print_header, print_report};
 pub use step_lines::read_step;
+pub use term_words::next_term;
+pub use terms::{after, split_word};
