@@ -1,0 +1,7 @@
+-- What replaying a report answers.
+pub mod Tells
+-- What only this crate's own contracts speak of.
+pub mod Finds
+pub mod Tracking
+pub mod Taken
+pub mod NamedValues

@@ -1,0 +1,95 @@
+ghost use Rattle.std.specs.Prelude.{◌≡◌, ◌≤◌, ◌++◌, [], ◌∷◌, IfOk, OnOk, Contains, length};
+ghost use Rattle.inference_rules.specs.Answers.{clauses_of};
+ghost use Rattle.inference_rules.specs.Nodes.{AreNodes, clauses_made};
+ghost use Rattle.replay_check.specs.Taken.{links_of, without_sides, TakesStep};
+
+use clause_core::{Child, Children, Clause, Step, Why};
+use inference_rules::{Node, StepError, children};
+use path_order::TermOrder;
+use spec_admit::Admitted;
+use std::alloc::Global;
+use term_core::{OutOfMemory, Seq};
+
+/// The nodes of a block so far, and the links from those whose steps are taken.
+#[derive(Drop)]
+pub(crate) struct TakenSteps {
+    pub nodes: Vec<Node>,
+    /// For each step the relations of its children and its references. The clauses of the children
+    /// aren't kept twice: they stand in `nodes`, and clauses without sides stand for them here.
+    pub links: Vec<Children>,
+}
+
+impl TakenSteps {
+    /// A block that begins with this clause, where no step is taken.
+    pub fn new(alloc: Global, start: Clause) -> Result<TakenSteps, OutOfMemory>
+        ensures nodes { IfOk result (λ taken. clauses_of taken.nodes.items ≡ start ∷ []) }
+        ensures links { IfOk result (λ taken. taken.links.items ≡ []) }
+    {
+        let mut nodes = Vec::new(alloc);
+        nodes.push(Node { clause: start })?;
+        Ok(TakenSteps {
+            nodes,
+            links: Vec::new(alloc),
+        })
+    }
+
+    /// Takes the step of the next node.
+    pub fn take<O: TermOrder>(
+        &mut self,
+        alloc: Global,
+        admitted: &Admitted<O>,
+        proved: &[u32],
+        step: &Step,
+    ) -> Result<(), StepError>
+        requires few { length self.old.nodes.items ≤ 10000 }
+        requires nodes { AreNodes admitted.now.spec.sig (clauses_of self.old.nodes.items) }
+        ensures { TakesStep (O.above admitted.now.order) admitted.now.spec (Contains proved.now)
+            self.old self.new step.now result }
+    {
+        let nodes = self.nodes.as_slice();
+        let links = self.links.as_slice();
+        let node = links.len();
+        if node >= nodes.len() {
+            return Err(StepError::Why(Why::NoSuchNode));
+        }
+        let spec = &admitted.spec;
+        let order = &admitted.order;
+        let made = children(alloc, spec, order, proved, nodes, node as u32, step)?;
+        self.add(alloc, made)?;
+        Ok(())
+    }
+
+    /// Adds the children that a step makes as nodes, and the links to them.
+    fn add(&mut self, alloc: Global, made: Children) -> Result<(), OutOfMemory>
+        ensures nodes { OnOk result (clauses_of self.new.nodes.items
+            ≡ clauses_of self.old.nodes.items ++ clauses_made made) }
+        ensures links { OnOk result (self.new.links.items
+            ≡ self.old.links.items ++ links_of made ∷ []) }
+    {
+        let Children { clauses, refs } = made;
+        let mut links = Vec::with_capacity(alloc, clauses.len())?;
+        for child in clauses.into_vec() {
+            let Child { clause, relation } = child;
+            self.nodes.push(Node { clause })?;
+            links.push(Child {
+                clause: clause_without_sides(alloc),
+                relation,
+            })?;
+        }
+        self.links.push(Children {
+            clauses: Seq::from_vec(links),
+            refs,
+        })?;
+        Ok(())
+    }
+}
+
+fn clause_without_sides(alloc: Global) -> Clause
+    ensures { result ≡ without_sides }
+{
+    Clause {
+        ctx: Seq::new(alloc),
+        premises: Seq::new(alloc),
+        conclusions: Seq::new(alloc),
+    }
+}
