@@ -35,7 +35,7 @@ mutual
   all_occurring P (var n) h = (h n refl, tt)
   all_occurring P (app f ts) h = all_any_occurring P ts h
 
-  all_any_occurring : (P : ℕ → Type 0) (ts : Trees) → ((n : ℕ) → OccursAny n ts → P n) → AllByRecursion P (occurrences_all ts)
+  pub all_any_occurring : (P : ℕ → Type 0) (ts : Trees) → ((n : ℕ) → OccursAny n ts → P n) → AllByRecursion P (occurrences_all ts)
   all_any_occurring P none h = tt
   all_any_occurring P (some t ts) h = append_all P (occurrences t) (occurrences_all ts) (all_occurring P t (λ n o. h n (inl o))) (all_any_occurring P ts (λ n o. h n (inr o)))
 

@@ -1,5 +1,5 @@
 mod Samples
-mod NarrowTerms
+pub mod NarrowTerms
 mod Replaced
 -- Normal forms of sides, and how they close.
 mod Walking
@@ -11,6 +11,6 @@ mod Lengths
 mod SortCases
 mod FirstVariables
 -- The first step of a block.
-mod RenamedTidying
-mod CasesOfClauses
+pub mod RenamedTidying
+pub mod CasesOfClauses
 mod CoverSteps

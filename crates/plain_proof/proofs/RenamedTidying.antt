@@ -37,7 +37,7 @@ filter_all : (P : ℕ → Type 0) (f : ℕ → Bool) (ns : List ℕ) → AllByRe
 filter_all P f [] h = tt
 filter_all P f (n ∷ ns) h = cond_all P (f n) n (filter f ns) h.0 (filter_all P f ns h.1)
 
-firsts_all : (P : ℕ → Type 0) (ns : List ℕ) → AllByRecursion P ns → AllByRecursion P (firsts ns)
+pub firsts_all : (P : ℕ → Type 0) (ns : List ℕ) → AllByRecursion P ns → AllByRecursion P (firsts ns)
 firsts_all P [] h = tt
 firsts_all P (n ∷ ns) h = (h.0, filter_all P (λ m. not (m == n)) (firsts ns) (firsts_all P ns h.1))
 

@@ -1,0 +1,34 @@
+ghost use Rattle.plain_blocks.specs.Laws.{OneBlock, OneChoice, PlainBlocks};
+ghost use Rattle.plain_blocks.specs.StandingBlocks.{PlainBlocksStand};
+
+use path_order::TermOrder;
+
+/// One step at most is chosen at a node.
+pub fn one_choice<O: TermOrder>(order: &O)
+    ensures { OneChoice (O.above order.now) }
+{}
+
+/// A goal has one block at most on a variable.
+pub fn one_block<O: TermOrder>(order: &O)
+    ensures { OneBlock (O.above order.now) }
+{
+    one_choice(order);
+    clause_core::one_answer(order);
+    clause_core::tidying_laws();
+}
+
+/// A goal with a plain proof has its block.
+pub fn plain_blocks<O: TermOrder>(order: &O)
+    ensures { PlainBlocks (O.above order.now) }
+{
+    clause_core::tidying_laws();
+    plain_proof::first_steps(order);
+}
+
+/// Each step of the block of a plain proof may stand in a report.
+pub fn plain_blocks_stand<O: TermOrder>(order: &O)
+    ensures { PlainBlocksStand (O.above order.now) }
+{
+    clause_core::tidying_laws();
+    descent::children_are_sorted(order);
+}
