@@ -1,0 +1,4 @@
+-- Claims of searches, in the order in which to read them.
+pub mod Claims
+pub mod Names
+pub mod Laws

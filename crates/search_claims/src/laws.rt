@@ -1,0 +1,14 @@
+ghost use Rattle.search_claims.specs.Laws.{SearchReportsAreAccepted, SearchReportsStand};
+
+use path_order::TermOrder;
+
+/// The claims of searches for all goals of a well sorted specification make a report that has a
+/// text, where the specification's names may stand in one.
+pub fn search_reports_stand()
+    ensures { SearchReportsStand }
+{}
+
+/// These claims make a report that is accepted, whatever the order.
+pub fn search_reports_are_accepted<O: TermOrder>(order: &O)
+    ensures { SearchReportsAreAccepted (O.above order.now) }
+{}
