@@ -1,14 +1,16 @@
 -- What the matches of a command say of the words, and what a refusal says.
 use Rattle.std.proofs.Common.{◌≡◌, ◌∙◌, ℕ, List, [], ◌∷◌, sym, subst, refl, codes, Some, slice_get}
 use Rattle.clap.specs.Words.{App, Row, Text}
-use Rattle.command_line.specs.Apps.{refute_app, eval_app, check_app}
+use Rattle.command_line.specs.Apps.{refute_app, prove_app, eval_app, check_app, replay_app}
 use Rattle.command_line.specs.FlatApps.{IsFlat}
 use Rattle.command_line.specs.Matches.{HasWord, Takes}
-use Rattle.command_line.specs.Readings.{AreMatches, HasSomeNumber, HasSomeWord}
+use Rattle.command_line.specs.Readings.{AreMatches, HasSomeBounds, HasSomeNumber, HasSomeWord}
 use Rattle.command_line.specs.Rules.{number_rule, word_rule}
 use Rattle.command_line.specs.declared.ranges.NumberRange.{NumberRange}
+use Rattle.command_line.specs.declared.ranges.TheConstants.{DEPTHS, TRIES, STEPS, USUAL_DEPTH, USUAL_TRIES, USUAL_STEPS}
+use Rattle.command_line.specs.Apps.{depth_rule, tries_rule, steps_rule}
 use Rattle.command_line.proofs.OwnNames.{differs}
-use Rattle.command_line.specs.Tasks.{Task, refuting, evaluating, checking, app_for, Say, IsNamed, Asks, AskNothing}
+use Rattle.command_line.specs.Tasks.{Task, refuting, proving, evaluating, checking, replaying, app_for, Say, IsNamed, Asks, AskNothing}
 
 -- words have one first word at most
 pub one_name : (words : List Text) (name other : Text) → IsNamed name words → IsNamed other words → name ≡ other
@@ -25,6 +27,15 @@ module _ (app is_app : App) (words : List Text) (rows : List Row) (is : app ≡ 
 
   pub number_at : (k : ℕ) (name usual : Text) (range : NumberRange) → slice_get is_app.top.rules k ≡ Some (number_rule name range usual) → HasSomeNumber rows name range
   number_at k name usual range at = are.has_numbers k name usual range at
+
+  -- the three numbers of a search are there, behind the file
+  pub bounds_at : slice_get is_app.top.rules 1 ≡ Some depth_rule → slice_get is_app.top.rules 2 ≡ Some tries_rule → slice_get is_app.top.rules 3 ≡ Some steps_rule
+      → HasSomeBounds rows
+  bounds_at depth tries steps = record {
+    depth = number_at 1 (codes "depth") USUAL_DEPTH.now DEPTHS depth;
+    tries = number_at 2 (codes "tries") USUAL_TRIES.now TRIES tries;
+    steps = number_at 3 (codes "steps") USUAL_STEPS.now STEPS steps;
+  }
 
 -- what is read of a command's matches is what the words ask for
 pub asked : (app : App) (words : List Text) (rows : List Row) (file : Text) (task : Task) → app ≡ app_for task → IsNamed (app_for task).top.name words
@@ -45,26 +56,38 @@ pub nothing_asked : (app is_app : App) (words : List Text) → app ≡ is_app �
 nothing_asked app is_app words is named alone refused file task asks =
     refused (subst (λ (a : App). Takes a words) (alone task (one_name words _ _ asks.named named) ∙ sym is) asks.taken)
 
+-- a task whose command has a command's name is read by it
 pub refute_alone : (task : Task) → (app_for task).top.name ≡ codes "refute" → app_for task ≡ refute_app
 refute_alone (refuting bounds) same = refl
-refute_alone (evaluating term steps) same = absurd (differs (codes "eval") (codes "refute") refl same)
-refute_alone (checking print) same = absurd (differs (codes "check") (codes "refute") refl same)
+refute_alone task same = absurd (differs (app_for task).top.name (codes "refute") refl same)
+
+pub prove_alone : (task : Task) → (app_for task).top.name ≡ codes "prove" → app_for task ≡ prove_app
+prove_alone (proving bounds) same = refl
+prove_alone task same = absurd (differs (app_for task).top.name (codes "prove") refl same)
 
 pub eval_alone : (task : Task) → (app_for task).top.name ≡ codes "eval" → app_for task ≡ eval_app
-eval_alone (refuting bounds) same = absurd (differs (codes "refute") (codes "eval") refl same)
 eval_alone (evaluating term steps) same = refl
-eval_alone (checking print) same = absurd (differs (codes "check") (codes "eval") refl same)
+eval_alone task same = absurd (differs (app_for task).top.name (codes "eval") refl same)
 
 pub check_alone : (task : Task) → (app_for task).top.name ≡ codes "check" → app_for task ≡ check_app
-check_alone (refuting bounds) same = absurd (differs (codes "refute") (codes "check") refl same)
-check_alone (evaluating term steps) same = absurd (differs (codes "eval") (codes "check") refl same)
 check_alone (checking print) same = refl
+check_alone task same = absurd (differs (app_for task).top.name (codes "check") refl same)
+
+pub replay_alone : (task : Task) → (app_for task).top.name ≡ codes "replay" → app_for task ≡ replay_app
+replay_alone (replaying report) same = refl
+replay_alone task same = absurd (differs (app_for task).top.name (codes "replay") refl same)
 
 pub refute_flat : IsFlat refute_app
 refute_flat = record { simple = refl; ready = refl; free = refl; leaf = refl; negates = refl; names = refl }
+
+pub prove_flat : IsFlat prove_app
+prove_flat = record { simple = refl; ready = refl; free = refl; leaf = refl; negates = refl; names = refl }
 
 pub eval_flat : IsFlat eval_app
 eval_flat = record { simple = refl; ready = refl; free = refl; leaf = refl; negates = refl; names = refl }
 
 pub check_flat : IsFlat check_app
 check_flat = record { simple = refl; ready = refl; free = refl; leaf = refl; negates = refl; names = refl }
+
+pub replay_flat : IsFlat replay_app
+replay_flat = record { simple = refl; ready = refl; free = refl; leaf = refl; negates = refl; names = refl }

@@ -7,14 +7,14 @@ use Rattle.clap.specs.Words.{Row, Text, Kinds, fault_of, first_of, matches_of, o
 use Rattle.clap.specs.Walk.{is_empty}
 use Rattle.clap.proofs.OnLiterals.{clap_on_literals}
 use Rattle.command_line.specs.declared.ranges.NumberRange.{NumberRange}
-use Rattle.command_line.specs.declared.ranges.TheConstants.{DEPTHS, TRIES, STEPS}
-use Rattle.command_line.specs.Apps.{refute_app, eval_app, check_app}
+use Rattle.command_line.specs.declared.ranges.TheConstants.{DEPTHS, TRIES, STEPS, PLAIN, NODES}
+use Rattle.command_line.specs.Apps.{refute_app, prove_app, eval_app, check_app, replay_app}
 use Rattle.command_line.specs.Matches.{HasNumber, IsGiven}
-use Rattle.command_line.specs.Tasks.{refuting, evaluating, checking, Asks, AskNothing, AreBounds}
-use Rattle.command_line.specs.Examples.{Asking, Refused, refute, eval, check, usual, given}
+use Rattle.command_line.specs.Tasks.{app_for, refuting, proving, evaluating, checking, replaying, Asks, AskNothing, AreBounds, AreProofBounds}
+use Rattle.command_line.specs.Examples.{Asking, Refused, refute, prove, eval, check, replay, usual, given, usual_proof, given_proof}
 use Rattle.command_line.proofs.OwnNames.{differs}
 use Rattle.command_line.proofs.ReadLemmas.{text_compared}
-use Rattle.command_line.proofs.Askings.{nothing_asked, refute_alone, eval_alone, check_alone}
+use Rattle.command_line.proofs.Askings.{nothing_asked, refute_alone, prove_alone, eval_alone, check_alone, replay_alone}
 
 faulty : (ks : Kinds) → is_empty ks ≡ false → ks ≡ [] → ⊥
 faulty [] some none = cc
@@ -23,16 +23,21 @@ faulty (k ∷ ks) some none = cc
 no_refute : (words : List Text) → is_empty (fault_of refute_app (codes "refute" ∷ words)) ≡ false → AskNothing (codes "refute" ∷ words)
 no_refute words fault = nothing_asked refute_app refute_app (codes "refute" ∷ words) refl refl refute_alone (faulty _ fault)
 
+no_prove : (words : List Text) → is_empty (fault_of prove_app (codes "prove" ∷ words)) ≡ false → AskNothing (codes "prove" ∷ words)
+no_prove words fault = nothing_asked prove_app prove_app (codes "prove" ∷ words) refl refl prove_alone (faulty _ fault)
+
 no_eval : (words : List Text) → is_empty (fault_of eval_app (codes "eval" ∷ words)) ≡ false → AskNothing (codes "eval" ∷ words)
 no_eval words fault = nothing_asked eval_app eval_app (codes "eval" ∷ words) refl refl eval_alone (faulty _ fault)
 
 no_check : (words : List Text) → is_empty (fault_of check_app (codes "check" ∷ words)) ≡ false → AskNothing (codes "check" ∷ words)
 no_check words fault = nothing_asked check_app check_app (codes "check" ∷ words) refl refl check_alone (faulty _ fault)
 
+no_replay : (words : List Text) → is_empty (fault_of replay_app (codes "replay" ∷ words)) ≡ false → AskNothing (codes "replay" ∷ words)
+no_replay words fault = nothing_asked replay_app replay_app (codes "replay" ∷ words) refl refl replay_alone (faulty _ fault)
+
 no_command : AskNothing (codes "help" ∷ codes "a" ∷ [])
 no_command file (refuting bounds) asks = differs (codes "help") (codes "refute") refl asks.named
-no_command file (evaluating term steps) asks = differs (codes "help") (codes "eval") refl asks.named
-no_command file (checking print) asks = differs (codes "help") (codes "check") refl asks.named
+no_command file task asks = differs (codes "help") (app_for task).top.name refl asks.named
 
 pub refused : Refused
 unfolding clap_on_literals
@@ -47,10 +52,15 @@ refused = record {
   twice = no_refute _ refl;
   no_number = no_refute _ refl;
   below_zero = no_refute _ refl;
+  too_long = no_prove _ refl;
+  too_many_nodes = no_prove _ refl;
+  option_of_prove = no_refute _ refl;
   another_option = no_eval _ refl;
   too_many_steps = no_eval _ refl;
   no_term = no_eval _ refl;
   flag_with_text = no_check _ refl;
+  no_report = no_replay _ refl;
+  two_reports = no_replay _ refl;
 }
 
 -- a text of digits has the number that it writes
@@ -94,6 +104,37 @@ behind_dashes : Asks (refute (codes "--" ∷ codes "--help" ∷ [])) (codes "--h
 unfolding clap_on_literals
 behind_dashes = record { named = refl; taken = refl; file_is = refl; task_is = usual_bounds (matches_of refute_app (refute (codes "--" ∷ codes "--help" ∷ []))) refl refl refl }
 
+proof_bounds : (rows : List Row) → AreBounds rows usual → one_of (codes "plain") rows ≡ Some (codes "500") → one_of (codes "nodes") rows ≡ Some (codes "2000")
+    → AreProofBounds rows usual_proof
+proof_bounds rows bounds plain nodes = record {
+  search = bounds;
+  plain = number rows (codes "plain") PLAIN 500 (codes "500") plain (omega arith, (omega arith, (omega arith, (omega arith, tt)))) refl (omega arith) (omega arith);
+  nodes = number rows (codes "nodes") NODES 2000 (codes "2000") nodes (omega arith, (omega arith, (omega arith, (omega arith, (omega arith, tt))))) refl (omega arith) (omega arith);
+}
+
+given_proof_bounds : (rows : List Row) → AreBounds rows usual → one_of (codes "plain") rows ≡ Some (codes "1000") → one_of (codes "nodes") rows ≡ Some (codes "0")
+    → AreProofBounds rows given_proof
+given_proof_bounds rows bounds plain nodes = record {
+  search = bounds;
+  plain = number rows (codes "plain") PLAIN 1000 (codes "1000") plain (omega arith, (omega arith, (omega arith, (omega arith, (omega arith, tt))))) refl (omega arith) (omega arith);
+  nodes = number rows (codes "nodes") NODES 0 (codes "0") nodes (omega arith, (omega arith, tt)) refl (omega arith) (omega arith);
+}
+
+abbrev prove_rows : List Text → List Row
+prove_rows words = matches_of prove_app (prove words)
+
+proved : Asks (prove (codes "a" ∷ [])) (codes "a") (proving usual_proof)
+unfolding clap_on_literals
+proved =
+    let rows = prove_rows (codes "a" ∷ []) in
+    record { named = refl; taken = refl; file_is = refl; task_is = proof_bounds rows (usual_bounds rows refl refl refl) refl refl }
+
+proof_numbers : Asks (prove (codes "a" ∷ codes "--nodes=0" ∷ codes "--plain" ∷ codes "1000" ∷ [])) (codes "a") (proving given_proof)
+unfolding clap_on_literals
+proof_numbers =
+    let rows = prove_rows (codes "a" ∷ codes "--nodes=0" ∷ codes "--plain" ∷ codes "1000" ∷ []) in
+    record { named = refl; taken = refl; file_is = refl; task_is = given_proof_bounds rows (usual_bounds rows refl refl refl) refl refl }
+
 one_dash : Asks (eval (codes "-" ∷ codes "x" ∷ [])) (codes "-") (evaluating (codes "x") 1000)
 unfolding clap_on_literals
 one_dash = record { named = refl; taken = refl; file_is = refl; task_is = (refl, usual_steps (matches_of eval_app (eval (codes "-" ∷ codes "x" ∷ []))) refl) }
@@ -113,13 +154,20 @@ unprinted : Asks (check (codes "a" ∷ [])) (codes "a") (checking false)
 unfolding clap_on_literals
 unprinted = record { named = refl; taken = refl; file_is = refl; task_is = print_is (matches_of check_app (check (codes "a" ∷ []))) false (codes "false") refl refl }
 
+replayed : Asks (replay (codes "a" ∷ codes "b" ∷ [])) (codes "a") (replaying (codes "b"))
+unfolding clap_on_literals
+replayed = record { named = refl; taken = refl; file_is = refl; task_is = refl }
+
 pub asking : Asking
 asking = record {
   plain = plain;
   numbers = numbers;
   behind_dashes = behind_dashes;
+  proved = proved;
+  proof_numbers = proof_numbers;
   one_dash = one_dash;
   empty = empty;
   printed = printed;
   unprinted = unprinted;
+  replayed = replayed;
 }

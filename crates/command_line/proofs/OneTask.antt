@@ -5,8 +5,9 @@ use Rattle.std.specs.Str.Parse.{digits_value, without_leading_plus}
 use Rattle.clap.specs.Words.{App, Row, Text, matches_of}
 use Rattle.command_line.specs.declared.ranges.NumberRange.{NumberRange}
 use Rattle.command_line.specs.declared.bounds.SearchBounds.{SearchBounds}
+use Rattle.command_line.specs.declared.bounds.ProofBounds.{ProofBounds}
 use Rattle.command_line.specs.Matches.{HasNumber, HasWord}
-use Rattle.command_line.specs.Tasks.{Task, refuting, evaluating, checking, app_for, Say, AreBounds}
+use Rattle.command_line.specs.Tasks.{Task, refuting, proving, evaluating, checking, replaying, app_for, Say, AreBounds, AreProofBounds}
 use Rattle.command_line.specs.Laws.{OneTask}
 use Rattle.command_line.proofs.OwnNames.{differs}
 use Rattle.command_line.proofs.Askings.{one_name}
@@ -31,19 +32,23 @@ one_bounds rows a b are are_too =
     let steps = one_number rows _ _ a.steps b.steps are.steps are_too.steps in
     rw (depth, tries, steps) refl
 
+one_proof_bounds : (rows : List Row) (a b : ProofBounds) → AreProofBounds rows a → AreProofBounds rows b → a ≡ b
+one_proof_bounds rows a b are are_too =
+    let search_too = one_bounds rows a.search b.search are.search are_too.search in
+    let plain = one_number rows _ _ a.plain b.plain are.plain are_too.plain in
+    let nodes = one_number rows _ _ a.nodes b.nodes are.nodes are_too.nodes in
+    rw (search_too, plain, nodes) refl
+
 -- two tasks whose commands have one name are read by one command, and matches say only one of them
 one_kind : (task another : Task) → (app_for task).top.name ≡ (app_for another).top.name
     → (app_for task ≡ app_for another) × ((rows : List Row) → Say rows task → Say rows another → task ≡ another)
 one_kind (refuting a) (refuting b) same = (refl, (λ rows is is_too. ap refuting (one_bounds rows a b is is_too)))
+one_kind (proving a) (proving b) same = (refl, (λ rows is is_too. ap proving (one_proof_bounds rows a b is is_too)))
 one_kind (evaluating s n) (evaluating t m) same =
     (refl, (λ rows is is_too. ap₂ evaluating (one_text _ s t is.0 is_too.0) (one_number rows _ _ n m is.1 is_too.1)))
 one_kind (checking a) (checking b) same = (refl, (λ rows is is_too. ap checking (one_flag _ a b is is_too)))
-one_kind (refuting a) (evaluating t m) same = absurd (differs (codes "refute") (codes "eval") refl same)
-one_kind (refuting a) (checking b) same = absurd (differs (codes "refute") (codes "check") refl same)
-one_kind (evaluating s n) (refuting b) same = absurd (differs (codes "eval") (codes "refute") refl same)
-one_kind (evaluating s n) (checking b) same = absurd (differs (codes "eval") (codes "check") refl same)
-one_kind (checking a) (refuting b) same = absurd (differs (codes "check") (codes "refute") refl same)
-one_kind (checking a) (evaluating t m) same = absurd (differs (codes "check") (codes "eval") refl same)
+one_kind (replaying s) (replaying t) same = (refl, (λ rows is is_too. ap replaying (one_text _ s t is is_too)))
+one_kind task another same = absurd (differs (app_for task).top.name (app_for another).top.name refl same)
 
 pub one_task : OneTask
 one_task words file other task another asks asks_too =

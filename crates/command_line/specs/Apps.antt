@@ -1,8 +1,8 @@
 -- The simple command of each command word, as `clap` sees it.
 use Rattle.std.specs.Prelude.{List, [], ◌∷◌, codes}
 use Rattle.clap.specs.Words.{App, Rule, new_app, with_rule}
-use Rattle.command_line.specs.declared.ranges.TheConstants.{DEPTHS, TRIES, STEPS}
-use Rattle.command_line.specs.declared.ranges.TheConstants.{USUAL_DEPTH, USUAL_TRIES, USUAL_STEPS}
+use Rattle.command_line.specs.declared.ranges.TheConstants.{DEPTHS, TRIES, STEPS, PLAIN, NODES}
+use Rattle.command_line.specs.declared.ranges.TheConstants.{USUAL_DEPTH, USUAL_TRIES, USUAL_STEPS, USUAL_PLAIN, USUAL_NODES}
 use Rattle.command_line.specs.Rules.{word_rule, number_rule, flag_rule}
 
 -- a command with these arguments
@@ -19,10 +19,21 @@ tries_rule = number_rule (codes "tries") TRIES USUAL_TRIES.now
 abbrev pub steps_rule : Rule
 steps_rule = number_rule (codes "steps") STEPS USUAL_STEPS.now
 
+abbrev pub plain_rule : Rule
+plain_rule = number_rule (codes "plain") PLAIN USUAL_PLAIN.now
+
+abbrev pub nodes_rule : Rule
+nodes_rule = number_rule (codes "nodes") NODES USUAL_NODES.now
+
 -- `refute FILE [--depth D] [--tries T] [--steps B]`
 abbrev pub refute_app : App
 refute_app = with_rules (new_app (codes "refute"))
     (word_rule (codes "FILE") ∷ depth_rule ∷ tries_rule ∷ steps_rule ∷ [])
+
+-- `prove FILE [--depth D] [--tries T] [--steps B] [--plain L] [--nodes K]`
+abbrev pub prove_app : App
+prove_app = with_rules (new_app (codes "prove"))
+    (word_rule (codes "FILE") ∷ depth_rule ∷ tries_rule ∷ steps_rule ∷ plain_rule ∷ nodes_rule ∷ [])
 
 -- `eval FILE TERM [--steps B]`
 abbrev pub eval_app : App
@@ -33,3 +44,8 @@ eval_app = with_rules (new_app (codes "eval"))
 abbrev pub check_app : App
 check_app = with_rules (new_app (codes "check"))
     (word_rule (codes "FILE") ∷ flag_rule (codes "print") ∷ [])
+
+-- `replay FILE REPORT`
+abbrev pub replay_app : App
+replay_app = with_rules (new_app (codes "replay"))
+    (word_rule (codes "FILE") ∷ word_rule (codes "REPORT") ∷ [])

@@ -2,10 +2,14 @@
 use Rattle.std.specs.Prelude.{List, [], ◌∷◌, true, false, codes}
 use Rattle.clap.specs.Words.{Text}
 use Rattle.command_line.specs.declared.bounds.SearchBounds.{SearchBounds}
-use Rattle.command_line.specs.Tasks.{refuting, evaluating, checking, Asks, AskNothing}
+use Rattle.command_line.specs.declared.bounds.ProofBounds.{ProofBounds}
+use Rattle.command_line.specs.Tasks.{refuting, proving, evaluating, checking, replaying, Asks, AskNothing}
 
 abbrev pub refute : List Text → List Text
 refute words = codes "refute" ∷ words
+
+abbrev pub prove : List Text → List Text
+prove words = codes "prove" ∷ words
 
 abbrev pub eval : List Text → List Text
 eval words = codes "eval" ∷ words
@@ -13,11 +17,20 @@ eval words = codes "eval" ∷ words
 abbrev pub check : List Text → List Text
 check words = codes "check" ∷ words
 
+abbrev pub replay : List Text → List Text
+replay words = codes "replay" ∷ words
+
 abbrev pub usual : SearchBounds
 usual = record { depth = 3; tries = 10000; steps = 1000 }
 
 abbrev pub given : SearchBounds
 given = record { depth = 0; tries = 7; steps = 2000 }
+
+abbrev pub usual_proof : ProofBounds
+usual_proof = record { search = usual; plain = 500; nodes = 2000 }
+
+abbrev pub given_proof : ProofBounds
+given_proof = record { search = usual; plain = 1000; nodes = 0 }
 
 -- words that ask for a task
 pub record Asking : Type 0 where
@@ -28,12 +41,18 @@ pub record Asking : Type 0 where
       ∷ codes "--steps" ∷ codes "2000" ∷ [])) (codes "a") (refuting given)
   -- behind `--` no word is an option
   pub behind_dashes : Asks (refute (codes "--" ∷ codes "--help" ∷ [])) (codes "--help") (refuting usual)
+  pub proved : Asks (prove (codes "a" ∷ [])) (codes "a") (proving usual_proof)
+  -- the greatest length and no nodes
+  pub proof_numbers : Asks (prove (codes "a" ∷ codes "--nodes=0" ∷ codes "--plain" ∷ codes "1000" ∷ []))
+      (codes "a") (proving given_proof)
   -- `-` is a positional word
   pub one_dash : Asks (eval (codes "-" ∷ codes "x" ∷ [])) (codes "-") (evaluating (codes "x") 1000)
   -- the empty word is one too, and `help` is no question
   pub empty : Asks (eval (codes "" ∷ codes "help" ∷ [])) (codes "") (evaluating (codes "help") 1000)
   pub printed : Asks (check (codes "--print" ∷ codes "a" ∷ [])) (codes "a") (checking true)
   pub unprinted : Asks (check (codes "a" ∷ [])) (codes "a") (checking false)
+  -- the report stands behind the file
+  pub replayed : Asks (replay (codes "a" ∷ codes "b" ∷ [])) (codes "a") (replaying (codes "b"))
 
 -- words that ask for nothing
 pub record Refused : Type 0 where
@@ -47,10 +66,15 @@ pub record Refused : Type 0 where
   pub twice : AskNothing (refute (codes "a" ∷ codes "--depth=2" ∷ codes "--depth=2" ∷ []))
   pub no_number : AskNothing (refute (codes "a" ∷ codes "--depth=" ∷ []))
   pub below_zero : AskNothing (refute (codes "a" ∷ codes "--depth=-0" ∷ []))
+  pub too_long : AskNothing (prove (codes "a" ∷ codes "--plain" ∷ codes "1001" ∷ []))
+  pub too_many_nodes : AskNothing (prove (codes "a" ∷ codes "--nodes" ∷ codes "10001" ∷ []))
+  pub option_of_prove : AskNothing (refute (codes "a" ∷ codes "--nodes" ∷ codes "0" ∷ []))
   pub another_option : AskNothing (eval (codes "a" ∷ codes "x" ∷ codes "--depth" ∷ codes "2" ∷ []))
   pub too_many_steps : AskNothing (eval (codes "a" ∷ codes "x" ∷ codes "--steps" ∷ codes "100001" ∷ []))
   pub no_term : AskNothing (eval (codes "a" ∷ []))
   pub flag_with_text : AskNothing (check (codes "a" ∷ codes "--print=x" ∷ []))
+  pub no_report : AskNothing (replay (codes "a" ∷ []))
+  pub two_reports : AskNothing (replay (codes "a" ∷ codes "b" ∷ codes "c" ∷ []))
 
 pub record WorkedExamples : Type 0 where
   pub asking : Asking

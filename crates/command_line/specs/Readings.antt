@@ -1,8 +1,9 @@
 -- What a parse of a flat command gives, for each of its arguments.
-use Rattle.std.specs.Prelude.{◌≡◌, ◌≤◌, ℕ, List, Some, is_some, slice_get, true}
+use Rattle.std.specs.Prelude.{◌≡◌, ◌≤◌, ℕ, List, Some, codes, is_some, slice_get, true}
 use Rattle.std.specs.Str.Parse.{IsNumeral, digits_value, without_leading_plus}
 use Rattle.clap.specs.Words.{App, Row, Text, first_of, matches_of, one_of}
 use Rattle.command_line.specs.declared.ranges.NumberRange.{NumberRange}
+use Rattle.command_line.specs.declared.ranges.TheConstants.{DEPTHS, TRIES, STEPS}
 use Rattle.command_line.specs.Rules.{number_rule, word_rule}
 use Rattle.command_line.specs.Matches.{Takes}
 
@@ -17,6 +18,12 @@ pub record HasSomeNumber (rows : List Row) (name : Text) (range : NumberRange) :
   pub digits : IsNumeral 10 (without_leading_plus text)
   pub least : range.least ≤ digits_value 10 (without_leading_plus text)
   pub most : digits_value 10 (without_leading_plus text) ≤ range.most
+
+-- the matches have the three numbers of a search for counterexamples
+pub record HasSomeBounds (rows : List Row) : Type 0 where
+  pub depth : HasSomeNumber rows (codes "depth") DEPTHS
+  pub tries : HasSomeNumber rows (codes "tries") TRIES
+  pub steps : HasSomeNumber rows (codes "steps") STEPS
 
 -- the matches are those of the command in words without a fault, and all its arguments are there
 pub record AreMatches (app : App) (words : List Text) (rows : List Row) : Type 0 where

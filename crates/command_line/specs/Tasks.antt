@@ -2,34 +2,47 @@
 use Rattle.std.specs.Prelude.{◌≡◌, ◌↔◌, IsTrue, ℕ, Bool, List, [], ◌∷◌, codes}
 use Rattle.clap.specs.Words.{App, Row, Text, matches_of}
 use Rattle.command_line.specs.declared.bounds.SearchBounds.{SearchBounds}
-use Rattle.command_line.specs.declared.ranges.TheConstants.{DEPTHS, TRIES, STEPS}
-use Rattle.command_line.specs.Apps.{refute_app, eval_app, check_app}
+use Rattle.command_line.specs.declared.bounds.ProofBounds.{ProofBounds}
+use Rattle.command_line.specs.declared.ranges.TheConstants.{DEPTHS, TRIES, STEPS, PLAIN, NODES}
+use Rattle.command_line.specs.Apps.{refute_app, prove_app, eval_app, check_app, replay_app}
 use Rattle.command_line.specs.Matches.{HasNumber, HasWord, IsGiven, Takes}
 
 -- what is done with the specification of a file
 pub data Task : Type 0 where
   refuting : (bounds : SearchBounds) → Task
+  proving : (bounds : ProofBounds) → Task
   evaluating : (term : List ℕ) (steps : ℕ) → Task
   checking : (print : Bool) → Task
+  replaying : (report : List ℕ) → Task
 
 -- the simple command that reads the words of a task
 abbrev pub app_for : Task → App
 app_for (refuting bounds) = refute_app
+app_for (proving bounds) = prove_app
 app_for (evaluating term steps) = eval_app
 app_for (checking print) = check_app
+app_for (replaying report) = replay_app
 
--- how far the search goes
+-- how far the search for counterexamples goes
 pub record AreBounds (rows : List Row) (bounds : SearchBounds) : Type 0 where
   pub depth : HasNumber rows (codes "depth") DEPTHS bounds.depth
   pub tries : HasNumber rows (codes "tries") TRIES bounds.tries
   pub steps : HasNumber rows (codes "steps") STEPS bounds.steps
 
+-- how far the search for counterexamples and then for proofs goes
+pub record AreProofBounds (rows : List Row) (bounds : ProofBounds) : Type 0 where
+  pub search : AreBounds rows bounds.search
+  pub plain : HasNumber rows (codes "plain") PLAIN bounds.plain
+  pub nodes : HasNumber rows (codes "nodes") NODES bounds.nodes
+
 -- the matches say what is to be done
 abbrev pub Say : List Row → Task → Type 0
 Say rows (refuting bounds) = AreBounds rows bounds
+Say rows (proving bounds) = AreProofBounds rows bounds
 Say rows (evaluating term steps) =
     HasWord rows (codes "TERM") term × HasNumber rows (codes "steps") STEPS steps
 Say rows (checking print) = IsTrue print ↔ IsGiven rows (codes "print")
+Say rows (replaying report) = HasWord rows (codes "REPORT") report
 
 -- the first word is this one
 abbrev pub IsNamed : Text → List Text → Type 0

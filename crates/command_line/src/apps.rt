@@ -1,9 +1,12 @@
 ghost use Rattle.std.specs.Prelude.{◌≡◌, IfOk};
 ghost use Rattle.clap.specs.Words.{app_of};
-ghost use Rattle.command_line.specs.Apps.{check_app, eval_app, refute_app};
+ghost use Rattle.command_line.specs.Apps.{check_app, eval_app, prove_app, refute_app, replay_app};
 
 use crate::arguments::{flag, number, word};
-use crate::ranges::{DEPTHS, STEPS, TRIES, USUAL_DEPTH, USUAL_STEPS, USUAL_TRIES};
+use crate::ranges::{
+    DEPTHS, NODES, PLAIN, STEPS, TRIES, USUAL_DEPTH, USUAL_NODES, USUAL_PLAIN, USUAL_STEPS,
+    USUAL_TRIES,
+};
 use std::alloc::Global;
 use term_core::OutOfMemory;
 
@@ -16,6 +19,20 @@ pub fn refute_app<'a>(alloc: Global) -> Result<clap::Command<'a>, OutOfMemory>
         .arg(number(alloc, "depth", DEPTHS, USUAL_DEPTH))?
         .arg(number(alloc, "tries", TRIES, USUAL_TRIES))?
         .arg(number(alloc, "steps", STEPS, USUAL_STEPS))?;
+    Ok(app)
+}
+
+/// `prove FILE [--depth D] [--tries T] [--steps B] [--plain L] [--nodes K]`
+pub fn prove_app<'a>(alloc: Global) -> Result<clap::Command<'a>, OutOfMemory>
+    ensures { IfOk result (λ app. app_of app ≡ prove_app) }
+{
+    let app = clap::Command::new(alloc, "prove")
+        .arg(word(alloc, "FILE"))?
+        .arg(number(alloc, "depth", DEPTHS, USUAL_DEPTH))?
+        .arg(number(alloc, "tries", TRIES, USUAL_TRIES))?
+        .arg(number(alloc, "steps", STEPS, USUAL_STEPS))?
+        .arg(number(alloc, "plain", PLAIN, USUAL_PLAIN))?
+        .arg(number(alloc, "nodes", NODES, USUAL_NODES))?;
     Ok(app)
 }
 
@@ -37,5 +54,15 @@ pub fn check_app<'a>(alloc: Global) -> Result<clap::Command<'a>, OutOfMemory>
     let app = clap::Command::new(alloc, "check")
         .arg(word(alloc, "FILE"))?
         .arg(flag(alloc, "print"))?;
+    Ok(app)
+}
+
+/// `replay FILE REPORT`
+pub fn replay_app<'a>(alloc: Global) -> Result<clap::Command<'a>, OutOfMemory>
+    ensures { IfOk result (λ app. app_of app ≡ replay_app) }
+{
+    let app = clap::Command::new(alloc, "replay")
+        .arg(word(alloc, "FILE"))?
+        .arg(word(alloc, "REPORT"))?;
     Ok(app)
 }

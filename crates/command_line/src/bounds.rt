@@ -8,3 +8,14 @@ pub struct SearchBounds {
     /// How many rule uses the evaluation of one side may cost.
     pub steps: u32,
 }
+
+/// How far the search for counterexamples and then for proofs goes.
+#[derive(Clone, Copy, Debug, PartialEq, Eq)]
+pub struct ProofBounds {
+    /// How far the search for counterexamples goes.
+    pub search: SearchBounds,
+    /// The greatest length of a plain proof.
+    pub plain: u32,
+    /// The greatest number of nodes of a routine proof.
+    pub nodes: u32,
+}

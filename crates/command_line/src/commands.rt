@@ -1,12 +1,15 @@
 ghost use Rattle.std.specs.Prelude.{◌≡◌, IfOk, codes, map, string_bytes};
-ghost use Rattle.command_line.specs.Tasks.{IsNamed};
+ghost use Rattle.clap.specs.Words.{found_of, rows_of};
+ghost use Rattle.command_line.specs.Tasks.{AreBounds, IsNamed};
+ghost use Rattle.command_line.specs.Readings.{HasSomeBounds};
 ghost use Rattle.command_line.specs.Commands.{IsAsked, file_of};
 
-use crate::apps::{check_app, eval_app, refute_app};
+use crate::apps::{check_app, eval_app, prove_app, refute_app, replay_app};
 use crate::arguments::{is_given, number_of, word_of};
-use crate::bounds::SearchBounds;
+use crate::bounds::{ProofBounds, SearchBounds};
 use crate::matching::matches_of;
-use crate::ranges::{DEPTHS, STEPS, TRIES};
+use crate::ranges::{DEPTHS, NODES, PLAIN, STEPS, TRIES};
+use clap::ArgMatches;
 use std::alloc::Global;
 use term_core::{OutOfMemory, front};
 
@@ -17,6 +20,11 @@ pub enum Command<'a> {
     Refute {
         file: &'a str,
         bounds: SearchBounds,
+    },
+    /// Looks for counterexamples of a file's goals, and for proofs where it finds none.
+    Prove {
+        file: &'a str,
+        bounds: ProofBounds,
     },
     /// Evaluates a term within so many rule uses.
     Eval {
@@ -29,6 +37,11 @@ pub enum Command<'a> {
         file: &'a str,
         print: bool,
     },
+    /// Tests a report on a file.
+    Replay {
+        file: &'a str,
+        report: &'a str,
+    },
 }
 
 impl<'a> Command<'a> {
@@ -38,8 +51,10 @@ impl<'a> Command<'a> {
     {
         match self {
             Command::Refute { file, .. } => file,
+            Command::Prove { file, .. } => file,
             Command::Eval { file, .. } => file,
             Command::Check { file, .. } => file,
+            Command::Replay { file, .. } => file,
         }
     }
 }
@@ -58,11 +73,17 @@ pub fn command_of<'a>(
     if name.as_str() == "refute" {
         return refute_command(alloc, words);
     }
+    if name.as_str() == "prove" {
+        return prove_command(alloc, words);
+    }
     if name.as_str() == "eval" {
         return eval_command(alloc, words);
     }
     if name.as_str() == "check" {
         return check_command(alloc, words);
+    }
+    if name.as_str() == "replay" {
+        return replay_command(alloc, words);
     }
     Ok(None)
 }
@@ -79,15 +100,42 @@ fn refute_command<'a>(
     let Some(matches) = matches_of(app, words)? else {
         return Ok(None);
     };
-    let bounds = SearchBounds {
-        depth: number_of(&matches, "depth", DEPTHS),
-        tries: number_of(&matches, "tries", TRIES),
-        steps: number_of(&matches, "steps", STEPS),
-    };
     Ok(Some(Command::Refute {
+        file: word_of(&matches, "FILE"),
+        bounds: search_bounds_of(&matches),
+    }))
+}
+
+/// The command of the words of `prove`.
+fn prove_command<'a>(alloc: Global, words: &'a [String]) -> Result<Option<Command<'a>>, OutOfMemory>
+    requires { IsNamed (codes "prove") (map string_bytes words.now) }
+    ensures { IfOk result (IsAsked (map string_bytes words.now)) }
+{
+    let app = prove_app(alloc)?;
+    let Some(matches) = matches_of(app, words)? else {
+        return Ok(None);
+    };
+    let bounds = ProofBounds {
+        search: search_bounds_of(&matches),
+        plain: number_of(&matches, "plain", PLAIN),
+        nodes: number_of(&matches, "nodes", NODES),
+    };
+    Ok(Some(Command::Prove {
         file: word_of(&matches, "FILE"),
         bounds,
     }))
+}
+
+/// How far the search for counterexamples goes.
+fn search_bounds_of(matches: &ArgMatches<'_>) -> SearchBounds
+    requires { HasSomeBounds (rows_of (found_of matches.now)) }
+    ensures { AreBounds (rows_of (found_of matches.now)) result }
+{
+    SearchBounds {
+        depth: number_of(matches, "depth", DEPTHS),
+        tries: number_of(matches, "tries", TRIES),
+        steps: number_of(matches, "steps", STEPS),
+    }
 }
 
 /// The command of the words of `eval`.
@@ -118,5 +166,23 @@ fn check_command<'a>(alloc: Global, words: &'a [String]) -> Result<Option<Comman
     Ok(Some(Command::Check {
         file: word_of(&matches, "FILE"),
         print: is_given(&matches, "print"),
+    }))
+}
+
+/// The command of the words of `replay`.
+fn replay_command<'a>(
+    alloc: Global,
+    words: &'a [String],
+) -> Result<Option<Command<'a>>, OutOfMemory>
+    requires { IsNamed (codes "replay") (map string_bytes words.now) }
+    ensures { IfOk result (IsAsked (map string_bytes words.now)) }
+{
+    let app = replay_app(alloc)?;
+    let Some(matches) = matches_of(app, words)? else {
+        return Ok(None);
+    };
+    Ok(Some(Command::Replay {
+        file: word_of(&matches, "FILE"),
+        report: word_of(&matches, "REPORT"),
     }))
 }

@@ -14,7 +14,10 @@ mod laws;
 mod matching;
 mod ranges;
 
-pub use bounds::SearchBounds;
+pub use bounds::{ProofBounds, SearchBounds};
 pub use commands::{Command, command_of};
 pub use laws::{one_task, worked_examples};
-pub use ranges::{DEPTHS, NumberRange, STEPS, TRIES, USUAL_DEPTH, USUAL_STEPS, USUAL_TRIES};
+pub use ranges::{
+    DEPTHS, NODES, NumberRange, PLAIN, STEPS, TRIES, USUAL_DEPTH, USUAL_NODES, USUAL_PLAIN,
+    USUAL_STEPS, USUAL_TRIES,
+};

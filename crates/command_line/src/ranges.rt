@@ -20,6 +20,18 @@ pub const STEPS: NumberRange = NumberRange {
     most: 100_000,
 };
 
+/// How long a plain proof may be.
+pub const PLAIN: NumberRange = NumberRange {
+    least: 0,
+    most: 1000,
+};
+
+/// How many nodes a routine proof may have.
+pub const NODES: NumberRange = NumberRange {
+    least: 0,
+    most: 10_000,
+};
+
 /// The depth where no word gives one.
 pub const USUAL_DEPTH: &str = "3";
 
@@ -28,3 +40,9 @@ pub const USUAL_TRIES: &str = "10000";
 
 /// The steps where no word gives them.
 pub const USUAL_STEPS: &str = "1000";
+
+/// The length of a plain proof where no word gives one.
+pub const USUAL_PLAIN: &str = "500";
+
+/// The nodes where no word gives them.
+pub const USUAL_NODES: &str = "2000";

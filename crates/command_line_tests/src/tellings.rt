@@ -20,11 +20,20 @@ pub fn asked(alloc: Global, line: &str) -> Result<String, Fail> {
             let (depth, tries, steps) = (bounds.depth, bounds.tries, bounds.steps);
             format!(in alloc; "refute [{file}] {depth} {tries} {steps}")?
         }
+        Some(Command::Prove { file, bounds }) => {
+            let search = bounds.search;
+            let (depth, tries, steps) = (search.depth, search.tries, search.steps);
+            let (plain, nodes) = (bounds.plain, bounds.nodes);
+            format!(in alloc; "prove [{file}] {depth} {tries} {steps} {plain} {nodes}")?
+        }
         Some(Command::Eval { file, term, steps }) => {
             format!(in alloc; "eval [{file}] [{term}] {steps}")?
         }
         Some(Command::Check { file, print }) => {
             format!(in alloc; "check [{file}] print {print}")?
+        }
+        Some(Command::Replay { file, report }) => {
+            format!(in alloc; "replay [{file}] [{report}]")?
         }
         None => "nothing".to_string(alloc)?,
     };

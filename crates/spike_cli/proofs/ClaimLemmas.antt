@@ -1,94 +1,65 @@
 -- Claims on goals, and the status that they give.
-use Rattle.std.proofs.Common.{◌≡◌, ◌≢◌, ℕ, zero, suc, ◌+◌, ◌<◌, List, [], ◌∷◌, ◌++◌, Some, None, inl, inr, refl, sym, subst, arith, length, take, add-one}
+use Rattle.std.proofs.Common.{◌≡◌, ℕ, zero, suc, ◌<◌, List, [], ◌∷◌, ◌++◌, Some, None, inl, inr, sym, subst, arith, length}
 use Rattle.std.specs.Prelude.{slice_get, option_map}
 use Rattle.std.proofs.lemmas.Option.{slice_get_within}
 use Rattle.std.specs.List.{AllByRecursion}
 use Rattle.term_core.specs.Tree.{Tree, Trees, var, app, none, some, trees_of}
 use Rattle.term_core.specs.declared.ids.SortId.{SortId}
 use Rattle.spec_core.specs.declared.records.SymInfo.{SymInfo}
-use Rattle.spec_core.specs.declared.records.VarInfo.{VarInfo}
 use Rattle.spec_core.specs.declared.records.Goal.{Goal}
 use Rattle.spec_core.specs.declared.records.Spec.{Spec}
 use Rattle.spec_core.specs.Sig.{Sig}
 use Rattle.spec_core.specs.Sorts.{Sorted, SortedAll}
-use Rattle.spec_core.specs.Truth.{AreValuesOf}
 use Rattle.spec_core.specs.Order.{substitutions}
-use Rattle.spec_core.specs.WellSorted.{sorts_of}
 use Rattle.spec_core.specs.TermText.{SymbolsAreInRange, AllSymbolsAreInRange}
 use Rattle.refuter.specs.declared.answers.Search.{Search}
 use Rattle.refuter.specs.declared.answers.Search.TheVariants.{Found, NotFound}
-use Rattle.refuter.specs.Finds.{Finds, IsFalse}
-use Rattle.spike_cli.specs.declared.claims.Claim.{Claim}
-use Rattle.spike_cli.specs.declared.claims.Outcome.{Outcome}
-use Rattle.spike_cli.specs.declared.claims.Outcome.TheVariants.{Refuted, Open}
+use Rattle.refuter.specs.Finds.{Finds}
+use Rattle.clause_core.specs.declared.reports.Claim.{Claim}
+use Rattle.clause_core.specs.declared.reports.Outcome.{Outcome}
+use Rattle.clause_core.specs.declared.reports.Outcome.TheVariants.{Proved, Refuted, Open}
+use Rattle.search_claims.specs.Claims.{AreClaims}
 use Rattle.spike_cli.specs.declared.statuses.Status.{Status}
 use Rattle.spike_cli.specs.declared.statuses.Status.TheVariants as status
-use Rattle.command_line.specs.declared.bounds.SearchBounds.{SearchBounds}
-use Rattle.spike_cli.specs.Claims.{outcome_of, IsClaimOn, AreFirstClaims, AreClaims, IsRefutable, SomeIsRefutable, IsStatusOfGoals, IsRefuted, SomeIsRefuted, IsStatusOfClaims, named}
-use Rattle.spike_cli.specs.Ranges.{ArePrintable, IsPrintable}
+use Rattle.command_line.specs.declared.bounds.ProofBounds.{ProofBounds}
+use Rattle.spike_cli.specs.Claims.{IsOutcomeOf, IsClaimOn, IsRefutable, IsProvable, SomeGoal, IsStatusOfGoals, IsRefuted, IsOpen, SomeOutcome, IsStatusOfClaims}
 use Rattle.spike_cli.specs.Stops.{joined}
 
-module _ (bounds : SearchBounds) (spec : Spec) where
-  -- a claim more on the next goal
-  pub claims_more : (goals : List Goal) (i : ℕ) (goal : Goal) (claims : List Claim) (claim : Claim) → slice_get goals i ≡ Some goal → IsClaimOn bounds spec goal claim → AreClaims bounds spec (take i goals) claims → AreClaims bounds spec (take (i + 1) goals) (claims ++ claim ∷ [])
-  claims_more goals i goal claims claim at c all = rw add-one (by goals i claims at all)
-    where
-      by : (goals : List Goal) (i : ℕ) (claims : List Claim) → slice_get goals i ≡ Some goal → AreClaims bounds spec (take i goals) claims → AreClaims bounds spec (take (suc i) goals) (claims ++ claim ∷ [])
-      by [] i claims at all = absurd (let q : None ≡ Some goal = at in cc)
-      by (g ∷ gs) zero [] at all = let q : Some g ≡ Some goal = at in let k : g ≡ goal = cc in (subst (λ x. IsClaimOn bounds spec x claim) (sym k) c, tt)
-      by (g ∷ gs) zero (d ∷ ds) at all = absurd all
-      by (g ∷ gs) (suc i) [] at all = absurd all
-      by (g ∷ gs) (suc i) (d ∷ ds) at all = (all.0, by gs i ds at all.1)
+-- outcomes of which some is so, before one claim more and with it
+module _ (Holds : Outcome → Type 0) where
+  some_before : (claims others : List Claim) → SomeOutcome Holds claims → SomeOutcome Holds (claims ++ others)
+  some_before [] others h = absurd h
+  some_before (c ∷ claims) others (inl h) = inl h
+  some_before (c ∷ claims) others (inr h) = inr (some_before claims others h)
 
-  no_goals : (i : ℕ) (d : Claim) (ds : List Claim) → AreClaims bounds spec (take i []) (d ∷ ds) → ⊥
-  no_goals zero d ds all = all
-  no_goals (suc i) d ds all = all
+  some_last : (claims : List Claim) (claim : Claim) → Holds claim.outcome → SomeOutcome Holds (claims ++ claim ∷ [])
+  some_last [] claim h = inl h
+  some_last (c ∷ claims) claim h = inr (some_last claims claim h)
 
-  -- claims on the goals before a place are claims on the first goals
-  pub first_claims : (goals : List Goal) (i : ℕ) (claims : List Claim) → AreClaims bounds spec (take i goals) claims → AreFirstClaims bounds spec goals claims
-  first_claims goals i [] all = tt
-  first_claims [] i (d ∷ ds) all = absurd (no_goals i d ds all)
-  first_claims (g ∷ gs) zero (d ∷ ds) all = absurd all
-  first_claims (g ∷ gs) (suc i) (d ∷ ds) all = (all.0, first_claims gs i ds all.1)
+  none_more : (claims : List Claim) (claim : Claim) → (SomeOutcome Holds claims → ⊥) → (Holds claim.outcome → ⊥) → SomeOutcome Holds (claims ++ claim ∷ []) → ⊥
+  none_more [] claim h n (inl r) = n r
+  none_more [] claim h n (inr r) = r
+  none_more (c ∷ claims) claim h n (inl r) = h (inl r)
+  none_more (c ∷ claims) claim h n (inr r) = none_more claims claim (λ s. h (inr s)) n r
 
 -- a claim more, and the status with it
-some_refuted_left : (claims ds : List Claim) → SomeIsRefuted claims → SomeIsRefuted (claims ++ ds)
-some_refuted_left [] ds h = absurd h
-some_refuted_left (c ∷ claims) ds (inl h) = inl h
-some_refuted_left (c ∷ claims) ds (inr h) = inr (some_refuted_left claims ds h)
-
-refuted_last : (claims : List Claim) (claim : Claim) → IsRefuted claim.outcome → SomeIsRefuted (claims ++ claim ∷ [])
-refuted_last [] claim h = inl h
-refuted_last (c ∷ claims) claim h = inr (refuted_last claims claim h)
-
-none_refuted : (claims : List Claim) (claim : Claim) → (SomeIsRefuted claims → ⊥) → (IsRefuted claim.outcome → ⊥) → SomeIsRefuted (claims ++ claim ∷ []) → ⊥
-none_refuted [] claim h n (inl r) = n r
-none_refuted [] claim h n (inr r) = r
-none_refuted (c ∷ claims) claim h n (inl r) = h (inl r)
-none_refuted (c ∷ claims) claim h n (inr r) = none_refuted claims claim (λ s. h (inr s)) n r
-
-not_empty : (claims : List Claim) (claim : Claim) → (claims ++ claim ∷ []) ≢ []
-not_empty [] claim e = cc
-not_empty (c ∷ claims) claim e = cc
-
 pub status_more : (claims : List Claim) (claim : Claim) (s : Status) → IsStatusOfClaims claims s → IsStatusOfClaims (claims ++ claim ∷ []) (joined s claim.outcome)
-status_more claims claim status.Refuted h = some_refuted_left claims (claim ∷ []) h
-status_more claims claim status.Open h = by claim.outcome (λ r. refuted_last claims claim r) (λ n. none_refuted claims claim h.1 n)
+status_more claims claim s h = by s claim.outcome (λ r. some_last IsRefuted claims claim r) (λ o. some_last IsOpen claims claim o) (λ n r. none_more IsRefuted claims claim n r) (λ n o. none_more IsOpen claims claim n o) h
   where
-    by : (o : Outcome) → (IsRefuted o → SomeIsRefuted (claims ++ claim ∷ [])) → ((IsRefuted o → ⊥) → SomeIsRefuted (claims ++ claim ∷ []) → ⊥) → IsStatusOfClaims (claims ++ claim ∷ []) (joined status.Open o)
-    by (Refuted index values) r n = r tt
-    by (Open budget) r n = (not_empty claims claim, n (λ x. x))
-status_more claims claim status.Done h = by claim.outcome (λ r. refuted_last claims claim r) (λ n. none_refuted claims claim (λ r. subst (λ cs. SomeIsRefuted cs) h r) n)
-  where
-    by : (o : Outcome) → (IsRefuted o → SomeIsRefuted (claims ++ claim ∷ [])) → ((IsRefuted o → ⊥) → SomeIsRefuted (claims ++ claim ∷ []) → ⊥) → IsStatusOfClaims (claims ++ claim ∷ []) (joined status.Done o)
-    by (Refuted index values) r n = r tt
-    by (Open budget) r n = (not_empty claims claim, n (λ x. x))
-status_more claims claim status.Refused h = absurd h
-status_more claims claim status.No h = absurd h
-status_more claims claim status.ReadFault h = absurd h
-status_more claims claim status.WriteFault h = absurd h
-status_more claims claim status.Usage h = absurd h
-status_more claims claim status.OutOfMemory h = absurd h
+    by : (s : Status) (o : Outcome) → (IsRefuted o → SomeOutcome IsRefuted (claims ++ claim ∷ [])) → (IsOpen o → SomeOutcome IsOpen (claims ++ claim ∷ [])) → ((SomeOutcome IsRefuted claims → ⊥) → (IsRefuted o → ⊥) → SomeOutcome IsRefuted (claims ++ claim ∷ []) → ⊥) → ((SomeOutcome IsOpen claims → ⊥) → (IsOpen o → ⊥) → SomeOutcome IsOpen (claims ++ claim ∷ []) → ⊥) → IsStatusOfClaims claims s → IsStatusOfClaims (claims ++ claim ∷ []) (joined s o)
+    by status.Refuted o refuted left_open unrefuted closed h = some_before IsRefuted claims (claim ∷ []) h
+    by status.Open (Proved block) refuted left_open unrefuted closed h = (some_before IsOpen claims (claim ∷ []) h.0, unrefuted h.1 (λ x. x))
+    by status.Open (Refuted index values) refuted left_open unrefuted closed h = refuted tt
+    by status.Open (Open budget) refuted left_open unrefuted closed h = (left_open tt, unrefuted h.1 (λ x. x))
+    by status.Done (Proved block) refuted left_open unrefuted closed h = (closed h.0 (λ x. x), unrefuted h.1 (λ x. x))
+    by status.Done (Refuted index values) refuted left_open unrefuted closed h = refuted tt
+    by status.Done (Open budget) refuted left_open unrefuted closed h = (left_open tt, unrefuted h.1 (λ x. x))
+    by status.Refused o refuted left_open unrefuted closed h = absurd h
+    by status.No o refuted left_open unrefuted closed h = absurd h
+    by status.ReadFault o refuted left_open unrefuted closed h = absurd h
+    by status.WriteFault o refuted left_open unrefuted closed h = absurd h
+    by status.Usage o refuted left_open unrefuted closed h = absurd h
+    by status.OutOfMemory o refuted left_open unrefuted closed h = absurd h
 
 -- a declared symbol is in range
 pub symbol_in_range : (table : List (List ℕ × SymInfo)) (f : ℕ) (i : SymInfo) → option_map (λ (e : List ℕ × SymInfo). e.1) (slice_get table f) ≡ Some i → f < length table
@@ -107,64 +78,70 @@ mutual
   all_in_range sig ctx (some t ts) [] p = absurd p
   all_in_range sig ctx (some t ts) (s ∷ ss) p = (sorted_in_range sig ctx t s p.0, all_in_range sig ctx ts ss p.1)
 
-named_printable : (spec : Spec) (vars : List VarInfo) (values : List Tree) → AreValuesOf spec (sorts_of vars) values → ArePrintable spec.sig (named vars values)
-named_printable spec [] values h = tt
-named_printable spec (v ∷ vars) [] h = absurd h
-named_printable spec (v ∷ vars) (t ∷ values) h = (sorted_in_range spec.sig [] t v.sort h.0.0, named_printable spec vars values h.1)
-
-pub claim_printable : (bounds : SearchBounds) (spec : Spec) (goal : Goal) (claim : Claim) → IsClaimOn bounds spec goal claim → IsPrintable spec.sig claim.outcome
-claim_printable bounds spec goal claim c = subst (λ o. IsPrintable spec.sig o) (sym c.outcome) (by c.search c.false)
-  where
-    by : (search : Search) → IsFalse spec goal bounds.tries (substitutions spec goal bounds.depth) search → IsPrintable spec.sig (outcome_of bounds goal search)
-    by (Found index values) f = named_printable spec goal.vars values f.2
-    by (NotFound tried skipped cut) f = tt
-
-module _ (bounds : SearchBounds) (spec : Spec) where
+module _ (bounds : ProofBounds) (spec : Spec) where
   -- a claim is refuted exactly where its goal is refutable
   refuted_refutable : (goal : Goal) (claim : Claim) → IsClaimOn bounds spec goal claim → IsRefuted claim.outcome → IsRefutable bounds spec goal
-  refuted_refutable goal claim c r = by c.search c.exact (subst (λ o. IsRefuted o) c.outcome r)
+  refuted_refutable goal claim c r = by c.search claim.outcome c.exact c.outcome r
     where
-      by : (search : Search) → Finds spec goal bounds.steps bounds.tries (substitutions spec goal bounds.depth) search → IsRefuted (outcome_of bounds goal search) → IsRefutable bounds spec goal
-      by (Found index values) f r = (index, values, f.0, f.1, f.2)
-      by (NotFound tried skipped cut) f r = absurd r
+      by : (search : Search) (o : Outcome) → Finds spec goal bounds.search.steps bounds.search.tries (substitutions spec goal bounds.search.depth) search → IsOutcomeOf bounds spec goal search o → IsRefuted o → IsRefutable bounds spec goal
+      by (Found index values) o f is r = (index, values, f.0, f.1, f.2)
+      by (NotFound tried skipped cut) (Proved block) f is r = absurd r
+      by (NotFound tried skipped cut) (Refuted index values) f is r = absurd is
+      by (NotFound tried skipped cut) (Open budget) f is r = absurd r
 
   refutable_refuted : (goal : Goal) (claim : Claim) → IsClaimOn bounds spec goal claim → IsRefutable bounds spec goal → IsRefuted claim.outcome
-  refutable_refuted goal claim c r = subst (λ o. IsRefuted o) (sym c.outcome) (by c.search c.exact)
+  refutable_refuted goal claim c r = by c.search c.exact c.outcome
     where
-      by : (search : Search) → Finds spec goal bounds.steps bounds.tries (substitutions spec goal bounds.depth) search → IsRefuted (outcome_of bounds goal search)
-      by (Found index values) f = tt
-      by (NotFound tried skipped cut) f =
-          let within = slice_get_within (substitutions spec goal bounds.depth) r.0 r.1 r.3 in
+      by : (search : Search) → Finds spec goal bounds.search.steps bounds.search.tries (substitutions spec goal bounds.search.depth) search → IsOutcomeOf bounds spec goal search claim.outcome → IsRefuted claim.outcome
+      by (Found index values) f is = subst (λ o. IsRefuted o) (sym is) tt
+      by (NotFound tried skipped cut) f is =
+          let within = slice_get_within (substitutions spec goal bounds.search.depth) r.0 r.1 r.3 in
           absurd (f.2 r.0 r.1 (omega (arith, f.0, r.2, within)) r.3 r.4)
 
-  some_refutable : (goals : List Goal) (claims : List Claim) → AreClaims bounds spec goals claims → SomeIsRefuted claims → SomeIsRefutable bounds spec goals
-  some_refutable [] [] a h = absurd h
-  some_refutable [] (c ∷ claims) a h = absurd a
-  some_refutable (g ∷ goals) [] a h = absurd a
-  some_refutable (g ∷ goals) (c ∷ claims) a (inl h) = inl (refuted_refutable g c a.0 h)
-  some_refutable (g ∷ goals) (c ∷ claims) a (inr h) = inr (some_refutable goals claims a.1 h)
+  -- an open one isn't provable, and one that is neither open nor refuted is
+  open_unprovable : (goal : Goal) (claim : Claim) → IsClaimOn bounds spec goal claim → IsOpen claim.outcome → IsProvable bounds spec goal → ⊥
+  open_unprovable goal claim c left_open has = by c.search claim.outcome c.outcome left_open
+    where
+      by : (search : Search) (o : Outcome) → IsOutcomeOf bounds spec goal search o → IsOpen o → ⊥
+      by (Found index values) o is h = subst (λ o. IsOpen o) is h
+      by (NotFound tried skipped cut) (Proved block) is h = h
+      by (NotFound tried skipped cut) (Refuted index values) is h = h
+      by (NotFound tried skipped cut) (Open budget) is h = is.0 has.0 has.1
 
-  some_refuted : (goals : List Goal) (claims : List Claim) → AreClaims bounds spec goals claims → SomeIsRefutable bounds spec goals → SomeIsRefuted claims
-  some_refuted [] claims a h = absurd h
-  some_refuted (g ∷ goals) [] a h = absurd a
-  some_refuted (g ∷ goals) (c ∷ claims) a (inl h) = inl (refutable_refuted g c a.0 h)
-  some_refuted (g ∷ goals) (c ∷ claims) a (inr h) = inr (some_refuted goals claims a.1 h)
+  proved_provable : (goal : Goal) (claim : Claim) → IsClaimOn bounds spec goal claim → (IsOpen claim.outcome → ⊥) → (IsRefuted claim.outcome → ⊥) → IsProvable bounds spec goal
+  proved_provable goal claim c left_open refuted = by c.search claim.outcome c.outcome left_open refuted
+    where
+      by : (search : Search) (o : Outcome) → IsOutcomeOf bounds spec goal search o → (IsOpen o → ⊥) → (IsRefuted o → ⊥) → IsProvable bounds spec goal
+      by (Found index values) o is left_open refuted = absurd (refuted (subst (λ o. IsRefuted o) (sym is) tt))
+      by (NotFound tried skipped cut) (Proved block) is left_open refuted = (is.variable.0, is.first.0)
+      by (NotFound tried skipped cut) (Refuted index values) is left_open refuted = absurd is
+      by (NotFound tried skipped cut) (Open budget) is left_open refuted = absurd (left_open tt)
 
-  no_goal : (goals : List Goal) (claims : List Claim) → AreClaims bounds spec goals claims → goals ≡ [] → claims ≡ []
-  no_goal [] [] a e = refl
-  no_goal [] (c ∷ claims) a e = absurd a
-  no_goal (g ∷ goals) claims a e = cc
+  -- what is so of the outcome of a claim makes something so of its goal
+  module _ (Holds : Outcome → Type 0) (HoldsOn : Goal → Type 0) where
+    some_goal : ((goal : Goal) (claim : Claim) → IsClaimOn bounds spec goal claim → Holds claim.outcome → HoldsOn goal) → (goals : List Goal) (claims : List Claim) → AreClaims (IsClaimOn bounds spec) goals claims → SomeOutcome Holds claims → SomeGoal HoldsOn goals
+    some_goal one [] [] a h = absurd h
+    some_goal one [] (c ∷ claims) a h = absurd a
+    some_goal one (g ∷ goals) [] a h = absurd a
+    some_goal one (g ∷ goals) (c ∷ claims) a (inl h) = inl (one g c a.0 h)
+    some_goal one (g ∷ goals) (c ∷ claims) a (inr h) = inr (some_goal one goals claims a.1 h)
 
-  no_claim : (goals : List Goal) (claims : List Claim) → AreClaims bounds spec goals claims → claims ≡ [] → goals ≡ []
-  no_claim [] claims a e = refl
-  no_claim (g ∷ goals) [] a e = absurd a
-  no_claim (g ∷ goals) (c ∷ claims) a e = cc
+    some_claim : ((goal : Goal) (claim : Claim) → IsClaimOn bounds spec goal claim → HoldsOn goal → Holds claim.outcome) → (goals : List Goal) (claims : List Claim) → AreClaims (IsClaimOn bounds spec) goals claims → SomeGoal HoldsOn goals → SomeOutcome Holds claims
+    some_claim one [] claims a h = absurd h
+    some_claim one (g ∷ goals) [] a h = absurd a
+    some_claim one (g ∷ goals) (c ∷ claims) a (inl h) = inl (one g c a.0 h)
+    some_claim one (g ∷ goals) (c ∷ claims) a (inr h) = inr (some_claim one goals claims a.1 h)
+
+  all_provable : (goals : List Goal) (claims : List Claim) → AreClaims (IsClaimOn bounds spec) goals claims → (SomeOutcome IsOpen claims → ⊥) → (SomeOutcome IsRefuted claims → ⊥) → AllByRecursion (IsProvable bounds spec) goals
+  all_provable [] claims a left_open refuted = tt
+  all_provable (g ∷ goals) [] a left_open refuted = absurd a
+  all_provable (g ∷ goals) (c ∷ claims) a left_open refuted = (proved_provable g c a.0 (λ o. left_open (inl o)) (λ r. refuted (inl r)), all_provable goals claims a.1 (λ o. left_open (inr o)) (λ r. refuted (inr r)))
 
   -- the status of the claims is that of the goals
-  pub status_of_goals : (goals : List Goal) (claims : List Claim) (s : Status) → AreClaims bounds spec goals claims → IsStatusOfClaims claims s → IsStatusOfGoals bounds spec goals s
-  status_of_goals goals claims status.Refuted a h = some_refutable goals claims a h
-  status_of_goals goals claims status.Open a h = (λ e. h.0 (no_goal goals claims a e), λ r. h.1 (some_refuted goals claims a r))
-  status_of_goals goals claims status.Done a h = no_claim goals claims a h
+  pub status_of_goals : (goals : List Goal) (claims : List Claim) (s : Status) → AreClaims (IsClaimOn bounds spec) goals claims → IsStatusOfClaims claims s → IsStatusOfGoals bounds spec goals s
+  status_of_goals goals claims status.Refuted a h = some_goal IsRefuted (IsRefutable bounds spec) refuted_refutable goals claims a h
+  status_of_goals goals claims status.Open a h = (some_goal IsOpen (λ goal. IsProvable bounds spec goal → ⊥) open_unprovable goals claims a h.0, λ r. h.1 (some_claim IsRefuted (IsRefutable bounds spec) refutable_refuted goals claims a r))
+  status_of_goals goals claims status.Done a h = (all_provable goals claims a h.0 h.1, λ r. h.1 (some_claim IsRefuted (IsRefutable bounds spec) refutable_refuted goals claims a r))
   status_of_goals goals claims status.Refused a h = absurd h
   status_of_goals goals claims status.No a h = absurd h
   status_of_goals goals claims status.ReadFault a h = absurd h

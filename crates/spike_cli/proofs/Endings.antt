@@ -1,5 +1,5 @@
 -- What each ending of a call says.
-use Rattle.std.proofs.Common.{◌≡◌, ◌≤◌, ℕ, List, Option, inl, inr, refl, sym, subst, length}
+use Rattle.std.proofs.Common.{◌≡◌, ◌≤◌, ℕ, List, Option, inl, inr, refl, sym, subst}
 use Rattle.std.specs.Prelude.{Result, Ok, Err, OnOk, OnErr}
 use Rattle.io_core.specs.Count.{Rose}
 use Rattle.io_core.specs.Piece.{Appended, AppendedPrefix}
@@ -10,25 +10,24 @@ use Rattle.spec_grammar.specs.declared.raw.RawSpec.{RawSpec}
 use Rattle.spike_cli.specs.declared.statuses.Status.{Status}
 use Rattle.spike_cli.specs.declared.statuses.Status.TheVariants as status
 use Rattle.spike_cli.specs.declared.stops.Stop.{Stop}
-use Rattle.spike_cli.specs.declared.stops.Stop.TheVariants.{WriteFault, OutOfMemory}
-use Rattle.spike_cli.specs.declared.claims.Claim.{Claim}
+use Rattle.spike_cli.specs.declared.stops.Stop.TheVariants.{ReadFault, WriteFault, OutOfMemory}
+use Rattle.clause_core.specs.declared.reports.Claim.{Claim}
 use Rattle.spike_cli.specs.Claims.{IsStatusOfClaims}
-use Rattle.command_line.specs.Tasks.{Task, checking, refuting, evaluating, Asks}
+use Rattle.command_line.specs.Tasks.{Task, checking, refuting, proving, evaluating, replaying, Asks}
 use Rattle.spike_cli.specs.Evaluations.{IsEvaluation, valued, spent, refused}
+use Rattle.spike_cli.specs.Reads.{AreBytesOf}
+use Rattle.spike_cli.specs.Replays.{IsFileReplay, IsReplay, accepted as accepted_report, no_report, refused as refused_report, replayed, too_long_report}
 use Rattle.spike_cli.specs.Parts.{AppendsPartOf}
 use Rattle.spike_cli.specs.Meanings.{IsAcceptedAs}
 use Rattle.spike_cli.specs.Refusals.{IsRefusalOf}
 use Rattle.spike_cli.specs.Tellings.{Tells, IsLineOf}
 use Rattle.spike_cli.specs.declared.refusals.Refusal.{Refusal}
 use Rattle.spike_cli.specs.declared.refusals.Refusal.TheVariants.{Line, OutOfMemory as NoMemory}
-use Rattle.spike_cli.specs.Runs.{IsEnd, MayWriteOn, MayWriteFor, refusal, on_spec, Ended, RefusedBytes, AreBytesOf, ReadsFile, MayWrite, for_file, Means}
+use Rattle.spike_cli.specs.Runs.{IsEnd, MayWriteOn, MayWriteFor, refusal, on_spec, Ended, RefusedBytes, ReadsFile, MayWrite, for_file, Means}
 use Rattle.spec_grammar.specs.declared.limits.TheConstants.{MAX_FILE_BYTES}
-use Rattle.spike_cli.specs.Stops.{Stopped, Refuses, MeansFor, status_ended, status_of_stop}
-
--- a part of a text of one kind is one of another kind
-part_of : (P Q : List ℕ → Type 0) (old new : Option (List ℕ)) → ((t : List ℕ) → P t → Q t) → AppendsPartOf P old new → AppendsPartOf Q old new
-part_of P Q old new f (inl e) = inl e
-part_of P Q old new f (inr p) = inr (p.0, f p.0 p.1, p.2)
+use Rattle.spike_cli.specs.Stops.{FinishesReading, Refuses, MeansFor, status_ended, status_of_stop}
+use Rattle.io_core.proofs.Counts.{Rose-after}
+use Rattle.spike_cli.proofs.Pieces.{part_of}
 
 -- a line that was to be written whole
 module _ (Holds : Status → Type 0) (IsText : List ℕ → Type 0) (old new : Option (List ℕ)) (writes writes' : ℕ) (at_fault : Rose writes writes' → AppendsPartOf IsText old new → Holds status.WriteFault) (at_memory : AppendsPartOf IsText old new → Holds status.OutOfMemory) where
@@ -51,7 +50,6 @@ line_told IsLine NoMemory h text is = absurd is
 
 -- a status with which no task ends
 abbrev IsNoEnd : Status → Type 0
-IsNoEnd status.No = Unit {0}
 IsNoEnd status.ReadFault = Unit {0}
 IsNoEnd status.WriteFault = Unit {0}
 IsNoEnd status.Usage = Unit {0}
@@ -74,48 +72,60 @@ no_claims claims status.Refuted n h = n
 no_claims claims status.Open n h = n
 no_claims claims status.Refused n h = n
 
-no_end : (task : Task) (raw : RawSpec) (spec : Spec) (text : List ℕ) (s : Status) → IsNoEnd s → IsEnd task raw spec text s → ⊥
-no_end (checking print) raw spec text s n is = subst (λ (u : Status). IsNoEnd u) is.1 n
-no_end (refuting bounds) raw spec text s n is = no_claims is.claims s n is.answers
-no_end (evaluating term steps) raw spec text s n is = no_evaluation spec term steps text s n is
+no_replay : (spec : Spec) (bytes text : List ℕ) (s : Status) → IsNoEnd s → IsReplay spec bytes text s → ⊥
+no_replay spec bytes text s n (accepted_report report is ok true) = n
+no_replay spec bytes text s n (no_report line fault) = n
+no_replay spec bytes text s n (refused_report report line why is first) = n
 
-module _ (task : Task) (bytes : List ℕ) (old new : Option (List ℕ)) (writes writes' : ℕ) where
+no_file_replay : (spec : Spec) (held : Option (List ℕ)) (text : List ℕ) (s : Status) → IsNoEnd s → IsFileReplay spec held text s → ⊥
+no_file_replay spec held text s n (replayed bytes read is) = no_replay spec bytes text s n is
+no_file_replay spec held text s n (too_long_report long) = n
+
+no_end : (held : List ℕ → Option (List ℕ)) (task : Task) (raw : RawSpec) (spec : Spec) (text : List ℕ) (s : Status) → IsNoEnd s → IsEnd held task raw spec text s → ⊥
+no_end held (checking print) raw spec text s n is = subst (λ (u : Status). IsNoEnd u) is.1 n
+no_end held (refuting search) raw spec text s n is = no_claims is.claims s n is.answers
+no_end held (proving bounds) raw spec text s n is = no_claims is.claims s n is.answers
+no_end held (evaluating term steps) raw spec text s n is = no_evaluation spec term steps text s n is
+no_end held (replaying report) raw spec text s n is = no_file_replay spec (held report) text s n is
+
+module _ (held : List ℕ → Option (List ℕ)) (task : Task) (bytes : List ℕ) (reads reads' : ℕ) (old new : Option (List ℕ)) (writes writes' : ℕ) where
   -- the line of a refusal
-  pub refused_means : (r : Refusal) → Tells (IsRefusalOf bytes) r → (result : Status) → Refuses (IsLineOf r) old new writes writes' result → MeansFor task bytes old new writes writes' result
+  pub refused_means : (r : Refusal) → Tells (IsRefusalOf bytes) r → (result : Status) → Refuses (IsLineOf r) old new writes writes' result → MeansFor held task bytes reads reads' old new writes writes' result
   refused_means r told status.Done h = absurd h
   refused_means r told status.Refuted h = absurd h
   refused_means r told status.Open h = absurd h
   refused_means r told status.Refused h = inl (h.0, line_told (IsRefusalOf bytes) r told h.0 h.1, h.2)
   refused_means r told status.No h = absurd h
   refused_means r told status.ReadFault h = absurd h
-  refused_means r told status.WriteFault h = (h.0, part_of (IsLineOf r) (MayWriteFor task bytes) old new (λ t is. refusal (line_told (IsRefusalOf bytes) r told t is)) h.1)
+  refused_means r told status.WriteFault h = (h.0, part_of (IsLineOf r) (MayWriteFor held task bytes) old new (λ t is. refusal (line_told (IsRefusalOf bytes) r told t is)) h.1)
   refused_means r told status.Usage h = absurd h
-  refused_means r told status.OutOfMemory h = part_of (IsLineOf r) (MayWriteFor task bytes) old new (λ t is. refusal (line_told (IsRefusalOf bytes) r told t is)) h
+  refused_means r told status.OutOfMemory h = part_of (IsLineOf r) (MayWriteFor held task bytes) old new (λ t is. refusal (line_told (IsRefusalOf bytes) r told t is)) h
 
   module _ (raw : RawSpec) (spec : Spec) (accepted : IsAcceptedAs bytes raw spec) where
-    made : (s : Status) (text : List ℕ) → IsEnd task raw spec text s → Appended old new text → Ended task bytes old new s
+    made : (s : Status) (text : List ℕ) → IsEnd held task raw spec text s → Appended old new text → Ended held task bytes old new s
     made s text is done = record { raw = raw; spec = spec; accepted = accepted; text = text; is_end = is; appended = done }
 
     -- a task's text that was written whole
-    pub finished_means : (s : Status) (text : List ℕ) → IsEnd task raw spec text s → Appended old new text → MeansFor task bytes old new writes writes' s
+    pub finished_means : (s : Status) (text : List ℕ) → IsEnd held task raw spec text s → Appended old new text → MeansFor held task bytes reads reads' old new writes writes' s
     finished_means status.Done text is done = made status.Done text is done
     finished_means status.Refuted text is done = made status.Refuted text is done
     finished_means status.Open text is done = made status.Open text is done
     finished_means status.Refused text is done = inr (made status.Refused text is done)
-    finished_means status.No text is done = no_end task raw spec text status.No tt is
-    finished_means status.ReadFault text is done = absurd (no_end task raw spec text status.ReadFault tt is)
-    finished_means status.WriteFault text is done = absurd (no_end task raw spec text status.WriteFault tt is)
-    finished_means status.Usage text is done = no_end task raw spec text status.Usage tt is
-    finished_means status.OutOfMemory text is done = absurd (no_end task raw spec text status.OutOfMemory tt is)
+    finished_means status.No text is done = made status.No text is done
+    finished_means status.ReadFault text is done = absurd (no_end held task raw spec text status.ReadFault tt is)
+    finished_means status.WriteFault text is done = absurd (no_end held task raw spec text status.WriteFault tt is)
+    finished_means status.Usage text is done = no_end held task raw spec text status.Usage tt is
+    finished_means status.OutOfMemory text is done = absurd (no_end held task raw spec text status.OutOfMemory tt is)
 
-    part : AppendsPartOf (MayWriteOn task raw spec) old new → AppendsPartOf (MayWriteFor task bytes) old new
-    part p = part_of (MayWriteOn task raw spec) (MayWriteFor task bytes) old new (λ t b. on_spec raw spec accepted b) p
+    part : AppendsPartOf (MayWriteOn held task raw spec) old new → AppendsPartOf (MayWriteFor held task bytes) old new
+    part p = part_of (MayWriteOn held task raw spec) (MayWriteFor held task bytes) old new (λ t b. on_spec raw spec accepted b) p
 
     -- one that stopped before its end
-    pub stopped_means : (stop : Stop) (result : Status) → Stopped old new writes writes' (MayWriteOn task raw spec) stop → result ≡ status_of_stop stop → MeansFor task bytes old new writes writes' result
-    stopped_means stop result s e = subst (MeansFor task bytes old new writes writes') (sym e) (by stop s)
+    pub stopped_means : (stop : Stop) (result : Status) → FinishesReading old new writes writes' reads reads' (IsEnd held task raw spec) (MayWriteOn held task raw spec) (Err stop) → result ≡ status_of_stop stop → MeansFor held task bytes reads reads' old new writes writes' result
+    stopped_means stop result s e = subst (MeansFor held task bytes reads reads' old new writes writes') (sym e) (by stop s)
       where
-        by : (stop : Stop) → Stopped old new writes writes' (MayWriteOn task raw spec) stop → MeansFor task bytes old new writes writes' (status_of_stop stop)
+        by : (stop : Stop) → FinishesReading old new writes writes' reads reads' (IsEnd held task raw spec) (MayWriteOn held task raw spec) (Err stop) → MeansFor held task bytes reads reads' old new writes writes' (status_of_stop stop)
+        by ReadFault s = s
         by WriteFault s = (s.0, part s.1)
         by OutOfMemory s = part s
 
@@ -124,20 +134,20 @@ module _ (words : List (List ℕ)) (held : List ℕ → Option (List ℕ)) (read
   line_means s result line may done wrote ok err failed e = line_ends (Means words held reads reads' old new writes writes') (MayWrite words held) old new writes writes' (λ r p. (r, p)) (λ p. p) s result line may done wrote ok err failed e
 
   -- what was done on the bytes of the file that the words name
-  module _ (task : Task) (file bytes : List ℕ) (asks : Asks words file task) (read : AreBytesOf (held file) bytes) (within : length bytes ≤ MAX_FILE_BYTES) where
+  module _ (task : Task) (file bytes : List ℕ) (asks : Asks words file task) (read : AreBytesOf (held file) MAX_FILE_BYTES bytes) (middle : ℕ) (before : reads ≤ middle) where
     with_file : (Holds : Task → List ℕ → Type 0) → Holds task bytes → ReadsFile words held Holds
-    with_file Holds h = record { file = file; task = task; asked = asks; bytes = bytes; read = read; within = within; holds = h }
+    with_file Holds h = record { file = file; task = task; asked = asks; bytes = bytes; read = read; holds = h }
 
-    file_part : AppendsPartOf (MayWriteFor task bytes) old new → AppendsPartOf (MayWrite words held) old new
-    file_part p = part_of (MayWriteFor task bytes) (MayWrite words held) old new (λ t m. for_file (with_file (λ k b. MayWriteFor k b t) m)) p
+    file_part : AppendsPartOf (MayWriteFor held task bytes) old new → AppendsPartOf (MayWrite words held) old new
+    file_part p = part_of (MayWriteFor held task bytes) (MayWrite words held) old new (λ t m. for_file (with_file (λ k b. MayWriteFor held k b t) m)) p
 
-    pub file_means : (s : Status) → MeansFor task bytes old new writes writes' s → Means words held reads reads' old new writes writes' s
-    file_means status.Done h = with_file (λ k b. Ended k b old new status.Done) h
-    file_means status.Refuted h = with_file (λ k b. Ended k b old new status.Refuted) h
-    file_means status.Open h = with_file (λ k b. Ended k b old new status.Open) h
-    file_means status.Refused h = inr (with_file (λ k b. RefusedBytes k b old new) h)
-    file_means status.No h = h
-    file_means status.ReadFault h = absurd h
+    pub file_means : (s : Status) → MeansFor held task bytes middle reads' old new writes writes' s → Means words held reads reads' old new writes writes' s
+    file_means status.Done h = with_file (λ k b. Ended held k b old new status.Done) h
+    file_means status.Refuted h = with_file (λ k b. Ended held k b old new status.Refuted) h
+    file_means status.Open h = with_file (λ k b. Ended held k b old new status.Open) h
+    file_means status.Refused h = inr (with_file (λ k b. RefusedBytes held k b old new) h)
+    file_means status.No h = with_file (λ k b. Ended held k b old new status.No) h
+    file_means status.ReadFault h = ((file, task, asks), Rose-after reads middle reads' before h.0, h.1)
     file_means status.WriteFault h = (h.0, file_part h.1)
     file_means status.Usage h = absurd h
     file_means status.OutOfMemory h = file_part h

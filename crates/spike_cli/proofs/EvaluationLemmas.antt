@@ -21,7 +21,7 @@ use Rattle.ground_eval.specs.Evals.{IsEval}
 use Rattle.ground_eval.specs.declared.answers.Eval.{Eval}
 use Rattle.ground_eval.specs.declared.answers.Eval.TheVariants.{Value, Large, Spent}
 use Rattle.term_core.specs.declared.memory.OutOfMemory.{OutOfMemory}
-use Rattle.spike_cli.specs.declared.evaluating.Evaluation.{Evaluation}
+use Rattle.spike_cli.specs.declared.statuses.Ending.{Ending}
 use Rattle.spike_cli.specs.Meanings.{TermTextStandsFor}
 use Rattle.spike_cli.specs.Evaluations.{IsEvaluation, value_text, lines_with, spent_line, valued, spent, refused}
 use Rattle.spike_cli.specs.Tellings.{Tells, IsLineOf}
@@ -36,7 +36,7 @@ value_printable spec t v n fine sorted gives = let kept = keeps spec fine gives 
 pub refused_evaluation : (spec : Spec) (bytes : List ℕ) (steps : ℕ) (r : Refusal) (text : List ℕ) (s : Status) → Tells (IsTermRefusal spec.sig bytes) r → IsLineOf r text → s ≡ status.Refused → IsEvaluation spec bytes steps text s
 refused_evaluation spec bytes steps r text s told is e = subst (λ (u : Status). IsEvaluation spec bytes steps text u) (sym e) (refused (line_told (IsTermRefusal spec.sig bytes) r told text is))
 
-pub refused_result : (spec : Spec) (bytes : List ℕ) (steps : ℕ) (r : Refusal) (result : Result Evaluation OutOfMemory) → Tells (IsTermRefusal spec.sig bytes) r → IfOk result (λ e. IsLineOf r e.text.items × (e.status ≡ status.Refused)) → IfOk result (λ e. IsEvaluation spec bytes steps e.text.items e.status)
+pub refused_result : (spec : Spec) (bytes : List ℕ) (steps : ℕ) (r : Refusal) (result : Result Ending OutOfMemory) → Tells (IsTermRefusal spec.sig bytes) r → IfOk result (λ e. IsLineOf r e.text.items × (e.status ≡ status.Refused)) → IfOk result (λ e. IsEvaluation spec bytes steps e.text.items e.status)
 refused_result spec bytes steps r (Ok e) told h = refused_evaluation spec bytes steps r e.text.items e.status told h.0 h.1
 refused_result spec bytes steps r (Err e) told h = tt
 

@@ -1,6 +1,8 @@
-pub mod Walks
 pub mod Pieces
 pub mod ClaimLemmas
+pub mod TrueClaims
+pub mod ReportedClaims
+pub mod Unproved
 pub mod Accepting
 pub mod CheckLines
 pub mod Told
@@ -8,3 +10,10 @@ pub mod Endings
 pub mod EvaluationLemmas
 pub mod OneText
 pub mod OneEnding
+pub mod OneReplay
+pub mod FinishedReports
+pub mod Readings
+pub mod TasksWithin
+pub mod NamesOfTexts
+pub mod StandingNames
+pub mod Reported

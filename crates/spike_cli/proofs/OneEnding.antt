@@ -61,7 +61,7 @@ one_admit_line sig (Guards rule) line other a b = a ∙ sym b
 one_admit_line sig (Coverage f values) line other a b = a ∙ sym b
 one_admit_line sig OutOfMemory line other a b = absurd a
 
-well_sorted_meaning : (bytes : List ℕ) (spec : Spec) → TextStandsFor bytes spec → IsWellSorted spec
+pub well_sorted_meaning : (bytes : List ℕ) (spec : Spec) → TextStandsFor bytes spec → IsWellSorted spec
 well_sorted_meaning bytes spec a = numbered_well_sorted a.0 spec (keeps_limits bytes a.0 a.1) a.2.numbered
 
 module _ (one : OneFault Above) where

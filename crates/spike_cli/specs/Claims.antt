@@ -1,104 +1,116 @@
 -- The claims that a specification's goals get.
-use Rattle.std.specs.Prelude.{◌≡◌, ◌≢◌, ℕ, ◌<◌, ◌⊎◌, List, [], ◌∷◌, Bool, Some, slice_get}
-use Rattle.std.specs.List.{zip}
+use Rattle.std.specs.Prelude.{◌≡◌, ℕ, ◌<◌, ◌⊎◌, List, [], ◌∷◌, Bool, Some, None, slice_get}
+use Rattle.std.specs.List.{AllByRecursion}
 use Rattle.term_core.specs.Tree.{Tree}
 use Rattle.spec_core.specs.declared.records.Spec.{Spec}
 use Rattle.spec_core.specs.declared.records.Goal.{Goal}
-use Rattle.spec_core.specs.declared.records.VarInfo.{VarInfo}
 use Rattle.spec_core.specs.declared.records.Verdict.TheVariants.{Fails}
 use Rattle.spec_core.specs.Verdict.{IsVerdict}
 use Rattle.spec_core.specs.Order.{substitutions}
-use Rattle.spec_core.specs.TermText.{variable_names}
+use Rattle.path_order.specs.Above.{Above}
 use Rattle.refuter.specs.declared.answers.Search.{Search}
 use Rattle.refuter.specs.declared.answers.Search.TheVariants.{Found, NotFound}
 use Rattle.refuter.specs.Finds.{Finds, IsFalse}
-use Rattle.spike_cli.specs.declared.claims.Claim.{Claim}
-use Rattle.spike_cli.specs.declared.claims.Outcome.{Outcome}
-use Rattle.spike_cli.specs.declared.claims.Outcome.TheVariants.{Refuted, Open}
+use Rattle.clause_core.specs.declared.reports.Budget.{Budget}
+use Rattle.clause_core.specs.declared.reports.Claim.{Claim}
+use Rattle.clause_core.specs.declared.reports.Outcome.{Outcome}
+use Rattle.clause_core.specs.declared.reports.Outcome.TheVariants.{Proved, Refuted, Open}
+use Rattle.plain_proof.specs.FirstPlain.{HasPlain, IsFirstPlain}
+use Rattle.plain_blocks.specs.Plain.{IsFirstBlock}
+use Rattle.search_claims.specs.Claims.{named}
+use Rattle.soundness.specs.ReportTruth.{OutcomeIsTrue}
 use Rattle.spike_cli.specs.declared.statuses.Status.{Status}
 use Rattle.spike_cli.specs.declared.statuses.Status.TheVariants as status
-use Rattle.command_line.specs.declared.bounds.SearchBounds.{SearchBounds}
-use Rattle.spike_cli.specs.declared.claims.Budget.{Budget}
+use Rattle.command_line.specs.declared.bounds.ProofBounds.{ProofBounds}
 
--- each value with the name of its variable
-abbrev pub named : List VarInfo → List Tree → List (List ℕ × Tree)
-named vars values = zip (variable_names vars) values
-
--- how far a goal was tried: no proof was looked for
-abbrev pub budget_of : SearchBounds → ℕ → ℕ → Bool → Budget
+-- how far a goal that is left open was tried
+abbrev pub budget_of : ProofBounds → ℕ → ℕ → Bool → Budget
 budget_of bounds tried skipped cut =
     record {
-      depth = bounds.depth;
+      depth = bounds.search.depth;
       tried = tried;
       skipped = skipped;
       cut = cut;
-      plain = 0;
-      nodes = 0;
+      plain = bounds.plain;
+      nodes = bounds.nodes;
     }
 
--- the outcome that the answer of a search means
-abbrev pub outcome_of : SearchBounds → Goal → Search → Outcome
-outcome_of bounds goal (Found index values) = Refuted index (named goal.vars values)
-outcome_of bounds goal (NotFound tried skipped cut) = Open (budget_of bounds tried skipped cut)
+-- this is so of one of the goals
+abbrev pub SomeGoal : (Goal → Type 0) → List Goal → Type 0
+SomeGoal Holds [] = ⊥
+SomeGoal Holds (goal ∷ goals) = Holds goal ⊎ SomeGoal Holds goals
 
-module _ (bounds : SearchBounds) (spec : Spec) where
-  -- the claim is on this goal and says what a search among its substitutions answers; under a
-  -- counterexample the goal is false
+module _ (bounds : ProofBounds) (spec : Spec) where
+  -- what is claimed of a goal without a counterexample: that it is proved, by the block of its first
+  -- plain proof; or that it is open with these numbers, where no variable has a plain proof
+  abbrev pub IsUnrefuted : Goal → Budget → Outcome → Type 0
+  IsUnrefuted goal tried (Proved block) = IsFirstBlock Above spec goal bounds.plain block
+  IsUnrefuted goal tried (Refuted index values) = ⊥
+  IsUnrefuted goal tried (Open budget) =
+      IsFirstPlain spec goal bounds.plain None × (budget ≡ tried)
+
+  -- what is claimed where a search answers this
+  abbrev pub IsOutcomeOf : Goal → Search → Outcome → Type 0
+  IsOutcomeOf goal (Found index values) outcome = outcome ≡ Refuted index (named goal.vars values)
+  IsOutcomeOf goal (NotFound tried skipped cut) outcome =
+      IsUnrefuted goal (budget_of bounds tried skipped cut) outcome
+
+  -- the claim is on this goal and says what a search among its substitutions answers, or else
+  -- whether it has a plain proof; and what it says is true
   pub record IsClaimOn (goal : Goal) (claim : Claim) : Type 0 where
     pub search : Search
     pub name : claim.goal ≡ goal.name
-    pub outcome : claim.outcome ≡ outcome_of bounds goal search
-    pub false : IsFalse spec goal bounds.tries (substitutions spec goal bounds.depth) search
-    pub exact : Finds spec goal bounds.steps bounds.tries (substitutions spec goal bounds.depth) search
-
-  -- there are claims on the first goals, one for each and in their order
-  abbrev pub AreFirstClaims : List Goal → List Claim → Type 0
-  AreFirstClaims goals [] = Unit {0}
-  AreFirstClaims [] (claim ∷ claims) = ⊥
-  AreFirstClaims (goal ∷ goals) (claim ∷ claims) =
-      IsClaimOn goal claim × AreFirstClaims goals claims
-
-  -- there are claims on all goals, one for each and in their order
-  abbrev pub AreClaims : List Goal → List Claim → Type 0
-  AreClaims [] [] = Unit {0}
-  AreClaims (goal ∷ goals) [] = ⊥
-  AreClaims [] (claim ∷ claims) = ⊥
-  AreClaims (goal ∷ goals) (claim ∷ claims) = IsClaimOn goal claim × AreClaims goals claims
+    pub false :
+        IsFalse spec goal bounds.search.tries (substitutions spec goal bounds.search.depth) search
+    pub exact :
+        Finds spec goal bounds.search.steps bounds.search.tries
+        (substitutions spec goal bounds.search.depth) search
+    pub outcome : IsOutcomeOf goal search claim.outcome
+    pub true : OutcomeIsTrue spec goal claim.outcome
 
   -- the goal's verdict is Fails under one of the first substitutions
   abbrev pub IsRefutable : Goal → Type 0
   IsRefutable goal =
-      (k : ℕ) × (values : List Tree) × (k < bounds.tries)
-      × (slice_get (substitutions spec goal bounds.depth) k ≡ Some values)
-      × IsVerdict spec values bounds.steps goal Fails
+      (k : ℕ) × (values : List Tree) × (k < bounds.search.tries)
+      × (slice_get (substitutions spec goal bounds.search.depth) k ≡ Some values)
+      × IsVerdict spec values bounds.search.steps goal Fails
 
-  -- one of the goals is refutable
-  abbrev pub SomeIsRefutable : List Goal → Type 0
-  SomeIsRefutable [] = ⊥
-  SomeIsRefutable (goal ∷ goals) = IsRefutable goal ⊎ SomeIsRefutable goals
+  -- the goal has a plain proof of at most the length, on one of its variables
+  abbrev pub IsProvable : Goal → Type 0
+  IsProvable goal = (x : ℕ) × HasPlain spec goal bounds.plain x
 
-  -- the status that goals give: Refuted where one is refutable, else Open where there is one, else
-  -- Done
+  -- the status that goals give: Refuted where one is refutable, else Open where one isn't provable,
+  -- else Done
   abbrev pub IsStatusOfGoals : List Goal → Status → Type 0
-  IsStatusOfGoals goals status.Refuted = SomeIsRefutable goals
-  IsStatusOfGoals goals status.Open = (goals ≢ []) × (SomeIsRefutable goals → ⊥)
-  IsStatusOfGoals goals status.Done = goals ≡ []
+  IsStatusOfGoals goals status.Refuted = SomeGoal IsRefutable goals
+  IsStatusOfGoals goals status.Open =
+      SomeGoal (λ goal. IsProvable goal → ⊥) goals × (SomeGoal IsRefutable goals → ⊥)
+  IsStatusOfGoals goals status.Done =
+      AllByRecursion IsProvable goals × (SomeGoal IsRefutable goals → ⊥)
   IsStatusOfGoals goals _ = ⊥
 
 -- the outcome is a counterexample
 abbrev pub IsRefuted : Outcome → Type 0
+IsRefuted (Proved block) = ⊥
 IsRefuted (Refuted index values) = Unit {0}
 IsRefuted (Open budget) = ⊥
 
--- one of the claims is refuted
-abbrev pub SomeIsRefuted : List Claim → Type 0
-SomeIsRefuted [] = ⊥
-SomeIsRefuted (claim ∷ claims) = IsRefuted claim.outcome ⊎ SomeIsRefuted claims
+-- the goal is left open
+abbrev pub IsOpen : Outcome → Type 0
+IsOpen (Proved block) = ⊥
+IsOpen (Refuted index values) = ⊥
+IsOpen (Open budget) = Unit {0}
 
--- the status that claims give: Refuted where one is refuted, else Open where there is one, else
--- Done
+-- this is so of the outcome of one of the claims
+abbrev pub SomeOutcome : (Outcome → Type 0) → List Claim → Type 0
+SomeOutcome Holds [] = ⊥
+SomeOutcome Holds (claim ∷ claims) = Holds claim.outcome ⊎ SomeOutcome Holds claims
+
+-- the status that claims give: Refuted where one is refuted, else Open where one is open, else Done
 abbrev pub IsStatusOfClaims : List Claim → Status → Type 0
-IsStatusOfClaims claims status.Refuted = SomeIsRefuted claims
-IsStatusOfClaims claims status.Open = (claims ≢ []) × (SomeIsRefuted claims → ⊥)
-IsStatusOfClaims claims status.Done = claims ≡ []
+IsStatusOfClaims claims status.Refuted = SomeOutcome IsRefuted claims
+IsStatusOfClaims claims status.Open =
+    SomeOutcome IsOpen claims × (SomeOutcome IsRefuted claims → ⊥)
+IsStatusOfClaims claims status.Done =
+    (SomeOutcome IsOpen claims → ⊥) × (SomeOutcome IsRefuted claims → ⊥)
 IsStatusOfClaims claims _ = ⊥

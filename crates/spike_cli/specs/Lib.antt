@@ -1,12 +1,15 @@
 -- What the program promises, in the order in which to read it.
 pub mod Claims
-pub mod ReportTexts
 pub mod Meanings
 pub mod AdmitLines
 pub mod Refusals
 pub mod Checks
 pub mod Reports
+pub mod SearchAlone
 pub mod Evaluations
+pub mod Reads
+pub mod Replays
+pub mod FinishedReports
 pub mod Parts
 pub mod Runs
 pub mod Outcomes
@@ -14,4 +17,5 @@ pub mod Codes
 -- What only this crate's own contracts speak of.
 pub mod Tellings
 pub mod Ranges
+pub mod Within
 pub mod Stops

@@ -5,8 +5,16 @@ use Rattle.spec_core.specs.declared.records.Spec.{Spec}
 use Rattle.spec_core.specs.Sig.{Sig}
 use Rattle.spec_core.specs.Declarations.{IsDeclared}
 use Rattle.spec_grammar.specs.declared.raw.RawSpec.{RawSpec}
+use Rattle.spec_core.specs.WellSorted.{IsWellSorted}
+use Rattle.path_order.specs.Above.{Above}
+use Rattle.clause_core.specs.declared.reports.Report.{Report}
+use Rattle.proof_script.specs.Texts.{IsReportText}
+use Rattle.acceptance.specs.Accepting.{IsAccepted}
+use Rattle.spike_cli.specs.declared.statuses.Status.{Status}
+use Rattle.spike_cli.specs.declared.statuses.Status.TheVariants.{Done}
 use Rattle.spike_cli.specs.Meanings.{IsAcceptedAs, TermTextStandsFor}
 use Rattle.spike_cli.specs.Refusals.{IsRefusalOf, IsTermRefusal}
+use Rattle.spike_cli.specs.Replays.{IsReplay}
 
 -- over a declared signature a term's text stands for one term at most, and none where it has a line
 -- of refusal; it has one such line at most
@@ -29,3 +37,13 @@ pub record OneEnding : Type 0 where
   pub one_refusal : (bytes line other : List ℕ)
       → IsRefusalOf bytes line → IsRefusalOf bytes other → line ≡ other
   pub terms : OneTermEnding
+
+-- on a well sorted specification the bytes of a report get one text and one status at most, and Done
+-- where they are a report that is accepted
+pub record OneReplay : Type 0 where
+  pub one : (spec : Spec) (bytes text other : List ℕ) (status again : Status) → IsWellSorted spec
+      → IsReplay spec bytes text status → IsReplay spec bytes other again
+      → (text ≡ other) × (status ≡ again)
+  pub done : (spec : Spec) (bytes text : List ℕ) (status : Status) (report : Report)
+      → IsWellSorted spec → IsReportText spec.sig bytes report → IsAccepted Above spec report
+      → IsReplay spec bytes text status → status ≡ Done

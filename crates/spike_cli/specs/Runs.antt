@@ -1,5 +1,5 @@
 -- What a call of the program did, by its status.
-use Rattle.std.specs.Prelude.{◌≡◌, ℕ, ◌<◌, ◌≤◌, ◌⊎◌, List, [], ◌∷◌, ◌++◌, Option, codes, length, IfSome}
+use Rattle.std.specs.Prelude.{◌≡◌, ℕ, ◌⊎◌, List, [], ◌∷◌, ◌++◌, Option, codes, take}
 use Rattle.spec_core.specs.declared.records.Spec.{Spec}
 use Rattle.spec_grammar.specs.declared.raw.RawSpec.{RawSpec}
 use Rattle.io_core.specs.Count.{Rose}
@@ -8,55 +8,66 @@ use Rattle.spike_cli.specs.declared.statuses.Status.{Status}
 use Rattle.spike_cli.specs.declared.statuses.Status.TheVariants.{Done, Refuted, Open, Refused, No, ReadFault, WriteFault, Usage, OutOfMemory}
 use Rattle.spec_grammar.specs.declared.limits.TheConstants.{MAX_FILE_BYTES}
 use Rattle.spike_cli.specs.Parts.{AppendsPartOf}
-use Rattle.command_line.specs.Tasks.{Task, checking, refuting, evaluating, Asks, AskNothing}
+use Rattle.command_line.specs.Tasks.{Task, checking, refuting, proving, evaluating, replaying, Asks, AskNothing}
+use Rattle.spike_cli.specs.Reads.{AreBytesOf, IsLonger}
 use Rattle.spike_cli.specs.Meanings.{IsAcceptedAs}
 use Rattle.spike_cli.specs.Refusals.{too_long_line, IsRefusalOf}
 use Rattle.spike_cli.specs.Checks.{check_text, IsCheck}
-use Rattle.spike_cli.specs.Reports.{BeginsReport, IsReport}
+use Rattle.spike_cli.specs.Reports.{BeginsReport, IsReport, search_alone}
 use Rattle.spike_cli.specs.Evaluations.{IsEvaluation, IsEvaluationText}
+use Rattle.spike_cli.specs.Replays.{IsFileReplay, IsFileReplayText}
 
 -- the line for words that are no command
 abbrev pub usage_line : List ℕ
 usage_line = codes "usage: spike check|eval|prove|refute|replay|load\n"
 
--- the whole text of a task on a specification, and its status
-abbrev pub IsEnd : Task → RawSpec → Spec → List ℕ → Status → Type 0
-IsEnd (checking print) raw spec text status = IsCheck print raw text status
-IsEnd (refuting bounds) raw spec text status = IsReport bounds spec text status
-IsEnd (evaluating term steps) raw spec text status = IsEvaluation spec term steps text status
+-- the files that a task reads behind its first one, and all of them in the order of the words
+abbrev pub further_files : Task → List (List ℕ)
+further_files (replaying report) = report ∷ []
+further_files _ = []
 
--- a text that a task may write on a specification: what a report begins with, or the whole text of
--- a check or of an evaluation
-abbrev pub MayWriteOn : Task → RawSpec → Spec → List ℕ → Type 0
-MayWriteOn (checking print) raw spec text = text ≡ check_text print raw
-MayWriteOn (refuting bounds) raw spec text = BeginsReport bounds spec text
-MayWriteOn (evaluating term steps) raw spec text = IsEvaluationText spec term steps text
+abbrev pub files_of : List ℕ → Task → List (List ℕ)
+files_of file task = file ∷ further_files task
 
-module _ (task : Task) (bytes : List ℕ) where
-  -- a text that a task may write for the bytes of a file
-  pub data MayWriteFor : List ℕ → Type 0 where
-    refusal : {line : List ℕ} → IsRefusalOf bytes line → MayWriteFor line
-    on_spec : (raw : RawSpec) (spec : Spec) {text : List ℕ}
-        → IsAcceptedAs bytes raw spec → MayWriteOn task raw spec text → MayWriteFor text
+module _ (held : List ℕ → Option (List ℕ)) where
+  -- the whole text of a task on a specification, and its status
+  abbrev pub IsEnd : Task → RawSpec → Spec → List ℕ → Status → Type 0
+  IsEnd (checking print) raw spec text status = IsCheck print raw text status
+  IsEnd (refuting search) raw spec text status = IsReport (search_alone search) spec text status
+  IsEnd (proving bounds) raw spec text status = IsReport bounds spec text status
+  IsEnd (evaluating term steps) raw spec text status = IsEvaluation spec term steps text status
+  IsEnd (replaying report) raw spec text status = IsFileReplay spec (held report) text status
 
-  module _ (old new : Option (List ℕ)) where
-    -- the task's whole text on the bytes' specification was appended, with this status
-    pub record Ended (status : Status) : Type 0 where
-      pub raw : RawSpec
-      pub spec : Spec
-      pub accepted : IsAcceptedAs bytes raw spec
-      pub text : List ℕ
-      pub is_end : IsEnd task raw spec text status
-      pub appended : Appended old new text
+  -- a text that a task may write on a specification: what a report begins with, or the whole text
+  -- of another task
+  abbrev pub MayWriteOn : Task → RawSpec → Spec → List ℕ → Type 0
+  MayWriteOn (checking print) raw spec text = text ≡ check_text print raw
+  MayWriteOn (refuting search) raw spec text = BeginsReport (search_alone search) spec text
+  MayWriteOn (proving bounds) raw spec text = BeginsReport bounds spec text
+  MayWriteOn (evaluating term steps) raw spec text = IsEvaluationText spec term steps text
+  MayWriteOn (replaying report) raw spec text = IsFileReplayText spec (held report) text
 
-    -- the line for bytes that aren't accepted was appended, or the one that the task writes
-    abbrev pub RefusedBytes : Type 0
-    RefusedBytes =
-        ((line : List ℕ) × IsRefusalOf bytes line × Appended old new line) ⊎ Ended Refused
+  module _ (task : Task) (bytes : List ℕ) where
+    -- a text that a task may write for the bytes of its file
+    pub data MayWriteFor : List ℕ → Type 0 where
+      refusal : {line : List ℕ} → IsRefusalOf bytes line → MayWriteFor line
+      on_spec : (raw : RawSpec) (spec : Spec) {text : List ℕ}
+          → IsAcceptedAs bytes raw spec → MayWriteOn task raw spec text → MayWriteFor text
 
--- the bytes are those of the file, where the store tells them
-abbrev pub AreBytesOf : Option (List ℕ) → List ℕ → Type 0
-AreBytesOf held bytes = IfSome held (λ told. bytes ≡ told)
+    module _ (old new : Option (List ℕ)) where
+      -- the task's whole text on the bytes' specification was appended, with this status
+      pub record Ended (status : Status) : Type 0 where
+        pub raw : RawSpec
+        pub spec : Spec
+        pub accepted : IsAcceptedAs bytes raw spec
+        pub text : List ℕ
+        pub is_end : IsEnd task raw spec text status
+        pub appended : Appended old new text
+
+      -- the line for bytes that aren't accepted was appended, or the one that the task writes
+      abbrev pub RefusedBytes : Type 0
+      RefusedBytes =
+          ((line : List ℕ) × IsRefusalOf bytes line × Appended old new line) ⊎ Ended Refused
 
 module _ (words : List (List ℕ)) (held : List ℕ → Option (List ℕ)) where
   -- the words ask for a task on a file of at most the limit's bytes, and this is so of the task and
@@ -66,39 +77,39 @@ module _ (words : List (List ℕ)) (held : List ℕ → Option (List ℕ)) where
     pub task : Task
     pub asked : Asks words file task
     pub bytes : List ℕ
-    pub read : AreBytesOf (held file) bytes
-    pub within : length bytes ≤ MAX_FILE_BYTES
+    pub read : AreBytesOf (held file) MAX_FILE_BYTES bytes
     pub holds : Holds task bytes
 
   -- the words ask for a file that has more bytes, where the store tells them
   abbrev pub IsTooLong : Type 0
   IsTooLong =
       (file : List ℕ) × (task : Task) × Asks words file task
-      × IfSome (held file) (λ told. MAX_FILE_BYTES < length told)
+      × IsLonger (held file) MAX_FILE_BYTES
 
   -- a text that the program may write for these words and files
   pub data MayWrite : List ℕ → Type 0 where
     usage : AskNothing words → MayWrite usage_line
     too_long : IsTooLong → MayWrite too_long_line
     for_file : {text : List ℕ}
-        → ReadsFile (λ task bytes. MayWriteFor task bytes text) → MayWrite text
+        → ReadsFile (λ task bytes. MayWriteFor held task bytes text) → MayWrite text
 
   -- the line for a file that is longer than the limit, or the one for its text or for the term
   abbrev pub RefusedCall : Option (List ℕ) → Option (List ℕ) → Type 0
   RefusedCall old new =
       (IsTooLong × Appended old new too_long_line)
-      ⊎ ReadsFile (λ task bytes. RefusedBytes task bytes old new)
+      ⊎ ReadsFile (λ task bytes. RefusedBytes held task bytes old new)
 
   -- what was appended, and which count rose, by the status
   abbrev pub Means : ℕ → ℕ → Option (List ℕ) → Option (List ℕ) → ℕ → ℕ → Status → Type 0
   Means reads reads' old new writes writes' Done =
-      ReadsFile (λ task bytes. Ended task bytes old new Done)
+      ReadsFile (λ task bytes. Ended held task bytes old new Done)
   Means reads reads' old new writes writes' Refuted =
-      ReadsFile (λ task bytes. Ended task bytes old new Refuted)
+      ReadsFile (λ task bytes. Ended held task bytes old new Refuted)
   Means reads reads' old new writes writes' Open =
-      ReadsFile (λ task bytes. Ended task bytes old new Open)
+      ReadsFile (λ task bytes. Ended held task bytes old new Open)
   Means reads reads' old new writes writes' Refused = RefusedCall old new
-  Means reads reads' old new writes writes' No = ⊥
+  Means reads reads' old new writes writes' No =
+      ReadsFile (λ task bytes. Ended held task bytes old new No)
   Means reads reads' old new writes writes' ReadFault =
       ((file : List ℕ) × (task : Task) × Asks words file task) × Rose reads reads' × (new ≡ old)
   Means reads reads' old new writes writes' WriteFault =
@@ -106,8 +117,9 @@ module _ (words : List (List ℕ)) (held : List ℕ → Option (List ℕ)) where
   Means reads reads' old new writes writes' Usage = AskNothing words × Appended old new usage_line
   Means reads reads' old new writes writes' OutOfMemory = AppendsPartOf MayWrite old new
 
--- the names that were asked for are a prefix of the command's
+-- the names that were asked for are a prefix of those of the command's files
 abbrev pub AskedPrefix : List (List ℕ) → List (List ℕ) → List (List ℕ) → Type 0
 AskedPrefix words old new =
     (new ≡ old)
-    ⊎ ((file : List ℕ) × (task : Task) × Asks words file task × (new ≡ old ++ file ∷ []))
+    ⊎ ((file : List ℕ) × (task : Task) × Asks words file task
+    × (k : ℕ) × (new ≡ old ++ take k (files_of file task)))

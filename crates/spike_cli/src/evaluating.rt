@@ -11,20 +11,13 @@ ghost use Rattle.spike_cli.specs.Tellings.{IsLineOf};
 
 use crate::reading::ground_term;
 use crate::refusals::Refusal;
-use crate::statuses::Status;
+use crate::statuses::{Ending, Status};
 use crate::stops::Stop;
 use ground_eval::{Eval, eval};
 use io_core::{Sink, write_all};
 use spec_core::{Signature, Spec};
 use std::alloc::Global;
 use term_core::{OutOfMemory, Term};
-
-/// What is written for a term, and the status with it.
-#[derive(Drop)]
-pub struct Evaluation {
-    pub text: Vec<u8>,
-    pub status: Status,
-}
 
 /// Writes what the evaluation of a term within so many rule uses gives.
 pub fn evaluate<S: Sink>(
@@ -52,7 +45,7 @@ fn evaluation_of(
     spec: &Spec,
     bytes: &[u8],
     steps: u32,
-) -> Result<Evaluation, OutOfMemory>
+) -> Result<Ending, OutOfMemory>
     requires fine { IsWellSorted spec.now }
     requires admitted { IsAdmitted Above spec.now }
     ensures { IfOk result (λ e. IsEvaluation spec.now bytes.now steps e.text.items e.status) }
@@ -62,15 +55,15 @@ fn evaluation_of(
         Err(refusal) => return refused(refusal),
     };
     match eval(alloc, spec, &term, steps)? {
-        Eval::Value { value, steps: cost } => Ok(Evaluation {
+        Eval::Value { value, steps: cost } => Ok(Ending {
             text: value_lines(alloc, &spec.sig, &value, cost)?,
             status: Status::Done,
         }),
-        Eval::Large { steps: cost } => Ok(Evaluation {
+        Eval::Large { steps: cost } => Ok(Ending {
             text: large_lines(alloc, cost)?,
             status: Status::Done,
         }),
-        Eval::Spent => Ok(Evaluation {
+        Eval::Spent => Ok(Ending {
             text: spent_line(alloc, steps)?,
             status: Status::Open,
         }),
@@ -78,11 +71,11 @@ fn evaluation_of(
 }
 
 /// What is written where the bytes stand for no term.
-fn refused(refusal: Refusal) -> Result<Evaluation, OutOfMemory>
+fn refused(refusal: Refusal) -> Result<Ending, OutOfMemory>
     ensures { IfOk result (λ e. IsLineOf refusal e.text.items × (e.status ≡ Status.Refused)) }
 {
     match refusal {
-        Refusal::Line(text) => Ok(Evaluation {
+        Refusal::Line(text) => Ok(Ending {
             text,
             status: Status::Refused,
         }),

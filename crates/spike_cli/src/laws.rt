@@ -1,6 +1,10 @@
-ghost use Rattle.spike_cli.specs.Outcomes.{OneEnding};
+ghost use Rattle.spike_cli.specs.FinishedReports.{FinishedReportsAreAccepted};
+ghost use Rattle.spike_cli.specs.Outcomes.{OneEnding, OneReplay};
+ghost use Rattle.spike_cli.specs.SearchAlone.{SearchAlone};
 
+use acceptance::one_verdict;
 use path_order::Lpo;
+use proof_script::{one_fault as one_faulty_line, one_report};
 use spec_admit::{no_fault_where_admitted, one_fault};
 
 /// What the text of a file leads to is one thing: an accepted specification, or a line of refusal.
@@ -10,4 +14,28 @@ pub fn one_ending()
     let order = Lpo::by_number();
     no_fault_where_admitted(&order);
     one_fault(&order);
+}
+
+/// What the bytes of a report lead to on a specification is one thing: that it is accepted, or the
+/// line at which it first isn't, with the reason.
+pub fn one_replay()
+    ensures { OneReplay }
+{
+    let order = Lpo::by_number();
+    one_report();
+    one_faulty_line();
+    one_verdict(&order);
+}
+
+/// A search for counterexamples alone proves nothing: its claims are those of the search, and it
+/// leaves each goal open that it doesn't refute.
+pub fn search_alone_proves_nothing()
+    ensures { SearchAlone }
+{}
+
+/// Each report that was finished is accepted by `replay` on the same specification.
+pub fn finished_reports_are_accepted()
+    ensures { FinishedReportsAreAccepted }
+{
+    one_replay();
 }

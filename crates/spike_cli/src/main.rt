@@ -1,11 +1,13 @@
 //! The program `spike`: it reads a file of sorts, functions, rules and goals, admits it, and writes
-//! a report on the goals or the value of a term.
+//! a report on the goals or the value of a term, or checks a report.
 //!
-//! `check FILE` says that the file is accepted, or with `--print` writes its printed form. `refute
-//! FILE` looks for counterexamples of the goals, as far as `--depth`, `--tries` and `--steps` say,
-//! and `eval FILE TERM` evaluates a term without variables within `--steps` rule uses. A file that
-//! isn't accepted, or a term that isn't one, gets a line of refusal, which says what its first
-//! fault is.
+//! `prove FILE` looks for counterexamples of the goals, as far as `--depth`, `--tries` and `--steps`
+//! say, and then for plain proofs of at most the length `--plain`; `refute FILE` looks for
+//! counterexamples alone. `replay FILE REPORT` says whether a report is accepted, or the line at
+//! which it first isn't. `check FILE` says that the file is accepted, or with `--print` writes its
+//! printed form, and `eval FILE TERM` evaluates a term without variables within `--steps` rule uses.
+//! A file that isn't accepted, or a term that isn't one, gets a line of refusal, which says what its
+//! first fault is.
 //!
 //! It stands on all the other crates. [`run`] is the whole program over a store of files and a
 //! sink, and its contract is what the program promises; `main` hands it the words after the
@@ -19,15 +21,18 @@ mod evaluating;
 mod laws;
 mod reading;
 mod refusals;
-mod refuting;
-mod reports;
+mod replaying;
+mod replies;
+mod reporting;
 mod running;
 mod statuses;
 mod stops;
 
-pub use claims::{Budget, Claim, Outcome};
 use io_core::{StdFiles, StdSink};
-pub use laws::one_ending;
+pub use laws::{
+    finished_reports_are_accepted, one_ending, one_replay, search_alone_proves_nothing,
+};
+pub use replaying::MAX_REPORT_BYTES;
 pub use running::run;
 pub use statuses::Status;
 use std::process::ExitCode;

@@ -1,15 +1,17 @@
 ghost use Rattle.std.specs.Prelude.{◌≡◌, ◌≤◌, ℕ, List, length, map, string_bytes};
 ghost use Rattle.spec_grammar.specs.KeepsLimits.{KeepsLimits};
 ghost use Rattle.command_line.specs.Commands.{task_of};
-ghost use Rattle.spike_cli.specs.Runs.{Means, AskedPrefix, IsEnd, MayWriteOn};
-ghost use Rattle.spike_cli.specs.Stops.{MeansFor, Refuses, Finishes, status_ended};
+ghost use Rattle.spike_cli.specs.Runs.{Means, AskedPrefix, IsEnd, MayWriteOn, further_files};
+ghost use Rattle.spike_cli.specs.Stops.{AsksFor, FinishesReading, MeansFor, Refuses, status_ended};
 ghost use Rattle.spike_cli.specs.Tellings.{IsLineOf};
+ghost use Rattle.spike_cli.specs.Within.{HasReports, TaskIsWithin};
 
 use crate::checking::check;
 use crate::evaluating::evaluate;
 use crate::reading::{Accepted, specification};
 use crate::refusals::Refusal;
-use crate::refuting::refute;
+use crate::replaying::replay_file;
+use crate::reporting::{search_alone, write_report};
 use crate::statuses::Status;
 use crate::stops::Stop;
 use command_line::{Command, command_of};
@@ -17,7 +19,7 @@ use io_core::{Files, ReadError, Sink, WriteError, write_all};
 use spec_grammar::MAX_FILE_BYTES;
 use std::alloc::Global;
 
-/// Does all that the program does: carries out the command that the words ask for, reads its file
+/// Does all that the program does: carries out the command that the words ask for, reads its files
 /// from `files` and appends its text to `out`.
 pub fn run<F: Files, S: Sink>(alloc: Global, words: &[String], files: &mut F, out: &mut S) -> Status
     ensures means { Means (map string_bytes words.now) (F.held files.old)
@@ -42,7 +44,7 @@ pub fn run<F: Files, S: Sink>(alloc: Global, words: &[String], files: &mut F, ou
         Err(_) => return Status::OutOfMemory,
     };
     match files.read(alloc, command.file(), MAX_FILE_BYTES) {
-        Ok(bytes) => carry_out(alloc, &command, &bytes, out),
+        Ok(bytes) => carry_out(alloc, &command, &bytes, files, out),
         Err(ReadError::TooLong) => ended(
             Status::Refused,
             write_all(out, alloc, b"refused length\n"),
@@ -53,14 +55,26 @@ pub fn run<F: Files, S: Sink>(alloc: Global, words: &[String], files: &mut F, ou
 }
 
 /// Carries out a command on the bytes of its file.
-fn carry_out<S: Sink>(alloc: Global, command: &Command, bytes: &[u8], out: &mut S) -> Status
-    requires { length bytes.now ≤ MAX_FILE_BYTES }
-    ensures means { MeansFor (task_of command.now) bytes.now
+fn carry_out<F: Files, S: Sink>(
+    alloc: Global,
+    command: &Command,
+    bytes: &[u8],
+    files: &mut F,
+    out: &mut S,
+) -> Status
+    requires sized { length bytes.now ≤ MAX_FILE_BYTES }
+    requires within { TaskIsWithin (task_of command.now) }
+    ensures means { MeansFor (F.held files.old) (task_of command.now) bytes.now
+        (F.faults files.old) (F.faults files.new)
         (S.written out.old) (S.written out.new) (S.faults out.old) (S.faults out.new) result }
+    ensures asked { AsksFor (further_files (task_of command.now))
+        (F.asked files.old) (F.asked files.new) }
+    ensures stays { (name : List ℕ) → F.held files.new name ≡ F.held files.old name }
+    ensures reads { F.faults files.old ≤ F.faults files.new }
     ensures writes { S.faults out.old ≤ S.faults out.new }
 {
     match specification(alloc, bytes) {
-        Ok(accepted) => match finish(alloc, command, &accepted, out) {
+        Ok(accepted) => match finish(alloc, command, &accepted, files, out) {
             Ok(status) => status,
             Err(stop) => stop.status(),
         },
@@ -69,23 +83,38 @@ fn carry_out<S: Sink>(alloc: Global, command: &Command, bytes: &[u8], out: &mut 
 }
 
 /// Carries out a command on the accepted specification of its file.
-fn finish<S: Sink>(
+fn finish<F: Files, S: Sink>(
     alloc: Global,
     command: &Command,
     accepted: &Accepted,
+    files: &mut F,
     out: &mut S,
 ) -> Result<Status, Stop>
-    requires { KeepsLimits accepted.now.raw }
-    ensures finishes { Finishes (S.written out.old) (S.written out.new)
-        (S.faults out.old) (S.faults out.new) (IsEnd (task_of command.now) accepted.now.raw accepted.now.admitted.spec)
-        (MayWriteOn (task_of command.now) accepted.now.raw accepted.now.admitted.spec) result }
+    requires limits { KeepsLimits accepted.now.raw }
+    requires reported { HasReports accepted.now.admitted.spec }
+    requires within { TaskIsWithin (task_of command.now) }
+    ensures finishes { FinishesReading (S.written out.old) (S.written out.new)
+        (S.faults out.old) (S.faults out.new) (F.faults files.old) (F.faults files.new)
+        (IsEnd (F.held files.old) (task_of command.now) accepted.now.raw accepted.now.admitted.spec)
+        (MayWriteOn (F.held files.old) (task_of command.now) accepted.now.raw accepted.now.admitted.spec)
+        result }
+    ensures asked { AsksFor (further_files (task_of command.now))
+        (F.asked files.old) (F.asked files.new) }
+    ensures stays { (name : List ℕ) → F.held files.new name ≡ F.held files.old name }
+    ensures reads { F.faults files.old ≤ F.faults files.new }
     ensures writes { S.faults out.old ≤ S.faults out.new }
 {
     match command {
         Command::Check { print, .. } => check(alloc, &accepted.raw, *print, out),
-        Command::Refute { bounds, .. } => refute(alloc, accepted.spec(), *bounds, out),
+        Command::Refute { bounds, .. } => {
+            write_report(alloc, accepted.spec(), search_alone(*bounds), out)
+        }
+        Command::Prove { bounds, .. } => write_report(alloc, accepted.spec(), *bounds, out),
         Command::Eval { term, steps, .. } => {
             evaluate(alloc, accepted.spec(), term.as_bytes(), *steps, out)
+        }
+        Command::Replay { report, .. } => {
+            replay_file(alloc, &accepted.admitted, report, files, out)
         }
     }
 }

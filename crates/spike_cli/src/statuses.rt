@@ -23,6 +23,13 @@ pub enum Status {
     OutOfMemory,
 }
 
+/// A whole text, and the status with it.
+#[derive(Drop)]
+pub struct Ending {
+    pub text: Vec<u8>,
+    pub status: Status,
+}
+
 impl Status {
     /// The exit status of the program.
     pub fn code(&self) -> u8

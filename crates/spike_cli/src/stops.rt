@@ -8,9 +8,10 @@ use std::error::Error;
 use std::fmt;
 use term_core::OutOfMemory;
 
-/// Why a command that writes a report stopped before its end.
+/// Why a command on an accepted file stopped before its end.
 #[derive(Clone, Copy, Debug, PartialEq, Eq)]
 pub enum Stop {
+    ReadFault,
     WriteFault,
     OutOfMemory,
 }
@@ -20,6 +21,7 @@ impl Stop {
         ensures { result ≡ status_of_stop self }
     {
         match self {
+            Stop::ReadFault => Status::ReadFault,
             Stop::WriteFault => Status::WriteFault,
             Stop::OutOfMemory => Status::OutOfMemory,
         }
@@ -34,6 +36,7 @@ impl fmt::Display for Stop {
 
     fn fmt<W: fmt::Write>(&self, f: &mut fmt::Formatter<W>) -> fmt::Result {
         match self {
+            Stop::ReadFault => f.write_str("a file can't be read"),
             Stop::WriteFault => f.write_str("the output can't be written"),
             Stop::OutOfMemory => f.write_str("out of memory"),
         }

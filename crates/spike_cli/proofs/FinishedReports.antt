@@ -1,0 +1,35 @@
+-- A finished report is read again and accepted.
+use Rattle.std.proofs.Common.{◌≡◌, ◌<◌, ◌≤◌, ℕ, List, Some, refl, subst, arith, length}
+use Rattle.std.specs.Prelude.{Option, None}
+use Rattle.spec_core.specs.declared.records.Spec.{Spec}
+use Rattle.spec_core.specs.WellSorted.{IsWellSorted}
+use Rattle.search_claims.specs.Claims.{report_of}
+use Rattle.spike_cli.specs.declared.replaying.TheConstants.{MAX_REPORT_BYTES}
+use Rattle.spike_cli.specs.declared.statuses.Status.{Status}
+use Rattle.spike_cli.specs.declared.statuses.Status.TheVariants.{Done}
+use Rattle.spike_cli.specs.FinishedReports.{FinishedReportsAreAccepted}
+use Rattle.spike_cli.specs.Outcomes.{OneReplay}
+use Rattle.spike_cli.specs.Replays.{IsReplay, IsFileReplay, accepted, replayed, too_long_report, yes_line}
+
+module _ (one : OneReplay) (spec : Spec) (fine : IsWellSorted spec) (bytes line : List ℕ) (yes : IsReplay spec bytes line Done) (short : length bytes ≤ MAX_REPORT_BYTES) where
+  only_yes : (held : Option (List ℕ)) → held ≡ Some bytes → (text : List ℕ) (s : Status) → IsFileReplay spec held text s → (text ≡ line) × (s ≡ Done)
+  only_yes None e text s r = absurd (let q : None ≡ Some bytes = e in cc)
+  only_yes (Some told) e text s (replayed read are is) =
+      let q : Some told ≡ Some bytes = e in
+      let k : told ≡ bytes = cc in
+      let same : read ≡ bytes = subst (λ w. read ≡ w) k are.told in
+      one.one spec bytes text line s Done fine (subst (λ b. IsReplay spec b text s) same is) yes
+  only_yes (Some told) e text s (too_long_report long) =
+      let q : Some told ≡ Some bytes = e in
+      let k : told ≡ bytes = cc in
+      let far : MAX_REPORT_BYTES < length bytes = subst (λ w. MAX_REPORT_BYTES < length w) k long in
+      absurd (omega (arith, far, short))
+
+pub finished_accepted : OneReplay → FinishedReportsAreAccepted
+finished_accepted one bounds spec text status fine r =
+    let yes = accepted (report_of bounds.search.steps r.claims) r.stands r.accepted r.true in
+    record {
+      claims = r.claims;
+      answer = replayed text (record { told = refl; within = r.short }) yes;
+      only = only_yes one spec fine text (yes_line r.claims) yes r.short (Some text) refl;
+    }

@@ -1,0 +1,75 @@
+-- What is said of a command that reads another file, and of the names that were asked for.
+use Rattle.std.proofs.Common.{◌≡◌, ◌≢◌, ◌⊎◌, ◌∙◌, ℕ, List, [], ◌∷◌, ◌++◌, Option, ap, sym, subst, inl, inr, length, append_assoc}
+use Rattle.std.specs.Prelude.{Result, Ok, Err, IsErrAnd}
+use Rattle.std.proofs.Math.Seq.{take-length}
+use Rattle.io_core.specs.Asked.{AddsName}
+use Rattle.io_core.specs.Count.{Rose}
+use Rattle.io_core.specs.Piece.{AppendedPrefix}
+use Rattle.io_core.specs.declared.faults.ReadError.{ReadError}
+use Rattle.io_core.specs.declared.faults.ReadError.TheVariants as read
+use Rattle.io_core.specs.declared.faults.WriteError.{WriteError}
+use Rattle.io_core.specs.declared.faults.WriteError.TheVariants as write
+use Rattle.spec_core.specs.declared.records.Spec.{Spec}
+use Rattle.command_line.specs.Tasks.{Task, Asks}
+use Rattle.spike_cli.specs.declared.replaying.TheConstants.{MAX_REPORT_BYTES}
+use Rattle.spike_cli.specs.declared.statuses.Status.{Status}
+use Rattle.spike_cli.specs.declared.statuses.Status.TheVariants.{Refused}
+use Rattle.spike_cli.specs.declared.stops.Stop.{Stop}
+use Rattle.spike_cli.specs.declared.stops.Stop.TheVariants.{ReadFault, WriteFault, OutOfMemory}
+use Rattle.spike_cli.specs.Parts.{AppendsPartOf}
+use Rattle.spike_cli.specs.Reads.{AreBytesOf, IsLonger}
+use Rattle.spike_cli.specs.Replays.{IsFileReplay, IsFileReplayText, IsReplay, IsReplayText, replayed, too_long_report, too_long_report_line}
+use Rattle.spike_cli.specs.Runs.{AskedPrefix, files_of, further_files}
+use Rattle.spike_cli.specs.Stops.{AsksFor, Finishes, FinishesReading, stop_of}
+use Rattle.spike_cli.proofs.Pieces.{part_of, piece_stopped, at_error}
+
+module _ (old new : Option (List ℕ)) (writes writes' reads reads' : ℕ) where
+  -- a command that reads no other file
+  pub reads_nothing : (IsWhole : List ℕ → Status → Type 0) (IsPart : List ℕ → Type 0) (result : Result Status Stop) → Finishes old new writes writes' IsWhole IsPart result → FinishesReading old new writes writes' reads reads' IsWhole IsPart result
+  reads_nothing IsWhole IsPart (Ok s) h = h
+  reads_nothing IsWhole IsPart (Err ReadFault) h = absurd h
+  reads_nothing IsWhole IsPart (Err WriteFault) h = h
+  reads_nothing IsWhole IsPart (Err OutOfMemory) h = h
+
+  -- what was written for the bytes of a report is what is written for its file
+  module _ (spec : Spec) (held : Option (List ℕ)) (bytes : List ℕ) (told : AreBytesOf held MAX_REPORT_BYTES bytes) where
+    part : AppendsPartOf (IsReplayText spec bytes) old new → AppendsPartOf (IsFileReplayText spec held) old new
+    part p = part_of (IsReplayText spec bytes) (IsFileReplayText spec held) old new (λ t is. (is.0, replayed bytes told is.1)) p
+
+    pub replays_bytes : (result : Result Status Stop) → Finishes old new writes writes' (IsReplay spec bytes) (IsReplayText spec bytes) result → FinishesReading old new writes writes' reads reads' (IsFileReplay spec held) (IsFileReplayText spec held) result
+    replays_bytes (Ok s) h = (h.0, replayed bytes told h.1, h.2)
+    replays_bytes (Err ReadFault) h = absurd h
+    replays_bytes (Err WriteFault) h = (h.0, part h.1)
+    replays_bytes (Err OutOfMemory) h = part h
+
+  -- the line of a report that is too long was to be written
+  pub too_long_stopped : (spec : Spec) (held : Option (List ℕ)) → IsLonger held MAX_REPORT_BYTES → (error : WriteError) (result : Result Status Stop) → IsErrAnd result (λ s. s ≡ stop_of error) → AppendedPrefix old new too_long_report_line → (◌≡◌ {A = Result Unit WriteError} (Err error) (Err write.Failed) → Rose writes writes') → FinishesReading old new writes writes' reads reads' (IsFileReplay spec held) (IsFileReplayText spec held) result
+  too_long_stopped spec held long error result is prefix failed =
+      let stopped = piece_stopped (IsFileReplayText spec held) old new writes writes' too_long_report_line error (Refused, too_long_report long) prefix failed in
+      at_error (FinishesReading old new writes writes' reads reads' (IsFileReplay spec held) (IsFileReplayText spec held)) result (stop_of error) is (reads_nothing (IsFileReplay spec held) (IsFileReplayText spec held) (Err (stop_of error)) stopped)
+
+-- a reply whose text is this line
+pub reply_told : (spec : Spec) (bytes text line : List ℕ) (s : Status) → text ≡ line → IsReplay spec bytes line s → IsReplay spec bytes text s
+reply_told spec bytes text line s is reply = subst (λ t. IsReplay spec bytes t s) (sym is) reply
+
+-- a read that failed, or found too much, isn't one that wanted memory
+pub too_long_read : (e : ReadError) → e ≡ read.TooLong → e ≢ read.OutOfMemory
+too_long_read e is other = let q : read.TooLong ≡ read.OutOfMemory = sym is ∙ other in cc
+
+pub failed_read : (e : ReadError) → e ≡ read.Failed → e ≢ read.OutOfMemory
+failed_read e is other = let q : read.Failed ≡ read.OutOfMemory = sym is ∙ other in cc
+
+-- the first file was asked for, and then the further ones or none
+module _ (words : List (List ℕ)) (file : List ℕ) (task : Task) (asks : Asks words file task) (old middle new : List (List ℕ)) where
+  pub asked_first : AddsName old new file → AskedPrefix words old new
+  asked_first added = inr (file, task, asks, 1, added)
+
+  pub asked_or_not : {B : Type 0} → AddsName old new file ⊎ ((new ≡ old) × B) → AskedPrefix words old new
+  asked_or_not (inl added) = asked_first added
+  asked_or_not (inr none) = inl none.0
+
+  pub asked_further : AddsName old middle file → AsksFor (further_files task) middle new → AskedPrefix words old new
+  asked_further added (inl none) = inr (file, task, asks, 1, none ∙ added)
+  asked_further added (inr all) =
+      let whole : new ≡ old ++ files_of file task = all ∙ ap (λ xs. xs ++ further_files task) added ∙ append_assoc old (file ∷ []) (further_files task) in
+      inr (file, task, asks, length (files_of file task), whole ∙ ap (λ xs. old ++ xs) (sym (take-length (files_of file task))))

@@ -1,0 +1,83 @@
+-- What a claim says is true.
+use Rattle.std.proofs.Common.{◌≡◌, ℕ, List, [], ◌∷◌, Some, refl, sym, ◌∙◌, ap, subst}
+use Rattle.std.specs.Prelude.{slice_get}
+use Rattle.term_core.specs.Tree.{Tree}
+use Rattle.spec_core.specs.declared.records.Goal.{Goal}
+use Rattle.spec_core.specs.declared.records.Spec.{Spec}
+use Rattle.spec_core.specs.Order.{substitutions}
+use Rattle.spec_core.specs.Truth.{AreValuesOf, GoalFails, GoalIsTrue}
+use Rattle.spec_core.specs.WellSorted.{IsWellSorted, sorts_of}
+use Rattle.path_order.specs.Above.{Above}
+use Rattle.refuter.specs.declared.answers.Search.{Search}
+use Rattle.refuter.specs.declared.answers.Search.TheVariants.{Found, NotFound}
+use Rattle.refuter.specs.Finds.{IsFalse}
+use Rattle.clause_core.specs.declared.reports.Budget.{Budget}
+use Rattle.clause_core.specs.declared.reports.Claim.{Claim}
+use Rattle.clause_core.specs.declared.reports.Outcome.{Outcome}
+use Rattle.clause_core.specs.declared.reports.Outcome.TheVariants.{Proved, Refuted, Open}
+use Rattle.clause_core.specs.declared.reports.Report.{Report}
+use Rattle.clause_core.specs.declared.steps.Block.{Block}
+use Rattle.clause_core.specs.Admitted.{IsAdmitted}
+use Rattle.clause_core.specs.Tidied.{goal_clause}
+use Rattle.acceptance.specs.Accepting.{IsAccepted}
+use Rattle.acceptance.specs.Blocks.{Proves}
+use Rattle.acceptance.specs.Claims.{ProvedBefore}
+use Rattle.soundness.specs.AcceptedAreTrue.{AcceptedAreTrue}
+use Rattle.soundness.specs.ReportTruth.{OutcomeIsTrue}
+use Rattle.search_claims.specs.Claims.{named, outcome_of, IsClaimOn as IsClaimOfSearch}
+use Rattle.search_claims.proofs.NamedValues.{values_named}
+use Rattle.command_line.specs.declared.bounds.ProofBounds.{ProofBounds}
+use Rattle.spike_cli.specs.Claims.{IsOutcomeOf, IsUnrefuted, IsClaimOn, budget_of}
+
+-- values under which the goal fails
+refuted_true : (spec : Spec) (goal : Goal) (tries index : ℕ) (rows : List (List Tree)) (row : List Tree) → IsFalse spec goal tries rows (Found index row) → OutcomeIsTrue spec goal (Refuted index (named goal.vars row))
+refuted_true spec goal tries index rows row f =
+    let same = values_named spec goal.vars row f.2 in
+    (subst (λ ts. AreValuesOf spec (sorts_of goal.vars) ts) (sym same) f.2, subst (λ ts. GoalFails spec ts goal) (sym same) f.3)
+
+-- what is claimed behind the claim of a search: where this is open, what its numbers and plain proofs
+-- give, and else the same
+module _ (bounds : ProofBounds) (spec : Spec) (goal : Goal) where
+  abbrev pub Follows : Outcome → Outcome → Type 0
+  Follows (Proved block) outcome = outcome ≡ Proved block
+  Follows (Refuted index values) outcome = outcome ≡ Refuted index values
+  Follows (Open searched) outcome = IsUnrefuted bounds spec goal (budget_of bounds searched.tried searched.skipped searched.cut) outcome
+
+  pub not_open : (searched : Outcome) → ((budget : Budget) → searched ≡ Open budget → ⊥) → (outcome : Outcome) → outcome ≡ searched → Follows searched outcome
+  not_open (Proved block) n outcome e = e
+  not_open (Refuted index values) n outcome e = e
+  not_open (Open budget) n outcome e = absurd (n budget refl)
+
+  pub looked_for : (searched : Outcome) (budget : Budget) → searched ≡ Open budget → (outcome made : Outcome) → outcome ≡ made → IsUnrefuted bounds spec goal (budget_of bounds budget.tried budget.skipped budget.cut) made → Follows searched outcome
+  looked_for searched budget open_is outcome made is h = subst (λ s. Follows s outcome) (sym open_is) (subst (λ o. IsUnrefuted bounds spec goal (budget_of bounds budget.tried budget.skipped budget.cut) o) (sym is) h)
+
+module _ (sound : AcceptedAreTrue Above) (spec : Spec) (fine : IsWellSorted spec) (admitted : IsAdmitted Above spec) (goal : Goal) (listed : (k : ℕ) × (slice_get spec.goals k ≡ Some goal)) where
+  same_goal : (other : Goal) (k : ℕ) → slice_get spec.goals k ≡ Some other → other.name ≡ goal.name → other ≡ goal
+  same_goal other k at e =
+      let j : k ≡ listed.0 = fine.names k listed.0 other goal at listed.1 e in
+      let p : Some other ≡ Some goal = sym at ∙ (ap (λ n. slice_get spec.goals n) j ∙ listed.1) in
+      cc
+
+  -- a block that proves the goal makes a report of one claim
+  proved_true : (block : Block) → Proves Above spec (ProvedBefore spec []) (goal_clause goal) block.steps → GoalIsTrue spec goal
+  proved_true block p =
+      let claim : Claim = record { goal = goal.name; outcome = Proved block } in
+      let report : Report = record { steps = 1; claims = claim ∷ [] } in
+      let accepted : IsAccepted Above spec report = (record { goal = goal; named = (listed.0, listed.1, refl); first = λ h. h; shown = p }, tt) in
+      let t = (sound spec report fine admitted accepted).0 in
+      subst (λ (g : Goal). GoalIsTrue spec g) (same_goal t.0 t.1.0 t.1.1 t.1.2) t.2
+
+  pub outcome_true : (bounds : ProofBounds) (search : Search) (outcome : Outcome) → IsFalse spec goal bounds.search.tries (substitutions spec goal bounds.search.depth) search → IsOutcomeOf bounds spec goal search outcome → OutcomeIsTrue spec goal outcome
+  outcome_true bounds (Found index row) outcome f is = subst (λ o. OutcomeIsTrue spec goal o) (sym is) (refuted_true spec goal bounds.search.tries index (substitutions spec goal bounds.search.depth) row f)
+  outcome_true bounds (NotFound tried skipped cut) (Proved block) f is = proved_true block (is.proves [])
+  outcome_true bounds (NotFound tried skipped cut) (Refuted index values) f is = absurd is
+  outcome_true bounds (NotFound tried skipped cut) (Open budget) f is = tt
+
+  pub claim_made : (bounds : ProofBounds) (searched : Claim) → IsClaimOfSearch bounds.search spec goal searched → (outcome : Outcome) → Follows bounds spec goal searched.outcome outcome → IsClaimOn bounds spec goal (record { goal = searched.goal; outcome = outcome })
+  claim_made bounds searched c outcome f =
+      let is = by c.search (subst (λ o. Follows bounds spec goal o outcome) c.outcome f) in
+      record { search = c.search; name = c.name; false = c.false; exact = c.exact; outcome = is; true = outcome_true bounds c.search outcome c.false is }
+    where
+      by : (search : Search) → Follows bounds spec goal (outcome_of bounds.search goal search) outcome → IsOutcomeOf bounds spec goal search outcome
+      by (Found index values) f = f
+      by (NotFound tried skipped cut) f = f

@@ -1,0 +1,53 @@
+-- The text of each task, on the specification that was accepted.
+use Rattle.std.proofs.Common.{ℕ, List, sym, subst}
+use Rattle.command_line.specs.Commands.{task_of}
+use Rattle.command_line.specs.declared.bounds.ProofBounds.{ProofBounds}
+use Rattle.command_line.specs.declared.commands.Command.{Command}
+use Rattle.spec_core.specs.declared.records.Spec.{Spec}
+use Rattle.spike_cli.specs.Evaluations.{IsEvaluation, IsEvaluationText}
+use Rattle.spike_cli.specs.Reports.{BeginsReport, IsReport, search_alone}
+use Rattle.spike_cli.specs.Runs.{IsEnd, MayWriteOn}
+use Rattle.spike_cli.specs.Stops.{Finishes, FinishesReading}
+use Rattle.spike_cli.proofs.Readings.{reads_nothing}
+use Rattle.spike_cli.proofs.running.finish.Goals as goal
+
+pub returns-in-Check-clause-finishes : goal.returns-in-Check-clause-finishes
+returns-in-Check-clause-finishes g c =
+    let held = g.F.Files.held c.args.files.now in
+    let raw = c.args.accepted.now.raw in
+    let spec = c.args.accepted.now.admitted.spec in
+    reads_nothing (g.S.Sink.written c.args.out.now) (g.S.Sink.written c.check.new.out) (g.S.Sink.faults c.args.out.now) (g.S.Sink.faults c.check.new.out) (g.F.Files.faults c.args.files.now) (g.F.Files.faults c.args.files.now) (IsEnd held (task_of c.args.command.now) raw spec) (MayWriteOn held (task_of c.args.command.now) raw spec) c.check.result (subst (λ (k : Command). Finishes (g.S.Sink.written c.args.out.now) (g.S.Sink.written c.check.new.out) (g.S.Sink.faults c.args.out.now) (g.S.Sink.faults c.check.new.out) (IsEnd held (task_of k) raw spec) (MayWriteOn held (task_of k) raw spec) c.check.result) (sym c.in-Check.is) c.check.ensures.finishes)
+
+pub returns-in-Refute-clause-finishes : goal.returns-in-Refute-clause-finishes
+returns-in-Refute-clause-finishes g c =
+    let held = g.F.Files.held c.args.files.now in
+    let raw = c.args.accepted.now.raw in
+    let spec = c.args.accepted.now.admitted.spec in
+    let made = subst (λ (b : ProofBounds). Finishes (g.S.Sink.written c.args.out.now) (g.S.Sink.written c.write_report.new.out) (g.S.Sink.faults c.args.out.now) (g.S.Sink.faults c.write_report.new.out) (IsReport b c.spec.result.now) (BeginsReport b c.spec.result.now) c.write_report.result) c.search_alone.ensures c.write_report.ensures.finishes in
+    let here = subst (λ (s : Spec). Finishes (g.S.Sink.written c.args.out.now) (g.S.Sink.written c.write_report.new.out) (g.S.Sink.faults c.args.out.now) (g.S.Sink.faults c.write_report.new.out) (IsReport (search_alone c.in-Refute.bounds) s) (BeginsReport (search_alone c.in-Refute.bounds) s) c.write_report.result) c.spec.ensures.is made in
+    reads_nothing (g.S.Sink.written c.args.out.now) (g.S.Sink.written c.write_report.new.out) (g.S.Sink.faults c.args.out.now) (g.S.Sink.faults c.write_report.new.out) (g.F.Files.faults c.args.files.now) (g.F.Files.faults c.args.files.now) (IsEnd held (task_of c.args.command.now) raw spec) (MayWriteOn held (task_of c.args.command.now) raw spec) c.write_report.result (subst (λ (k : Command). Finishes (g.S.Sink.written c.args.out.now) (g.S.Sink.written c.write_report.new.out) (g.S.Sink.faults c.args.out.now) (g.S.Sink.faults c.write_report.new.out) (IsEnd held (task_of k) raw spec) (MayWriteOn held (task_of k) raw spec) c.write_report.result) (sym c.in-Refute.is) here)
+
+pub returns-in-Prove-clause-finishes : goal.returns-in-Prove-clause-finishes
+returns-in-Prove-clause-finishes g c =
+    let held = g.F.Files.held c.args.files.now in
+    let raw = c.args.accepted.now.raw in
+    let spec = c.args.accepted.now.admitted.spec in
+    let here = subst (λ (s : Spec). Finishes (g.S.Sink.written c.args.out.now) (g.S.Sink.written c.write_report-in-Prove.new.out) (g.S.Sink.faults c.args.out.now) (g.S.Sink.faults c.write_report-in-Prove.new.out) (IsReport c.in-Prove.bounds s) (BeginsReport c.in-Prove.bounds s) c.write_report-in-Prove.result) c.spec-in-Prove.ensures.is c.write_report-in-Prove.ensures.finishes in
+    reads_nothing (g.S.Sink.written c.args.out.now) (g.S.Sink.written c.write_report-in-Prove.new.out) (g.S.Sink.faults c.args.out.now) (g.S.Sink.faults c.write_report-in-Prove.new.out) (g.F.Files.faults c.args.files.now) (g.F.Files.faults c.args.files.now) (IsEnd held (task_of c.args.command.now) raw spec) (MayWriteOn held (task_of c.args.command.now) raw spec) c.write_report-in-Prove.result (subst (λ (k : Command). Finishes (g.S.Sink.written c.args.out.now) (g.S.Sink.written c.write_report-in-Prove.new.out) (g.S.Sink.faults c.args.out.now) (g.S.Sink.faults c.write_report-in-Prove.new.out) (IsEnd held (task_of k) raw spec) (MayWriteOn held (task_of k) raw spec) c.write_report-in-Prove.result) (sym c.in-Prove.is) here)
+
+pub returns-in-Eval-clause-finishes : goal.returns-in-Eval-clause-finishes
+returns-in-Eval-clause-finishes g c =
+    let held = g.F.Files.held c.args.files.now in
+    let raw = c.args.accepted.now.raw in
+    let spec = c.args.accepted.now.admitted.spec in
+    let steps = c.in-Eval.steps in
+    let made = subst (λ (s : Spec). Finishes (g.S.Sink.written c.args.out.now) (g.S.Sink.written c.evaluate.new.out) (g.S.Sink.faults c.args.out.now) (g.S.Sink.faults c.evaluate.new.out) (IsEvaluation s c.as_bytes.result.now steps) (IsEvaluationText s c.as_bytes.result.now steps) c.evaluate.result) c.spec-in-Eval.ensures.is c.evaluate.ensures.finishes in
+    let here = subst (λ (b : List ℕ). Finishes (g.S.Sink.written c.args.out.now) (g.S.Sink.written c.evaluate.new.out) (g.S.Sink.faults c.args.out.now) (g.S.Sink.faults c.evaluate.new.out) (IsEvaluation spec b steps) (IsEvaluationText spec b steps) c.evaluate.result) c.as_bytes.ensures.value made in
+    reads_nothing (g.S.Sink.written c.args.out.now) (g.S.Sink.written c.evaluate.new.out) (g.S.Sink.faults c.args.out.now) (g.S.Sink.faults c.evaluate.new.out) (g.F.Files.faults c.args.files.now) (g.F.Files.faults c.args.files.now) (IsEnd held (task_of c.args.command.now) raw spec) (MayWriteOn held (task_of c.args.command.now) raw spec) c.evaluate.result (subst (λ (k : Command). Finishes (g.S.Sink.written c.args.out.now) (g.S.Sink.written c.evaluate.new.out) (g.S.Sink.faults c.args.out.now) (g.S.Sink.faults c.evaluate.new.out) (IsEnd held (task_of k) raw spec) (MayWriteOn held (task_of k) raw spec) c.evaluate.result) (sym c.in-Eval.is) here)
+
+pub returns-in-Replay-clause-finishes : goal.returns-in-Replay-clause-finishes
+returns-in-Replay-clause-finishes g c =
+    let held = g.F.Files.held c.args.files.now in
+    let raw = c.args.accepted.now.raw in
+    let spec = c.args.accepted.now.admitted.spec in
+    subst (λ (k : Command). FinishesReading (g.S.Sink.written c.args.out.now) (g.S.Sink.written c.replay_file.new.out) (g.S.Sink.faults c.args.out.now) (g.S.Sink.faults c.replay_file.new.out) (g.F.Files.faults c.args.files.now) (g.F.Files.faults c.replay_file.new.files) (IsEnd held (task_of k) raw spec) (MayWriteOn held (task_of k) raw spec) c.replay_file.result) (sym c.in-Replay.is) c.replay_file.ensures.finishes

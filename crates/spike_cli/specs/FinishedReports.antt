@@ -1,0 +1,25 @@
+-- What `replay` answers for a report that `prove` or `refute` finished.
+use Rattle.std.specs.Prelude.{◌≡◌, ℕ, List, Some}
+use Rattle.spec_core.specs.declared.records.Spec.{Spec}
+use Rattle.spec_core.specs.WellSorted.{IsWellSorted}
+use Rattle.clause_core.specs.declared.reports.Claim.{Claim}
+use Rattle.command_line.specs.declared.bounds.ProofBounds.{ProofBounds}
+use Rattle.spike_cli.specs.declared.statuses.Status.{Status}
+use Rattle.spike_cli.specs.declared.statuses.Status.TheVariants.{Done}
+use Rattle.spike_cli.specs.Replays.{IsFileReplay, yes_line}
+use Rattle.spike_cli.specs.Reports.{IsReport}
+
+-- a file of these bytes is answered by yes, with how many claims there are of each kind, and nothing
+-- else is
+pub record IsAnsweredByYes (spec : Spec) (bytes : List ℕ) : Type 0 where
+  pub claims : List Claim
+  pub answer : IsFileReplay spec (Some bytes) (yes_line claims) Done
+  pub only :
+      (text : List ℕ) (status : Status) → IsFileReplay spec (Some bytes) text status →
+      (text ≡ yes_line claims) × (status ≡ Done)
+
+-- each finished report is, on the same specification
+abbrev pub FinishedReportsAreAccepted : Type 0
+FinishedReportsAreAccepted =
+    (bounds : ProofBounds) (spec : Spec) (text : List ℕ) (status : Status) →
+    IsWellSorted spec → IsReport bounds spec text status → IsAnsweredByYes spec text

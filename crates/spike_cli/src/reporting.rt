@@ -1,0 +1,103 @@
+ghost use Rattle.std.specs.Prelude.{◌≡◌, ◌≤◌, ℕ, Some, slice_get};
+ghost use Rattle.spike_cli.specs.Reports.{BeginsReport, IsReport, search_alone as search_alone_of};
+ghost use Rattle.spike_cli.specs.Stops.{Finishes, WritesHeader, WritesClaim, joined};
+ghost use Rattle.spike_cli.specs.Within.{AreWithin, HasReports};
+
+use crate::claims::claim_on;
+use crate::statuses::Status;
+use crate::stops::Stop;
+use clause_core::Outcome;
+use command_line::{ProofBounds, SearchBounds};
+use io_core::{Sink, write_all};
+use path_order::Lpo;
+use plain_blocks::plain_blocks_stand;
+use proof_script::{print_claim, print_header};
+use soundness::accepted_are_true;
+use spec_core::{Goal, Signature, Spec};
+use std::alloc::Global;
+
+/// A search for counterexamples alone.
+pub fn search_alone(search: SearchBounds) -> ProofBounds
+    ensures { result ≡ search_alone_of search }
+{
+    ProofBounds {
+        search,
+        plain: 0,
+        nodes: 0,
+    }
+}
+
+/// Writes the report of the goals, each claim as soon as it is there.
+pub fn write_report<S: Sink>(
+    alloc: Global,
+    spec: &Spec,
+    bounds: ProofBounds,
+    out: &mut S,
+) -> Result<Status, Stop>
+    requires reported { HasReports spec.now }
+    requires within { AreWithin bounds }
+    ensures finishes { Finishes (S.written out.old) (S.written out.new)
+        (S.faults out.old) (S.faults out.new)
+        (IsReport bounds spec.now) (BeginsReport bounds spec.now) result }
+    ensures writes { S.faults out.old ≤ S.faults out.new }
+{
+    plain_blocks_stand(&Lpo::by_number());
+    accepted_are_true(&Lpo::by_number());
+    write_header(alloc, &spec.sig, bounds.search.steps, out)?;
+    let mut status = Status::Done;
+    for goal in spec.goals.as_slice() {
+        status = write_claim(alloc, spec, goal, bounds, status, out)?;
+    }
+    write_all(out, alloc, b"done\n")?;
+    Ok(status)
+}
+
+/// Writes the first two lines of a report.
+fn write_header<S: Sink>(
+    alloc: Global,
+    sig: &Signature,
+    steps: u32,
+    out: &mut S,
+) -> Result<(), Stop>
+    ensures header { WritesHeader (S.written out.old) (S.written out.new)
+        (S.faults out.old) (S.faults out.new) sig.now steps result }
+    ensures writes { S.faults out.old ≤ S.faults out.new }
+{
+    let text = print_header(alloc, sig, steps)?;
+    write_all(out, alloc, &text)?;
+    Ok(())
+}
+
+/// Writes the claim on a goal of the specification, and answers the status with it.
+fn write_claim<S: Sink>(
+    alloc: Global,
+    spec: &Spec,
+    goal: &Goal,
+    bounds: ProofBounds,
+    status: Status,
+    out: &mut S,
+) -> Result<Status, Stop>
+    requires reported { HasReports spec.now }
+    requires within { AreWithin bounds }
+    requires listed { (k : ℕ) × (slice_get spec.now.goals k ≡ Some goal.now) }
+    ensures claim { WritesClaim (S.written out.old) (S.written out.new)
+        (S.faults out.old) (S.faults out.new) bounds spec.now goal.now status result }
+    ensures writes { S.faults out.old ≤ S.faults out.new }
+{
+    plain_blocks_stand(&Lpo::by_number());
+    let claim = claim_on(alloc, spec, goal, bounds)?;
+    let text = print_claim(alloc, &spec.sig, &claim)?;
+    write_all(out, alloc, &text)?;
+    Ok(with_claim(status, &claim.outcome))
+}
+
+/// The status after one claim more.
+fn with_claim(status: Status, outcome: &Outcome) -> Status
+    ensures { result ≡ joined status outcome.now }
+{
+    match (status, outcome) {
+        (Status::Refuted, _) | (_, Outcome::Refuted { .. }) => Status::Refuted,
+        (_, Outcome::Proved(_)) => status,
+        (_, Outcome::Open(_)) => Status::Open,
+    }
+}
