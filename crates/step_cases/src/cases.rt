@@ -1,6 +1,8 @@
 //! What is asked in a case.
 ghost use Rattle.spec_core.specs.WellSorted.{IsWellSorted};
 
+use crate::nodes::Block;
+use crate::steps::number;
 use crate::{nodes, normal_cases};
 use anyhow::{Result, bail};
 use spec_core::Spec;
@@ -10,6 +12,7 @@ use std::alloc::Global;
 ///
 /// - `GOAL STEP -> ANSWER`, at the goal's clause, where no goal may be used
 /// - `GOAL by NAME,NAME : STEP -> ANSWER`, where these goals may be used
+/// - `GOAL among COUNT : STEP -> ANSWER`, at the first of so many nodes, each with the goal's clause
 /// - `normalize GOAL BUDGET -> TERM PLACE@RULE ..`, of the left side of the goal's first conclusion,
 ///   where `@RULE` is a use at the root, or `spent`
 pub fn holds(alloc: Global, spec: &Spec, words: &[&str]) -> Result<bool>
@@ -24,10 +27,14 @@ pub fn holds(alloc: Global, spec: &Spec, words: &[&str]) -> Result<bool>
     };
     match asked {
         ["normalize", goal, budget] => normal_cases::holds(alloc, spec, goal, budget, answer),
-        [goal, "by", lemmas, ":", step @ ..] => nodes::holds(
-            alloc, spec, goal, lemmas, step, answer,
-        ),
-        [goal, step @ ..] => nodes::holds(alloc, spec, goal, "", step, answer),
+        [goal, "by", lemmas, ":", step @ ..] => {
+            nodes::holds(alloc, spec, &Block::by(goal, lemmas), step, answer)
+        }
+        [goal, "among", count, ":", step @ ..] => {
+            let block = Block::among(goal, number(count)?);
+            nodes::holds(alloc, spec, &block, step, answer)
+        }
+        [goal, step @ ..] => nodes::holds(alloc, spec, &Block::among(goal, 1), step, answer),
         [] => bail!("a case asks nothing"),
     }
 }

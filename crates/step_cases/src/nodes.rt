@@ -2,6 +2,8 @@
 ghost use Rattle.std.specs.Prelude.{◌<◌, IfOk, length};
 ghost use Rattle.spec_core.specs.WellSorted.{IsWellSorted};
 ghost use Rattle.descent.specs.SortedChildren.{IsNode};
+ghost use Rattle.inference_rules.specs.Answers.{clauses_of};
+ghost use Rattle.inference_rules.specs.Nodes.{AreNodes};
 
 use crate::answers::is_answer;
 use crate::steps::step;
@@ -12,23 +14,65 @@ use path_order::Lpo;
 use spec_core::Spec;
 use std::alloc::Global;
 
-/// Whether the step of these words has this answer at the goal's clause, the only node. The goals
-/// that may be used have commas between them.
+/// Nodes that each have the clause of the goal of this name.
+#[derive(Clone, Copy)]
+pub struct Block<'a> {
+    goal: &'a str,
+    /// The goals that may be used, with commas between them.
+    lemmas: &'a str,
+    count: u32,
+}
+
+impl<'a> Block<'a> {
+    /// One node, where these goals may be used.
+    pub fn by(goal: &'a str, lemmas: &'a str) -> Block<'a> {
+        Block {
+            goal,
+            lemmas,
+            count: 1,
+        }
+    }
+
+    /// So many nodes, where no goal may be used.
+    pub fn among(goal: &'a str, count: u32) -> Block<'a> {
+        Block {
+            goal,
+            lemmas: "",
+            count,
+        }
+    }
+}
+
+/// Whether the step of these words has this answer at the block's first node.
 pub fn holds(
     alloc: Global,
     spec: &Spec,
-    goal: &str,
-    lemmas: &str,
+    block: &Block,
     words: &[&str],
     answer: &[&str],
 ) -> Result<bool>
     requires fine { IsWellSorted spec.now }
 {
-    let proved = numbers_of(alloc, spec, lemmas)?;
-    let nodes = [node_of(alloc, spec, goal)?];
+    let proved = numbers_of(alloc, spec, block.lemmas)?;
+    let nodes = nodes_of(alloc, spec, block)?;
+    if nodes.is_empty() {
+        bail!("a block has no node");
+    }
     let step = step(alloc, &spec.sig, words)?;
     let made = children(alloc, spec, &Lpo::by_number(), &proved, &nodes, 0, &step);
     is_answer(alloc, &spec.sig, made, answer)
+}
+
+/// The nodes of the block.
+fn nodes_of(alloc: Global, spec: &Spec, block: &Block) -> Result<Vec<Node>>
+    requires fine { IsWellSorted spec.now }
+    ensures { IfOk result (λ nodes. AreNodes spec.now.sig (clauses_of nodes.items)) }
+{
+    let mut nodes = Vec::new(alloc);
+    for _ in 0..block.count {
+        nodes.push(node_of(alloc, spec, block.goal)?)?;
+    }
+    Ok(nodes)
 }
 
 /// The node with the clause of the goal of this name.

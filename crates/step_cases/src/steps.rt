@@ -5,54 +5,88 @@ use anyhow::{Context, Result, bail};
 use clause_core::{Place, Step};
 use spec_core::Signature;
 use std::alloc::Global;
-use term_core::{Name, Seq, VarId};
+use term_core::{Name, Seq, Term, VarId};
 
 /// The step of these words.
 pub fn step(alloc: Global, sig: &Signature, words: &[&str]) -> Result<Step> {
-    Ok(match words {
-        ["trivial", equation] => Step::Trivial(conclusion(equation)?),
-        ["match", equation, other] => Step::Match(conclusion(equation)?, premise(other)?),
-        ["absurd", equation] => Step::Absurd(premise(equation)?),
-        ["subsume", node, list] => Step::Subsume(number(node)?, terms(alloc, sig, list)?),
-        ["by-lemma", goal, list] => Step::ByLemma(name(alloc, goal)?, terms(alloc, sig, list)?),
-        ["rule", at, rule] => Step::Rule(place(alloc, at)?, number(rule)?),
-        ["case", at, rule] => Step::Case(place(alloc, at)?, number(rule)?),
-        ["decompose", equation] => {
-            let (is_conclusion, number) = numbered(equation)?;
-            Step::Decompose(is_conclusion, number)
+    match words {
+        [verb, word] => step_of_one(alloc, sig, verb, word),
+        [verb, first, second] => step_of_two(alloc, sig, verb, first, second),
+        ["context", at, equation, way] => {
+            let place = place(alloc, at)?;
+            Ok(Step::Context(place, premise(equation)?, is_left(way)?))
         }
-        ["clash", equation] => Step::Clash(conclusion(equation)?),
-        ["drop", equation] => {
-            let (is_conclusion, number) = numbered(equation)?;
-            Step::Drop(is_conclusion, number)
+        [verb, from, list, at, way] => {
+            let terms = terms(alloc, sig, list)?;
+            let place = place(alloc, at)?;
+            replacing_step(alloc, verb, from, terms, place, is_left(way)?)
         }
-        ["solve", equation] => Step::Solve(premise(equation)?),
-        ["cover", var, list] => Step::Cover(variable(var)?, terms(alloc, sig, list)?),
-        ["generalize", part] => Step::Generalize(term(alloc, sig, part)?),
-        _ => replacing_step(alloc, sig, words)?,
-    })
+        _ => bail!("this is no step"),
+    }
 }
 
-/// The step of these words that replaces a term by an equation.
-fn replacing_step(alloc: Global, sig: &Signature, words: &[&str]) -> Result<Step> {
-    Ok(match words {
-        ["context", at, equation, way] => {
-            Step::Context(place(alloc, at)?, premise(equation)?, is_left(way)?)
-        }
-        ["hyp", node, list, at, way] => Step::Hyp(
-            number(node)?,
-            terms(alloc, sig, list)?,
-            place(alloc, at)?,
-            is_left(way)?,
-        ),
-        ["lemma", goal, list, at, way] => Step::Lemma(
-            name(alloc, goal)?,
-            terms(alloc, sig, list)?,
-            place(alloc, at)?,
-            is_left(way)?,
-        ),
+/// The step of a verb and one word.
+fn step_of_one(alloc: Global, sig: &Signature, verb: &str, word: &str) -> Result<Step> {
+    if verb == "generalize" {
+        return Ok(Step::Generalize(term(alloc, sig, word)?));
+    }
+    equation_step(verb, word)
+}
+
+/// The step of a verb and one equation.
+fn equation_step(verb: &str, word: &str) -> Result<Step> {
+    let (is_conclusion, number) = numbered(word)?;
+    match (verb, is_conclusion) {
+        ("trivial", true) => Ok(Step::Trivial(number)),
+        ("absurd", false) => Ok(Step::Absurd(number)),
+        ("decompose", _) => Ok(Step::Decompose(is_conclusion, number)),
+        ("clash", true) => Ok(Step::Clash(number)),
+        ("drop", _) => Ok(Step::Drop(is_conclusion, number)),
+        ("solve", false) => Ok(Step::Solve(number)),
         _ => bail!("this is no step"),
-    })
+    }
+}
+
+/// The step of a verb and two words.
+fn step_of_two(
+    alloc: Global,
+    sig: &Signature,
+    verb: &str,
+    first: &str,
+    second: &str,
+) -> Result<Step> {
+    match verb {
+        "match" => Ok(Step::Match(conclusion(first)?, premise(second)?)),
+        "rule" => Ok(Step::Rule(place(alloc, first)?, number(second)?)),
+        "case" => Ok(Step::Case(place(alloc, first)?, number(second)?)),
+        _ => list_step(alloc, verb, first, terms(alloc, sig, second)?),
+    }
+}
+
+/// The step of a verb, a word and a list of terms.
+fn list_step(alloc: Global, verb: &str, word: &str, list: Seq<Term>) -> Result<Step> {
+    match verb {
+        "subsume" => Ok(Step::Subsume(number(word)?, list)),
+        "by-lemma" => Ok(Step::ByLemma(name(alloc, word)?, list)),
+        "cover" => Ok(Step::Cover(variable(word)?, list)),
+        _ => bail!("this is no step"),
+    }
+}
+
+/// The step of a verb that replaces the term at a place by an instance.
+fn replacing_step(
+    alloc: Global,
+    verb: &str,
+    from: &str,
+    list: Seq<Term>,
+    at: Place,
+    left: bool,
+) -> Result<Step> {
+    match verb {
+        "hyp" => Ok(Step::Hyp(number(from)?, list, at, left)),
+        "lemma" => Ok(Step::Lemma(name(alloc, from)?, list, at, left)),
+        _ => bail!("this is no step"),
+    }
 }
 
 /// Whether an equation is a conclusion, and its number.

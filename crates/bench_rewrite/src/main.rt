@@ -1,0 +1,78 @@
+//! Normalizes the left side of a file's first goal, or compares two clauses without a file, for
+//! the figures of `bench/run`.
+//!
+//! It stands on spec_syntax, sort_check, path_order, clause_core and rewriting, and promises nothing
+//! beyond being safe. The words are `normalize FILE BUDGET TIMES` or `compare
+//! one|all EQUATIONS TIMES`.
+#![tactic(auto)]
+
+mod comparing;
+
+ghost use Rattle.std.specs.Prelude.{IfOk};
+ghost use Rattle.spec_core.specs.WellSorted.{IsWellSorted};
+
+use anyhow::{Context, Result, bail};
+use comparing::compared;
+use rewriting::{Normal, Rewriter};
+use sort_check::elaborate;
+use spec_core::Spec;
+use spec_syntax::read;
+use std::alloc::Global;
+use std::{env, fs};
+
+fn main(rt: HostRuntime) -> Result<()> {
+    let words: Vec<String> = env::args(&rt)?.collect(rt.alloc())?;
+    let alloc = rt.alloc();
+    let done = match words.as_slice() {
+        [_, mode, file, budget, times] if mode.as_str() == "normalize" => {
+            let spec = specification(alloc, &fs::read(&rt, file.as_str())?)?;
+            normalized(alloc, &spec, number(budget)?, number(times)?)?
+        }
+        [_, mode, differ, equations, times] if mode.as_str() == "compare" => {
+            let all_differ = differ.as_str() == "all";
+            compared(alloc, number(equations)?, all_differ, number(times)?)?
+        }
+        _ => bail!("the words are no mode of this program"),
+    };
+    println!(rt; "done {done}")?;
+    Ok(())
+}
+
+fn number(word: &String) -> Result<u32> {
+    word.as_str().parse::<u32>().context("reading a number")
+}
+
+/// The specification of a text.
+fn specification(alloc: Global, bytes: &[u8]) -> Result<Spec>
+    ensures sorted { IfOk result (λ spec. IsWellSorted spec) }
+{
+    match read(alloc, bytes) {
+        Ok(raw) => match elaborate(alloc, &raw) {
+            Ok(spec) => Ok(spec),
+            Err(_) => bail!("the file isn't sorted"),
+        },
+        Err(_) => bail!("the file isn't read"),
+    }
+}
+
+/// How many uses the left side of the first goal's first conclusion takes, which is normalized so
+/// many times.
+fn normalized(alloc: Global, spec: &Spec, budget: u32, times: u32) -> Result<u64>
+    requires fine { IsWellSorted spec.now }
+{
+    let Some(goal) = spec.goals.as_slice().first() else {
+        bail!("the file has no goal");
+    };
+    let Some(conclusion) = goal.conclusions.as_slice().first() else {
+        bail!("the goal has no conclusion");
+    };
+    let rewriter = Rewriter::new(alloc, spec)?;
+    let mut count: u64 = 0;
+    for _time in 0..times {
+        match rewriter.normalize(alloc, &conclusion.left, budget)? {
+            Normal::Done { uses, .. } => count = uses.len() as u64,
+            Normal::Spent => bail!("the budget is spent"),
+        }
+    }
+    Ok(count)
+}
