@@ -2,6 +2,7 @@ ghost use Rattle.spec_admit.specs.declared.faults.AdmitFault.TheVariants.{OutOfM
 ghost use Rattle.std.specs.Prelude.{◌≡◌};
 
 use spec_core::Spec;
+use std::fmt;
 use term_core::{Name, OutOfMemory, Seq, SymId, Term};
 
 /// Why a specification isn't admitted. Rules count from 1.
@@ -46,6 +47,24 @@ impl From<OutOfMemory> for AdmitFault {
 
     fn from(_error: OutOfMemory) -> AdmitFault {
         AdmitFault::OutOfMemory
+    }
+}
+
+impl fmt::Display for AdmitFault {
+    fn fmt<W: fmt::Write>(&self, f: &mut fmt::Formatter<W>) -> fmt::Result {
+        match self {
+            AdmitFault::Linear { rule, name: _ } => write!(f, "linear: rule {rule}"),
+            AdmitFault::Order { rule, part: 0 } => write!(f, "order: rule {rule}, right side"),
+            AdmitFault::Order { rule, part } => write!(f, "order: rule {rule}, guard {part}"),
+            AdmitFault::Overlap {
+                first,
+                second,
+                values: _,
+            } => write!(f, "overlap: rules {first} and {second}"),
+            AdmitFault::Guards { rule } => write!(f, "guards: rule {rule}"),
+            AdmitFault::Coverage { fun, values: _ } => write!(f, "coverage: symbol {}", fun.0),
+            AdmitFault::OutOfMemory => f.write_str("out of memory"),
+        }
     }
 }
 
