@@ -10,6 +10,7 @@ ghost use Rattle.spec_core.specs.Verdict.{IsVerdict};
 ghost use Rattle.value_bank.specs.Cells.{AddsCells};
 ghost use Rattle.value_bank.specs.Ground.{IsGround};
 ghost use Rattle.bank_machine.specs.Blocks.{AddsCode};
+ghost use Rattle.bank_machine.specs.KeptCalls.{AreRight};
 ghost use Rattle.bank_machine.specs.Runs.{StandAt};
 ghost use Rattle.ground_eval.specs.Prepared.{prepared, HaveCode};
 ghost use Rattle.ground_eval.specs.Sides.{IsDecided};
@@ -119,17 +120,32 @@ impl<'a> PreparedGoal<'a> {
             → IsDecided self.now.spec terms budget self.now.goal verdict) }
         ensures adds { AddsCells bank.old bank.new }
     {
-        let machine = &self.machine;
         let mut kept = KeptCalls::new(alloc);
-        match compare_premises(
-            alloc,
-            machine,
-            bank,
-            &mut kept,
-            &self.premises,
-            values,
-            budget,
-        )? {
+        self.verdict_keeping(alloc, bank, &mut kept, values, budget)
+    }
+
+    /// The same, where a table keeps what calls gave, from one verdict over the bank to the next.
+    pub fn verdict_keeping(
+        &self,
+        alloc: Global,
+        bank: &mut Bank,
+        kept: &mut KeptCalls,
+        values: &[ValueId],
+        budget: u32,
+    ) -> Result<Verdict, OutOfMemory>
+        requires fine { IsWellSorted self.now.spec }
+        requires listed { (k : ℕ) × (slice_get self.now.spec.goals k ≡ Some self.now.goal) }
+        requires kept { AreRight self.now.spec bank.old kept.old }
+        requires values { (terms : List Tree) × StandAt bank.old values.now terms
+            × AreValuesOf self.now.spec (sorts_of self.now.goal.vars) terms }
+        ensures decided { IfOk result (λ verdict. (terms : List Tree) → StandAt bank.old values.now terms
+            → AreValuesOf self.now.spec (sorts_of self.now.goal.vars) terms
+            → IsDecided self.now.spec terms budget self.now.goal verdict) }
+        ensures adds { AddsCells bank.old bank.new }
+        ensures kept { IfOk result (λ _. AreRight self.now.spec bank.new kept.new) }
+    {
+        let machine = &self.machine;
+        match compare_premises(alloc, machine, bank, kept, &self.premises, values, budget)? {
             Sides::Spent => Ok(Verdict::Spent),
             Sides::Differ => Ok(Verdict::Holds),
             Sides::Same => {
@@ -137,7 +153,7 @@ impl<'a> PreparedGoal<'a> {
                     alloc,
                     machine,
                     bank,
-                    &mut kept,
+                    kept,
                     &self.conclusions,
                     values,
                     budget,

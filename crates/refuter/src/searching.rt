@@ -1,10 +1,12 @@
 ghost use Rattle.std.specs.Prelude.{◌≡◌, ◌<◌, ◌^◌, ℕ, List, IfOk, OnOk, Some, length, slice_get};
 ghost use Rattle.term_core.specs.Tree.{Tree, trees_of};
+ghost use Rattle.spec_core.specs.declared.records.Spec.{Spec as SpecOf};
 ghost use Rattle.spec_core.specs.WellSorted.{IsWellSorted, sorts_of};
 ghost use Rattle.spec_core.specs.Overlap.{NoOverlap};
 ghost use Rattle.spec_core.specs.Groups.{GroupsAreWhole};
 ghost use Rattle.spec_core.specs.Order.{substitutions};
 ghost use Rattle.value_bank.specs.Cells.{AreTerms};
+ghost use Rattle.bank_machine.specs.KeptCalls.{AreRight};
 ghost use Rattle.refuter.specs.Finds.{Finds, IsFalse};
 ghost use Rattle.refuter.specs.Sizes.{CanRead};
 
@@ -12,6 +14,7 @@ use crate::answers::Search;
 use crate::fewest::MOST_SYMBOLS;
 use crate::odometer::Odometer;
 use crate::sized_bank::SizedBank;
+use bank_machine::KeptCalls;
 use ground_eval::{PreparedGoal, Verdict};
 use spec_core::{Goal, Spec, VarInfo};
 use std::alloc::Global;
@@ -22,7 +25,8 @@ const MANY_CELLS: usize = 1 << 18;
 
 /// Looks for the first counterexample among the first `tries` members of the goal's substitutions
 /// of this depth. Each side has the whole budget. The memory doesn't grow with the number of tries:
-/// a try begins with at most 2^18 shared values, or those of its substitution alone.
+/// a try begins with at most 2^18 shared values, or those of its substitution alone. What calls gave
+/// is kept from one try to the next, in one table of fixed size.
 pub fn search(
     alloc: Global,
     spec: &Spec,
@@ -77,13 +81,14 @@ fn look_through(
 {
     let bound = MOST_SYMBOLS * sorts.len() as u32;
     let mut bank = SizedBank::new(alloc)?;
+    let mut kept = KeptCalls::new(alloc);
     let mut row = Vec::new(alloc);
     let mut more = odometer.push_first(alloc, &mut bank, sorts, depth, bound, &mut row)?;
     let mut tried: u32 = 0;
     let mut skipped: u32 = 0;
     while more && tried < tries {
-        make_room(alloc, &mut bank, &mut row)?;
-        match bank.verdict(alloc, prepared, &row, budget)? {
+        make_room(alloc, &mut bank, &mut kept, &mut row)?;
+        match bank.verdict(alloc, prepared, &mut kept, &row, budget)? {
             Verdict::Fails => {
                 let values = bank.terms(alloc, &row)?;
                 return Ok(Search::Found {
@@ -104,17 +109,26 @@ fn look_through(
     })
 }
 
-/// Begins the bank anew where it has many cells. The values of the row are put into it again.
-fn make_room(alloc: Global, bank: &mut SizedBank, row: &mut Vec<u32>) -> Result<(), OutOfMemory>
+/// Begins the bank anew where it has many cells, and with it the table of what calls gave. The
+/// values of the row are put into the bank again.
+fn make_room(
+    alloc: Global,
+    bank: &mut SizedBank,
+    kept: &mut KeptCalls,
+    row: &mut Vec<u32>,
+) -> Result<(), OutOfMemory>
     requires { CanRead bank.old row.old.items }
-    ensures { OnOk result ((values : List Tree) → AreTerms bank.old row.old.items (trees_of values)
+    ensures placed { OnOk result ((values : List Tree) → AreTerms bank.old row.old.items (trees_of values)
         → AreTerms bank.new row.new.items (trees_of values)) }
+    ensures kept { OnOk result ((spec : SpecOf) → AreRight spec bank.old kept.old
+        → AreRight spec bank.new kept.new) }
 {
     if bank.len() <= MANY_CELLS {
         return Ok(());
     }
     let values = bank.terms(alloc, row)?;
     *bank = SizedBank::new(alloc)?;
+    *kept = KeptCalls::new(alloc);
     *row = bank.place(alloc, &values)?;
     Ok(())
 }

@@ -6,9 +6,11 @@ ghost use Rattle.spec_core.specs.WellSorted.{IsWellSorted, sorts_of};
 ghost use Rattle.value_bank.specs.Ground.{IsGround};
 ghost use Rattle.value_bank.specs.declared.bank.ValueId.{ValueId};
 ghost use Rattle.value_bank.specs.Cells.{cell, IsTerm, AreTerms, AreBelow, AddsCells};
+ghost use Rattle.bank_machine.specs.KeptCalls.{AreRight};
 ghost use Rattle.ground_eval.specs.Sides.{IsDecided};
 ghost use Rattle.refuter.specs.Sizes.{CanRead, GivesSize, IsSizeBy, IsNoted};
 
+use bank_machine::KeptCalls;
 use ground_eval::{PreparedGoal, Verdict};
 use std::alloc::Global;
 use std::marker::Model;
@@ -111,16 +113,18 @@ impl SizedBank {
         place_terms(alloc, &mut self.bank, values)
     }
 
-    /// The verdict of a goal under the values at these places.
+    /// The verdict of a goal under the values at these places. The table keeps what calls gave.
     pub(crate) fn verdict(
         &mut self,
         alloc: Global,
         prepared: &PreparedGoal,
+        kept: &mut KeptCalls,
         places: &[u32],
         budget: u32,
     ) -> Result<Verdict, OutOfMemory>
         requires fine { IsWellSorted prepared.now.spec }
         requires listed { (k : ℕ) × (slice_get prepared.now.spec.goals k ≡ Some prepared.now.goal) }
+        requires kept { AreRight prepared.now.spec self.old kept.old }
         requires values { (row : List Tree) × AreTerms self.old places.now (trees_of row)
             × AreValuesOf prepared.now.spec (sorts_of prepared.now.goal.vars) row }
         ensures decided { IfOk result (λ verdict. (row : List Tree)
@@ -128,9 +132,10 @@ impl SizedBank {
             → AreValuesOf prepared.now.spec (sorts_of prepared.now.goal.vars) row
             → IsDecided prepared.now.spec row budget prepared.now.goal verdict) }
         ensures adds { AddsCells self.old self.new }
+        ensures kept { IfOk result (λ _. AreRight prepared.now.spec self.new kept.new) }
     {
         let ids = ids_of(alloc, places)?;
-        prepared.verdict_in(alloc, &mut self.bank, &ids, budget)
+        prepared.verdict_keeping(alloc, &mut self.bank, kept, &ids, budget)
     }
 }
 

@@ -14,6 +14,7 @@ use Rattle.spec_core.specs.Verdict.{IsVerdict}
 use Rattle.spec_core.specs.Order.{substitutions}
 use Rattle.value_bank.specs.Cells.{AreTerms}
 use Rattle.value_bank.proofs.Terms.{terms_kept}
+use Rattle.refuter.proofs.Keeping.{right_kept}
 use Rattle.ground_eval.proofs.GoalSides.{goal_verdict-unique}
 use Rattle.ground_eval.specs.Sides.{IsDecided}
 use Rattle.refuter.specs.Finds.{SpentRows}
@@ -53,6 +54,7 @@ loop-more-init c =
     let goes : GoesOn c.push_first.new.bank c.new-row.result.items (slice_get (rows_within sig c.args.depth ss bound) 0) c.push_first.new.row.items c.in_ok-more.more = subst (λ us. GoesOn c.push_first.new.bank c.new-row.result.items (slice_get (rows_within sig c.args.depth us bound) 0) c.push_first.new.row.items c.in_ok-more.more) c.requires.sorts (subst (λ (g : Sig). GoesOn c.push_first.new.bank c.new-row.result.items (slice_get (rows_within g c.args.depth c.args.sorts.now bound) 0) c.push_first.new.row.items c.in_ok-more.more) c.requires.walks c.in_ok-more.ensures.goes) in
     record {
       at = starts sig c.push_first.new.bank c.args.depth ss bound rows c.new-row.result.items c.push_first.new.row.items c.in_ok-more.more (whole sig c.args.depth ss bound bound_is) c.new-row.ensures.items goes;
+      kept = c.new-kept.ensures spec c.push_first.new.bank;
       within = omega arith;
       past = omega arith;
       count = omega arith;
@@ -90,7 +92,7 @@ verdict-requires-clause-values c =
     let at : slice_get rows tried ≡ Some h.row = at_row sig c.loop-more.bank c.args.depth ss bound tried rows c.loop-more.row.items h in
     let values : AreValuesOf spec ss h.row = all_at (AreValuesOf spec ss) rows (members_are spec goal_is c.args.depth) tried h.row at in
     let small = row_small sig c.args.depth ss h.row (subst (λ xs. In h.row xs) (whole sig c.args.depth ss bound bound_is) (in_contained _ _ h.listed)) in
-    let stand : AreTerms c.make_room.new.bank c.make_room.new.row.items (trees_of h.row) = c.in_ok-make_room.ensures h.row h.stand in
+    let stand : AreTerms c.make_room.new.bank c.make_room.new.row.items (trees_of h.row) = c.in_ok-make_room.ensures.placed h.row h.stand in
     let read : AreTerms c.make_room.new.bank c.deref.result.now (trees_of h.row) = subst (λ ps. AreTerms c.make_room.new.bank ps (trees_of h.row)) (sym c.deref.ensures.value) stand in
     (h.row, read, values)
 
@@ -108,7 +110,7 @@ terms-requires c =
     let at : slice_get rows tried ≡ Some h.row = at_row sig c.loop-more.bank c.args.depth ss bound tried rows c.loop-more.row.items h in
     let values : AreValuesOf spec ss h.row = all_at (AreValuesOf spec ss) rows (members_are spec goal_is c.args.depth) tried h.row at in
     let small = row_small sig c.args.depth ss h.row (subst (λ xs. In h.row xs) (whole sig c.args.depth ss bound bound_is) (in_contained _ _ h.listed)) in
-    let stand : AreTerms c.make_room.new.bank c.make_room.new.row.items (trees_of h.row) = c.in_ok-make_room.ensures h.row h.stand in
+    let stand : AreTerms c.make_room.new.bank c.make_room.new.row.items (trees_of h.row) = c.in_ok-make_room.ensures.placed h.row h.stand in
     let read : AreTerms c.make_room.new.bank c.deref.result.now (trees_of h.row) = subst (λ ps. AreTerms c.make_room.new.bank ps (trees_of h.row)) (sym c.deref.ensures.value) stand in
     let verdict : IsDecided spec h.row c.args.budget goal_is c.in_ok-verdict.field-0 = c.in_ok-verdict.ensures.decided h.row read values in
     let kept : AreTerms c.verdict.new.self c.make_room.new.row.items (trees_of h.row) = terms_kept c.make_room.new.bank c.verdict.new.self c.make_room.new.row.items (trees_of h.row) c.in_ok-verdict.ensures.adds stand in
@@ -128,7 +130,7 @@ returns-in-Fails-clause-finds c apart all =
     let at : slice_get rows tried ≡ Some h.row = at_row sig c.loop-more.bank c.args.depth ss bound tried rows c.loop-more.row.items h in
     let values : AreValuesOf spec ss h.row = all_at (AreValuesOf spec ss) rows (members_are spec goal_is c.args.depth) tried h.row at in
     let small = row_small sig c.args.depth ss h.row (subst (λ xs. In h.row xs) (whole sig c.args.depth ss bound bound_is) (in_contained _ _ h.listed)) in
-    let stand : AreTerms c.make_room.new.bank c.make_room.new.row.items (trees_of h.row) = c.in_ok-make_room.ensures h.row h.stand in
+    let stand : AreTerms c.make_room.new.bank c.make_room.new.row.items (trees_of h.row) = c.in_ok-make_room.ensures.placed h.row h.stand in
     let read : AreTerms c.make_room.new.bank c.deref.result.now (trees_of h.row) = subst (λ ps. AreTerms c.make_room.new.bank ps (trees_of h.row)) (sym c.deref.ensures.value) stand in
     let verdict : IsDecided spec h.row c.args.budget goal_is c.in_ok-verdict.field-0 = c.in_ok-verdict.ensures.decided h.row read values in
     let kept : AreTerms c.verdict.new.self c.make_room.new.row.items (trees_of h.row) = terms_kept c.make_room.new.bank c.verdict.new.self c.make_room.new.row.items (trees_of h.row) c.in_ok-verdict.ensures.adds stand in
@@ -151,7 +153,7 @@ returns-in-Fails-clause-found c =
     let at : slice_get rows tried ≡ Some h.row = at_row sig c.loop-more.bank c.args.depth ss bound tried rows c.loop-more.row.items h in
     let values : AreValuesOf spec ss h.row = all_at (AreValuesOf spec ss) rows (members_are spec goal_is c.args.depth) tried h.row at in
     let small = row_small sig c.args.depth ss h.row (subst (λ xs. In h.row xs) (whole sig c.args.depth ss bound bound_is) (in_contained _ _ h.listed)) in
-    let stand : AreTerms c.make_room.new.bank c.make_room.new.row.items (trees_of h.row) = c.in_ok-make_room.ensures h.row h.stand in
+    let stand : AreTerms c.make_room.new.bank c.make_room.new.row.items (trees_of h.row) = c.in_ok-make_room.ensures.placed h.row h.stand in
     let read : AreTerms c.make_room.new.bank c.deref.result.now (trees_of h.row) = subst (λ ps. AreTerms c.make_room.new.bank ps (trees_of h.row)) (sym c.deref.ensures.value) stand in
     let verdict : IsDecided spec h.row c.args.budget goal_is c.in_ok-verdict.field-0 = c.in_ok-verdict.ensures.decided h.row read values in
     let kept : AreTerms c.verdict.new.self c.make_room.new.row.items (trees_of h.row) = terms_kept c.make_room.new.bank c.verdict.new.self c.make_room.new.row.items (trees_of h.row) c.in_ok-verdict.ensures.adds stand in
@@ -186,7 +188,7 @@ advance-requires-clause-listed c =
     let at : slice_get rows tried ≡ Some h.row = at_row sig c.loop-more.bank c.args.depth ss bound tried rows c.loop-more.row.items h in
     let values : AreValuesOf spec ss h.row = all_at (AreValuesOf spec ss) rows (members_are spec goal_is c.args.depth) tried h.row at in
     let small = row_small sig c.args.depth ss h.row (subst (λ xs. In h.row xs) (whole sig c.args.depth ss bound bound_is) (in_contained _ _ h.listed)) in
-    let stand : AreTerms c.make_room.new.bank c.make_room.new.row.items (trees_of h.row) = c.in_ok-make_room.ensures h.row h.stand in
+    let stand : AreTerms c.make_room.new.bank c.make_room.new.row.items (trees_of h.row) = c.in_ok-make_room.ensures.placed h.row h.stand in
     let read : AreTerms c.make_room.new.bank c.deref.result.now (trees_of h.row) = subst (λ ps. AreTerms c.make_room.new.bank ps (trees_of h.row)) (sym c.deref.ensures.value) stand in
     let verdict : IsDecided spec h.row c.args.budget goal_is c.in_ok-verdict.field-0 = c.in_ok-verdict.ensures.decided h.row read values in
     let kept : AreTerms c.verdict.new.self c.make_room.new.row.items (trees_of h.row) = terms_kept c.make_room.new.bank c.verdict.new.self c.make_room.new.row.items (trees_of h.row) c.in_ok-verdict.ensures.adds stand in
@@ -207,7 +209,7 @@ loop-more-preserved c =
     let at : slice_get rows tried ≡ Some h.row = at_row sig c.loop-more.bank c.args.depth ss bound tried rows c.loop-more.row.items h in
     let values : AreValuesOf spec ss h.row = all_at (AreValuesOf spec ss) rows (members_are spec goal_is c.args.depth) tried h.row at in
     let small = row_small sig c.args.depth ss h.row (subst (λ xs. In h.row xs) (whole sig c.args.depth ss bound bound_is) (in_contained _ _ h.listed)) in
-    let stand : AreTerms c.make_room.new.bank c.make_room.new.row.items (trees_of h.row) = c.in_ok-make_room.ensures h.row h.stand in
+    let stand : AreTerms c.make_room.new.bank c.make_room.new.row.items (trees_of h.row) = c.in_ok-make_room.ensures.placed h.row h.stand in
     let read : AreTerms c.make_room.new.bank c.deref.result.now (trees_of h.row) = subst (λ ps. AreTerms c.make_room.new.bank ps (trees_of h.row)) (sym c.deref.ensures.value) stand in
     let verdict : IsDecided spec h.row c.args.budget goal_is c.in_ok-verdict.field-0 = c.in_ok-verdict.ensures.decided h.row read values in
     let kept : AreTerms c.verdict.new.self c.make_room.new.row.items (trees_of h.row) = terms_kept c.make_room.new.bank c.verdict.new.self c.make_room.new.row.items (trees_of h.row) c.in_ok-verdict.ensures.adds stand in
@@ -221,6 +223,7 @@ loop-more-preserved c =
           let v = subst (λ x. IsDecided spec h.row c.args.budget goal_is x) w.in-Spent.is verdict in
           record {
             at = next;
+            kept = right_kept spec c.verdict.new.self c.advance.new.bank c.verdict.new.kept c.in_ok-more-2.ensures.adds c.in_ok-verdict.ensures.kept;
             within = omega arith;
             past = omega arith;
             count = omega arith;
@@ -231,6 +234,7 @@ loop-more-preserved c =
           let v = subst (λ x. IsDecided spec h.row c.args.budget goal_is x) w.in-Holds.is verdict in
           record {
             at = next;
+            kept = right_kept spec c.verdict.new.self c.advance.new.bank c.verdict.new.kept c.in_ok-more-2.ensures.adds c.in_ok-verdict.ensures.kept;
             within = omega arith;
             past = omega arith;
             count = omega arith;

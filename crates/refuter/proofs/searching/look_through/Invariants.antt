@@ -3,6 +3,7 @@ use Rattle.spec_core.specs.Overlap.{NoOverlap}
 use Rattle.spec_core.specs.Groups.{GroupsAreWhole}
 use Rattle.spec_core.specs.WellSorted.{sorts_of}
 use Rattle.spec_core.specs.Order.{substitutions}
+use Rattle.bank_machine.specs.KeptCalls.{AreRight}
 use Rattle.refuter.specs.Finds.{NoneFails, SpentRows}
 use Rattle.refuter.proofs.Progress.{IsAt}
 use Rattle.refuter.proofs.searching.look_through.Given as goal
@@ -11,6 +12,7 @@ abbrev pub invariant-loop-more : goal.invariant-loop-more
 invariant-loop-more l =
     record {
       at : IsAt l.prepared.spec.sig l.bank l.depth (sorts_of l.prepared.goal.vars) l.bound (drop l.tried (substitutions l.prepared.spec l.prepared.goal l.depth)) l.row.items l.more;
+      kept : AreRight l.prepared.spec l.bank l.kept;
       within : l.tried ≤ l.tries;
       past : l.tried ≤ length (substitutions l.prepared.spec l.prepared.goal l.depth);
       count : l.skipped ≤ l.tried;

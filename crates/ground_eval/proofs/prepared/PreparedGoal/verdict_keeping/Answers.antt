@@ -7,7 +7,7 @@ use Rattle.ground_eval.specs.Prepared.{Prepared, HaveCode}
 use Rattle.ground_eval.specs.Sides.{PremisesAre, IsDecided}
 use Rattle.ground_eval.proofs.SharedSides.{can_compare, stand_kept}
 use Rattle.ground_eval.proofs.Walks.{conclusions_decide}
-use Rattle.ground_eval.proofs.prepared.PreparedGoal.verdict_in.Goals as goal
+use Rattle.ground_eval.proofs.prepared.PreparedGoal.verdict_keeping.Goals as goal
 
 pub compare_premises-requires-clause-ready : goal.compare_premises-requires-clause-ready
 compare_premises-requires-clause-ready c =
@@ -33,8 +33,8 @@ returns-in-Differ-clause-decided c terms stand values =
     let p = subst (λ r. PremisesAre c.self.inside.machine.spec terms c.args.budget c.self.inside.goal.now.premises r) c.in-Differ.is (c.in_ok-compare_premises.ensures.sides c.self.inside.goal.now.premises terms (can_compare c.self.inside.machine c.self.inside.goal.now c.self.inside.goal.now.premises q.premises c.args.bank.now c.deref.result.now c.args.values.now terms (subst (λ ps. HaveCode c.self.inside.machine (length c.self.inside.goal.now.vars) c.self.inside.goal.now.premises ps) (sym c.deref.ensures.value) c.self.invariant.of_premises) stand (subst (λ (z : Prepared). AreValuesOf z.spec (sorts_of z.goal.vars) terms) (sym c.self.view_is) values))) in
     subst (λ (z : Prepared). IsDecided z.spec terms c.args.budget z.goal verdict.Holds) c.self.view_is (p c.self.inside.goal.now.conclusions)
 
-pub returns-clause-decided : goal.returns-clause-decided
-returns-clause-decided c =
+pub returns-in-Same-clause-decided : goal.returns-in-Same-clause-decided
+returns-in-Same-clause-decided c =
     let q : GoalIsSorted c.self.inside.machine.spec.sig c.self.inside.goal.now = subst (λ (z : Prepared). GoalIsSorted z.spec.sig z.goal) (sym c.self.view_is) (c.requires.fine.goals c.requires.listed.0 c.args.self.now.goal c.requires.listed.1) in
     if_ok_map c.compare_conclusions.result _ _
     (λ r h terms stand values.
