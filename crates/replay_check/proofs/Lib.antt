@@ -1,6 +1,5 @@
--- Blocks: goals that may be used, links alone, and steps that are taken.
+-- Blocks: goals that may be used, and steps that are taken.
 mod UsableGoals
-mod LinksAlone
 mod TakenSteps
 mod TestedBlocks
 -- Values of refuted goals.

@@ -29,7 +29,8 @@ use Rattle.inference_rules.specs.Nodes.{AreNodes, clauses_made}
 use Rattle.replay_check.specs.declared.answers.Stop.{Stop}
 use Rattle.replay_check.specs.declared.answers.Stop.TheVariants.{Refused, OutOfMemory}
 use Rattle.replay_check.specs.declared.taken_steps.TakenSteps.{TakenSteps}
-use Rattle.replay_check.specs.Taken.{links_of, without_sides, TakesStep, AreTaken, StopsAt, FindsSteps}
+use Rattle.block_links.specs.Links.{links_of, without_sides}
+use Rattle.replay_check.specs.Taken.{TakesStep, AreTaken, StopsAt, FindsSteps}
 
 -- with the children of a step there are few nodes
 pub few_made : (above : Tree → Tree → Type 0) (c : Clause) (nodes : List Clause) (row : Row) (m : Children) → Says above c nodes row (Ok m) → length nodes + length m.clauses ≤ 10000

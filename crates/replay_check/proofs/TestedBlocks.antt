@@ -32,13 +32,14 @@ use Rattle.acceptance.proofs.FirstRefusal.{first_limit, first_step, first_pendin
 use Rattle.acceptance.proofs.Links.{allowed_past}
 use Rattle.acceptance.proofs.WholeBlocks.{as_many, whole_block}
 use Rattle.inference_rules.specs.declared.nodes.Node.{Node}
+use Rattle.block_links.specs.Links.{links_of}
+use Rattle.block_links.proofs.LinksAlone.{allowed_by_links, links_allowed, whole_links}
 use Rattle.replay_check.specs.declared.answers.Stop.{Stop}
 use Rattle.replay_check.specs.declared.answers.Stop.TheVariants.{Refused, OutOfMemory}
 use Rattle.replay_check.specs.declared.taken_steps.TakenSteps.{TakenSteps}
 use Rattle.replay_check.specs.Finds.{Finds}
-use Rattle.replay_check.specs.Taken.{links_of, AreTaken, FindsSteps}
+use Rattle.replay_check.specs.Taken.{AreTaken, FindsSteps}
 use Rattle.replay_check.specs.Tracking.{AreProved}
-use Rattle.replay_check.proofs.LinksAlone.{allowed_by_links, links_allowed, whole_links}
 use Rattle.replay_check.proofs.UsableGoals.{makes_same, refused_same}
 
 -- the clause of a goal within the limits can be a node

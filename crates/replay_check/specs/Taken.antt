@@ -4,7 +4,6 @@ use Rattle.term_core.specs.Tree.{Tree}
 use Rattle.spec_core.specs.declared.records.Spec.{Spec}
 use Rattle.clause_core.specs.declared.clauses.Clause.{Clause}
 use Rattle.clause_core.specs.declared.steps.Step.{Step}
-use Rattle.clause_core.specs.declared.answers.Child.{Child}
 use Rattle.clause_core.specs.declared.answers.Children.{Children}
 use Rattle.clause_core.specs.declared.answers.Why.{Why}
 use Rattle.clause_core.specs.declared.reports.ReplayWhy.TheVariants.{Step as of_step}
@@ -14,20 +13,10 @@ use Rattle.inference_rules.specs.declared.nodes.StepError.{StepError}
 use Rattle.inference_rules.specs.declared.nodes.StepError.TheVariants.{Why as because, OutOfMemory as no_memory}
 use Rattle.inference_rules.specs.Answers.{clauses_of}
 use Rattle.inference_rules.specs.Nodes.{AreNodes, clauses_made}
+use Rattle.block_links.specs.Links.{links_of}
 use Rattle.replay_check.specs.declared.answers.Stop.{Stop}
 use Rattle.replay_check.specs.declared.answers.Stop.TheVariants.{Refused, OutOfMemory}
 use Rattle.replay_check.specs.declared.taken_steps.TakenSteps.{TakenSteps}
-
-abbrev pub without_sides : Clause
-without_sides = record { ctx = []; premises = []; conclusions = [] }
-
--- the relations of the children, which stand here without their clauses, and the references
-abbrev pub links_of : Children → Children
-links_of made = record {
-  clauses =
-      map (λ (d : Child). record { clause = without_sides; relation = d.relation }) made.clauses;
-  refs = made.refs;
-}
 
 -- a step that isn't defined is refused on its line, behind the first one of the claim; want of memory
 -- may always come

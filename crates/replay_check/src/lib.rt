@@ -1,10 +1,11 @@
 //! Replay: whether a report is accepted, and where it is first refused if not.
 //!
 //! It stands on acceptance, which says what an accepted report is and which refusal is the first, on
-//! inference_rules, which takes each step, on ground_eval for the verdict of a refuted goal, and on
-//! spec_admit for an admitted specification. Nothing is searched, and nothing is trusted: a report
-//! may come from anywhere. The layers above use [`replay`]: `Yes` exactly where the report is
-//! accepted, and what it claims is true then; else its first refusal (`specs/Tells.antt`).
+//! inference_rules, which takes each step, on block_links, which parts clauses from links, on
+//! ground_eval for the verdict of a refuted goal, and on spec_admit for an admitted specification.
+//! Nothing is searched, and nothing is trusted: a report may come from anywhere. The layers above
+//! use [`replay`]: `Yes` exactly where the report is accepted, and what it claims is true then;
+//! else its first refusal (`specs/Tells.antt`).
 //!
 //! Claims are tested in their order (`claims.rt`), a block step by step (`blocks.rt`), and the
 //! values of a refuted goal by its verdict (`values.rt`).

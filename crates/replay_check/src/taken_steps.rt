@@ -1,21 +1,23 @@
 ghost use Rattle.std.specs.Prelude.{◌≡◌, ◌≤◌, ◌++◌, [], ◌∷◌, IfOk, OnOk, Contains, length};
 ghost use Rattle.inference_rules.specs.Answers.{clauses_of};
 ghost use Rattle.inference_rules.specs.Nodes.{AreNodes, clauses_made};
-ghost use Rattle.replay_check.specs.Taken.{links_of, without_sides, TakesStep};
+ghost use Rattle.block_links.specs.Links.{links_of};
+ghost use Rattle.replay_check.specs.Taken.{TakesStep};
 
-use clause_core::{Child, Children, Clause, Step, Why};
+use block_links::apart;
+use clause_core::{Children, Clause, Step, Why};
 use inference_rules::{Node, StepError, children};
 use path_order::TermOrder;
 use spec_admit::Admitted;
 use std::alloc::Global;
-use term_core::{OutOfMemory, Seq};
+use term_core::OutOfMemory;
 
 /// The nodes of a block so far, and the links from those whose steps are taken.
 #[derive(Drop)]
 pub(crate) struct TakenSteps {
     pub nodes: Vec<Node>,
     /// For each step the relations of its children and its references. The clauses of the children
-    /// aren't kept twice: they stand in `nodes`, and clauses without sides stand for them here.
+    /// stand in `nodes` alone.
     pub links: Vec<Children>,
 }
 
@@ -66,30 +68,11 @@ impl TakenSteps {
         ensures links { OnOk result (self.new.links.items
             ≡ self.old.links.items ++ links_of made ∷ []) }
     {
-        let Children { clauses, refs } = made;
-        let mut links = Vec::with_capacity(alloc, clauses.len())?;
-        for child in clauses.into_vec() {
-            let Child { clause, relation } = child;
+        let (clauses, links) = apart(alloc, made)?;
+        for clause in clauses {
             self.nodes.push(Node { clause })?;
-            links.push(Child {
-                clause: clause_without_sides(alloc),
-                relation,
-            })?;
         }
-        self.links.push(Children {
-            clauses: Seq::from_vec(links),
-            refs,
-        })?;
+        self.links.push(links)?;
         Ok(())
-    }
-}
-
-fn clause_without_sides(alloc: Global) -> Clause
-    ensures { result ≡ without_sides }
-{
-    Clause {
-        ctx: Seq::new(alloc),
-        premises: Seq::new(alloc),
-        conclusions: Seq::new(alloc),
     }
 }

@@ -1,0 +1,2 @@
+-- Links alone decide what is allowed.
+pub mod LinksAlone

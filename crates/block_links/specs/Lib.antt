@@ -1,0 +1,3 @@
+-- What a step makes without the clauses of children, and that it decides what is allowed.
+pub mod Links
+pub mod Laws
