@@ -1,6 +1,6 @@
 -- One step of each candidate, one chosen step, and one block.
 mod OneUse
-mod TermLists
+mod ReferenceTerms
 mod OneCandidates
 mod Chosen
 mod Variables
@@ -8,9 +8,7 @@ mod BlockSteps
 mod Following
 mod OneBlocks
 -- What the parts of the builder find.
-mod PresentEntries
 mod Uses
-mod MatchedTerms
 mod TakenCandidates
 mod FirstNodes
 mod BuiltBlocks

@@ -4,7 +4,7 @@ use Rattle.std.specs.Prelude.{position, nat_lt, slice_get}
 use Rattle.std.specs.List.{position_or_len}
 use Rattle.std.proofs.lemmas.List.{length-map, map-id}
 use Rattle.std.proofs.lemmas.Option.{slice_get_within}
-use Rattle.term_core.specs.Tree.{Tree, none, some}
+use Rattle.term_core.specs.Tree.{Tree, app, none, some}
 use Rattle.term_core.specs.Variables.{occurrences, firsts, numbers_of}
 use Rattle.term_core.specs.declared.ids.VarId.{VarId}
 use Rattle.spec_core.specs.declared.records.Equation.{Equation}
@@ -17,8 +17,11 @@ use Rattle.clause_core.specs.Tidied.{place_of, variables_of, written_clause}
 use Rattle.clause_core.proofs.Renumbering.{found_at, not_found}
 use Rattle.clause_core.proofs.TidiedSorts.{at_place, variables_met}
 use Rattle.plain_proof.specs.PlainProofs.{IsPlain}
-use Rattle.plain_blocks.proofs.MatchedTerms.{pair_of}
 use Rattle.plain_blocks.proofs.Variables.{variables_few}
+
+-- both terms as the arguments of one symbol
+abbrev pair_of : Tree → Tree → Tree
+pair_of x y = app 0 (some x (some y none))
 
 places_map : (x : ℕ) (vars : List VarId) → position_or_len (λ m. m == x) (numbers_of vars) ≡ position_or_len (λ (v : VarId). v.0 == x) vars
 places_map x [] = refl

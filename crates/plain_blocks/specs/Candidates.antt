@@ -1,5 +1,5 @@
 -- The candidates for the step of a node, one by one.
-use Rattle.std.specs.Prelude.{◌≡◌, ◌⊎◌, ℕ, List, [], ◌∷◌, Bool, true, false, Option, Some, None, Contains, Ok, map, length}
+use Rattle.std.specs.Prelude.{◌≡◌, ◌⊎◌, List, [], ◌∷◌, Bool, true, false, Option, Some, None, Contains, Ok, map, length}
 use Rattle.term_core.specs.Tree.{Tree}
 use Rattle.spec_core.specs.declared.records.Equation.{Equation}
 use Rattle.spec_core.specs.declared.records.Spec.{Spec}
@@ -14,7 +14,7 @@ use Rattle.clause_core.specs.Tidied.{IsTidied}
 use Rattle.plain_blocks.specs.declared.candidates.Candidate.{Candidate}
 use Rattle.plain_blocks.specs.declared.candidates.Candidate.TheVariants.{Trivial, RuleOnLeft, RuleOnRight, Decompose, AsWritten, WithSidesSwapped}
 use Rattle.plain_blocks.specs.declared.candidates.Taken.{Taken}
-use Rattle.plain_blocks.specs.Choices.{with_terms, IsTrivial, IsUse, IsDecomposition, IsReference, IsPossible, IsChosen}
+use Rattle.plain_blocks.specs.Choices.{IsTrivial, IsUse, IsDecomposition, IsReference, IsPossible, IsChosen}
 
 -- the first node of the block of an equation: a tidied clause of one conclusion
 pub record IsStart (start : Clause) : Type 0 where
@@ -22,11 +22,6 @@ pub record IsStart (start : Clause) : Type 0 where
   pub no_premises : start.premises ≡ []
   pub conclusion : start.conclusions ≡ equation ∷ []
   pub is_tidied : IsTidied start
-
--- so many terms, by which the equations become these
-pub record Becomes (es : List Equation) (count : ℕ) (ds : List Equation) (terms : List Tree) : Type 0 where
-  pub long : length terms ≡ count
-  pub is : with_terms terms es ≡ ds
 
 -- the only one of which this holds, or that it holds of none
 abbrev pub IsOnly : {X : Type 0} → (X → Type 0) → Option X → Type 0

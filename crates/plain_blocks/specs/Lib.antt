@@ -5,5 +5,4 @@ pub mod Laws
 pub mod StandingBlocks
 pub mod Plain
 -- What only this crate's own contracts speak of.
-pub mod Entries
 pub mod Candidates

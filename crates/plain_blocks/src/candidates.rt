@@ -1,12 +1,13 @@
-ghost use Rattle.std.specs.Prelude.{◌≡◌, IfOk};
+ghost use Rattle.std.specs.Prelude.{◌≡◌, [], ◌∷◌, IfOk, MatchOption};
+ghost use Rattle.spec_core.specs.declared.records.Equation.{Equation as EquationOf};
 ghost use Rattle.spec_core.specs.WellSorted.{IsWellSorted};
 ghost use Rattle.clause_core.specs.Clauses.{ClauseIsSorted};
 ghost use Rattle.clause_core.specs.Places.{side as side_of};
 ghost use Rattle.plain_blocks.specs.Choices.{IsUse};
 ghost use Rattle.plain_blocks.specs.Candidates.{IsStart, IsOnly, IsFullReference, IsCandidate, wanted};
 
-use crate::instances::{only, terms_for};
 use clause_core::{Children, Clause, Place, Step};
+use fitting_lists::fitting_terms;
 use rewriting::Rewriter;
 use spec_core::Equation;
 use std::alloc::Global;
@@ -127,15 +128,23 @@ fn reference(
     let Some(conclusion) = only(here.conclusions.as_slice()) else {
         return Ok(None);
     };
-    let found = terms_for(
-        alloc,
-        equation,
-        start.ctx.len(),
-        side(conclusion, !swapped),
-        side(conclusion, swapped),
-    )?;
-    match found {
+    let count = start.ctx.len();
+    let left = side(conclusion, !swapped);
+    let right = side(conclusion, swapped);
+    match fitting_terms(alloc, count, equation, left, right)? {
         None => Ok(None),
         Some(terms) => Ok(Some(Step::Subsume(0, terms))),
+    }
+}
+
+/// The only equation of a list.
+fn only(equations: &[Equation]) -> Option<&Equation>
+    ensures { MatchOption result ((e : EquationOf) → equations.now ≡ e ∷ [] → ⊥)
+        (λ e. equations.now ≡ e.now ∷ []) }
+{
+    if equations.len() == 1 {
+        equations.first()
+    } else {
+        None
     }
 }

@@ -1,0 +1,105 @@
+-- The first of the equations that pass a test, and the first of conclusions and premises.
+use Rattle.std.proofs.Common.{◌≡◌, ℕ, zero, suc, ◌<◌, List, [], ◌∷◌, ◌++◌, Bool, true, false, cond, refl, ap, sym, ◌∙◌, arith, length, get_or, take}
+use Rattle.std.specs.Prelude.{filter}
+use Rattle.std.proofs.lemmas.List.Elements.{filter-append}
+use Rattle.spec_core.specs.declared.records.Equation.{Equation}
+use Rattle.clause_core.specs.declared.clauses.Clause.{Clause}
+use Rattle.fitting_lists.specs.Fitting.{Located, both_sides, has_all, located, leading}
+
+module _ {A : Type 0} where
+  first_of_both : (x : A) (xs ys : List A) → take 1 xs ≡ x ∷ [] → take 1 (xs ++ ys) ≡ x ∷ []
+  first_of_both x [] ys e = absurd (cc)
+  first_of_both x (z ∷ xs) ys e = e
+
+  module _ (p : A → Bool) where
+    kept_at : (b : Bool) (y : A) (xs : List A) → b ≡ true → take 1 (cond b (y ∷ xs) xs) ≡ y ∷ []
+    kept_at true y xs e = refl
+    kept_at false y xs e = absurd (cc)
+
+    left_at :
+        (b : Bool) (y : A) (xs zs : List A) → cond b (y ∷ xs) xs ≡ [] →
+        (xs ≡ []) × (cond b (y ∷ zs) zs ≡ zs)
+    left_at true y xs zs e = absurd (let q : (y ∷ xs) ≡ [] = e in cc)
+    left_at false y xs zs e = (e, refl)
+
+    -- the first item that is kept, where none before it is
+    pub first_kept :
+        (xs : List A) (i : ℕ) (x : A) → i < length xs → x ≡ get_or xs i x →
+        filter p (take i xs) ≡ [] → p x ≡ true → take 1 (filter p xs) ≡ x ∷ []
+    first_kept [] i x lt is before h = absurd (omega arith)
+    first_kept (y ∷ ys) zero x lt is before h =
+        let k : x ≡ y = is in
+        kept_at (p y) y (filter p ys) (ap p (sym k) ∙ h) ∙ ap (λ z. z ∷ []) (sym k)
+    first_kept (y ∷ ys) (suc i) x lt is before h =
+        let r = left_at (p y) y (filter p (take i ys)) (filter p ys) before in
+        ap (λ zs. take 1 zs) r.1 ∙ first_kept ys i x (omega arith) is r.0 h
+
+module _ (c : Clause) where
+  -- the test of an equation, and of one with its kind
+  abbrev has : Equation → Bool
+  has e = has_all c (both_sides e)
+
+  abbrev has_located : Located → Bool
+  has_located e = has_all c (both_sides e.equation)
+
+  kept_located :
+      (k : Bool) (es : List Equation) →
+      filter has_located (located k es) ≡ located k (filter has es)
+  kept_located k [] = refl
+  kept_located k (e ∷ es) = located_at (has e) (kept_located k es)
+    where
+      located_at :
+          (b : Bool) → filter has_located (located k es) ≡ located k (filter has es) →
+          cond b (record { conclusion = k; equation = e } ∷ filter has_located (located k es))
+          (filter has_located (located k es))
+          ≡ located k (cond b (e ∷ filter has es) (filter has es))
+      located_at true q = ap (λ ls. record { conclusion = k; equation = e } ∷ ls) q
+      located_at false q = q
+
+  -- the equations that are kept, with their kinds
+  abbrev conclusions : List Located
+  conclusions = located true (filter has c.conclusions)
+
+  abbrev premises : List Located
+  premises = located false (filter has c.premises)
+
+  leading_is : leading c ≡ take 1 (conclusions ++ premises)
+  leading_is =
+      ap (λ ls. take 1 ls) (
+      filter-append has_located (located true c.conclusions) (located false c.premises)
+      ∙ ap (λ ls. ls ++ filter has_located (located false c.premises))
+      (kept_located true c.conclusions)
+      ∙ ap (λ ls. conclusions ++ ls) (kept_located false c.premises))
+
+  first_located :
+      (k : Bool) (es : List Equation) (e : Equation) → take 1 es ≡ e ∷ [] →
+      take 1 (located k es) ≡ record { conclusion = k; equation = e } ∷ []
+  first_located k [] e q = absurd (cc)
+  first_located k (d ∷ es) e q =
+      let same : d ≡ e = only d e q in
+      ap (λ x. record { conclusion = k; equation = x } ∷ []) same
+    where
+      only : (d e : Equation) → (d ∷ []) ≡ (e ∷ []) → d ≡ e
+      only d e q = cc
+
+  pub conclusion_leads :
+      (e : Equation) → take 1 (filter has c.conclusions) ≡ e ∷ [] →
+      leading c ≡ record { conclusion = true; equation = e } ∷ []
+  conclusion_leads e q =
+      leading_is
+      ∙ first_of_both (record { conclusion = true; equation = e }) conclusions premises
+      (first_located true (filter has c.conclusions) e q)
+
+  pub premise_leads :
+      (e : Equation) → filter has c.conclusions ≡ [] → take 1 (filter has c.premises) ≡ e ∷ [] →
+      leading c ≡ record { conclusion = false; equation = e } ∷ []
+  premise_leads e none q =
+      leading_is
+      ∙ ap (λ es. take 1 (located true es ++ premises)) none
+      ∙ first_located false (filter has c.premises) e q
+
+  pub none_leads : filter has c.conclusions ≡ [] → filter has c.premises ≡ [] → leading c ≡ []
+  none_leads p q =
+      leading_is
+      ∙ ap (λ es. take 1 (located true es ++ premises)) p
+      ∙ ap (λ es. take 1 (located false es)) q

@@ -1,0 +1,9 @@
+-- Lemmas: which variables tests find, questions with at most one answer, the variables of sorted
+-- clauses, what matching answers, and which equation leads.
+pub mod AllItems
+pub mod VariableTests
+pub mod Determined
+pub mod Variables
+mod TermLists
+mod LeadingEquations
+mod SampleLists

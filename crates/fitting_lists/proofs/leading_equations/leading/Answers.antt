@@ -1,0 +1,31 @@
+-- The first conclusion that is kept leads, or else the first premise.
+use Rattle.std.proofs.Common.{List, ap, sym, take, ◌∙◌}
+use Rattle.std.specs.Prelude.{filter}
+use Rattle.spec_core.specs.declared.records.Equation.{Equation}
+use Rattle.clause_core.specs.declared.clauses.Clause.{Clause}
+use Rattle.fitting_lists.specs.Fitting.{both_sides, has_all}
+use Rattle.fitting_lists.proofs.LeadingEquations.{conclusion_leads, premise_leads, none_leads}
+use Rattle.fitting_lists.proofs.leading_equations.leading.Goals as goal
+
+-- the equations with all variables of the clause
+abbrev kept : Clause → List Equation → List Equation
+kept c es = filter (λ (e : Equation). has_all c (both_sides e)) es
+
+pub returns-in-Some : goal.returns-in-Some
+returns-in-Some c =
+    let here = c.args.clause.now in
+    conclusion_leads here c.in-Some.equation.now
+    (ap (λ es. take 1 (kept here es)) (sym c.as_slice.ensures) ∙ c.in-Some.ensures)
+
+pub returns-in-Some-first_with_all : goal.returns-in-Some-first_with_all
+returns-in-Some-first_with_all c =
+    let here = c.args.clause.now in
+    premise_leads here c.in-Some-first_with_all.equation.now
+    (ap (λ es. kept here es) (sym c.as_slice.ensures) ∙ c.in_default.ensures)
+    (ap (λ es. take 1 (kept here es)) (sym c.as_slice-2.ensures) ∙ c.in-Some-first_with_all.ensures)
+
+pub returns-in-None : goal.returns-in-None
+returns-in-None c =
+    let here = c.args.clause.now in
+    none_leads here (ap (λ es. kept here es) (sym c.as_slice.ensures) ∙ c.in_default.ensures)
+    (ap (λ es. kept here es) (sym c.as_slice-2.ensures) ∙ c.in-None.ensures)

@@ -1,0 +1,6 @@
+-- Lists of terms for the variables of a clause that is referred to, in the order in which to read
+-- them.
+pub mod Questions
+pub mod Fitting
+pub mod Answering
+pub mod Examples
