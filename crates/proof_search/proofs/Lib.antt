@@ -1,0 +1,28 @@
+-- Going through lists for the first item with a result, and steps that are taken.
+mod Tests
+mod Walking
+mod TakenSteps
+-- Rules by their functions, and goals that are lemmas.
+mod RuleTable
+mod RuleNumbers
+mod LemmaGoals
+-- The entries of the list.
+mod OtherRules
+mod ListedNodes
+mod LemmaClauses
+mod FittingSteps
+mod RewritingSteps
+mod CoverSteps
+mod ListedEntries
+-- Blocks that are built: their nodes, and how they go on.
+mod BuiltNodes
+mod Climbing
+mod AddedNodes
+mod Along
+mod BuiltBlocks
+mod Starts
+-- Which of them are proofs.
+mod StepsInRange
+mod StartProofs
+mod FewStarts
+mod FirstProofs

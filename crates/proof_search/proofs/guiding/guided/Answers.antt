@@ -1,0 +1,80 @@
+use Rattle.std.proofs.Common.{◌<◌, ◌≤◌, length, ap, ◌∙◌, subst, arith}
+use Rattle.clause_core.specs.declared.clauses.Clause.{Clause}
+use Rattle.clause_core.specs.Limits.{IsWithin}
+use Rattle.clause_core.specs.Tidied.{goal_clause}
+use Rattle.routine_proof.specs.Routine.{no_split, split}
+use Rattle.proof_search.proofs.FewStarts.{few_starts}
+use Rattle.proof_search.proofs.FirstProofs.{by_setting, first_start, splits_left, found_split, later_left, ends}
+use Rattle.proof_search.proofs.guiding.guided.Goals as goal
+
+pub returns-in-Some : goal.returns-in-Some
+returns-in-Some g c =
+    first_start (g.O.TermOrder.above c.args.order.now) c.args.spec.now c.args.lemmas.now
+    c.args.goal.now c.args.nodes c.in_ok-found.found c.in-Some.block c.in-Some.is
+    (by_setting (g.O.TermOrder.above c.args.order.now)
+    c.in_ok-setting.setting.spec.now c.args.spec.now
+    c.in_ok-setting.setting.lemmas.now c.args.lemmas.now
+    c.in_ok-setting.ensures.1 c.in_ok-setting.ensures.2 c.args.goal.now c.args.nodes no_split
+    c.in_ok-found.found c.in_ok-found.ensures)
+
+pub overflow_cast-number-end : goal.overflow_cast-number-end
+overflow_cast-number-end g c =
+    let within =
+    subst IsWithin c.in_ok-clause.ensures (c.within.ensures.0 c.if-not-within.false) in
+    let few = few_starts c.tidying_laws.ensures c.args.goal.now within in
+    let count = c.len-number-end.ensures
+    ∙ ap (λ (x : Clause). length x.ctx) c.in_ok-clause.ensures in
+    omega (arith, few, count)
+
+pub loop-number-init : goal.loop-number-init
+loop-number-init g c =
+    splits_left (g.O.TermOrder.above c.args.order.now) c.args.spec.now c.args.lemmas.now
+    c.args.goal.now c.args.nodes
+    c.in_ok-found.found c.in_default.is
+    (by_setting (g.O.TermOrder.above c.args.order.now)
+    c.in_ok-setting.setting.spec.now c.args.spec.now
+    c.in_ok-setting.setting.lemmas.now c.args.lemmas.now
+    c.in_ok-setting.ensures.1 c.in_ok-setting.ensures.2 c.args.goal.now c.args.nodes
+    no_split c.in_ok-found.found c.in_ok-found.ensures)
+
+pub returns-in-Some-found : goal.returns-in-Some-found
+returns-in-Some-found g c =
+    let count = c.len-number-end.ensures
+    ∙ ap (λ (x : Clause). length x.ctx) c.in_ok-clause.ensures in
+    let lt : c.loop-number.number < length (goal_clause c.args.goal.now).ctx =
+    omega (arith, c.loop-number-test.true, count) in
+    found_split (g.O.TermOrder.above c.args.order.now) c.args.spec.now c.args.lemmas.now
+    c.args.goal.now c.args.nodes
+    c.loop-number.number c.loop-number.invariant lt
+    c.in_ok-found-2.found c.in-Some-found.block c.in-Some-found.is
+    (by_setting (g.O.TermOrder.above c.args.order.now)
+    c.in_ok-setting.setting.spec.now c.args.spec.now
+    c.in_ok-setting.setting.lemmas.now c.args.lemmas.now
+    c.in_ok-setting.ensures.1 c.in_ok-setting.ensures.2 c.args.goal.now c.args.nodes
+    (split c.loop-number.number) c.in_ok-found-2.found c.in_ok-found-2.ensures)
+
+pub loop-number-preserved : goal.loop-number-preserved
+loop-number-preserved g c =
+    let count = c.len-number-end.ensures
+    ∙ ap (λ (x : Clause). length x.ctx) c.in_ok-clause.ensures in
+    let lt : c.loop-number.number < length (goal_clause c.args.goal.now).ctx =
+    omega (arith, c.loop-number-test.true, count) in
+    later_left (g.O.TermOrder.above c.args.order.now) c.args.spec.now c.args.lemmas.now
+    c.args.goal.now c.args.nodes
+    c.loop-number.number c.loop-number.invariant lt
+    c.in_ok-found-2.found c.in_default-found.is
+    (by_setting (g.O.TermOrder.above c.args.order.now)
+    c.in_ok-setting.setting.spec.now c.args.spec.now
+    c.in_ok-setting.setting.lemmas.now c.args.lemmas.now
+    c.in_ok-setting.ensures.1 c.in_ok-setting.ensures.2 c.args.goal.now c.args.nodes
+    (split c.loop-number.number) c.in_ok-found-2.found c.in_ok-found-2.ensures)
+
+pub returns : goal.returns
+returns g c =
+    let count = c.len-number-end.ensures
+    ∙ ap (λ (x : Clause). length x.ctx) c.in_ok-clause.ensures in
+    let le : length (goal_clause c.args.goal.now).ctx ≤ c.loop-number.number =
+    omega (arith, c.loop-number-test.false, count) in
+    ends (g.O.TermOrder.above c.args.order.now) c.args.spec.now c.args.lemmas.now
+    c.args.goal.now c.args.nodes
+    c.loop-number.number c.loop-number.invariant le

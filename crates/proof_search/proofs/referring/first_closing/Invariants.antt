@@ -1,0 +1,10 @@
+use Rattle.proof_search.specs.Referring.{target_of, closing_pair}
+use Rattle.routine_proof.specs.Candidates.{Gives}
+use Rattle.proof_search.specs.Taking.{SaysAt}
+use Rattle.proof_search.proofs.Walking.{Passed}
+use Rattle.proof_search.proofs.referring.first_closing.Given as goal
+
+abbrev pub invariant-loop-equation : goal.invariant-loop-equation
+invariant-loop-equation g l =
+    Passed (Gives (SaysAt (g.O.TermOrder.above l.order) l.at)) l.equation-items
+    (closing_pair (target_of l.referral) l.clause l.by.equation.now) l.equation-index

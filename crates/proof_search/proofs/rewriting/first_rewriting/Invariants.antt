@@ -1,0 +1,11 @@
+use Rattle.clause_places.specs.Spots.{spots}
+use Rattle.proof_search.specs.Referring.{target_of, rewritings_at}
+use Rattle.routine_proof.specs.Candidates.{Gives}
+use Rattle.proof_search.specs.Taking.{SaysAt}
+use Rattle.proof_search.proofs.Walking.{Passed}
+use Rattle.proof_search.proofs.rewriting.first_rewriting.Given as goal
+
+abbrev pub invariant-loop-place : goal.invariant-loop-place
+invariant-loop-place g l =
+    Passed (Gives (SaysAt (g.O.TermOrder.above l.order) l.at)) (spots l.at.here.now)
+    (rewritings_at (target_of l.referral) l.clause) l.place-index

@@ -1,0 +1,55 @@
+use Rattle.std.proofs.Common.{◌≡◌, ℕ, true, false, get_or, ap, ◌∙◌, subst}
+use Rattle.std.specs.Prelude.{is_some}
+use Rattle.routine_proof.specs.Candidates.{Gives}
+use Rattle.proof_search.specs.Taking.{SaysAt}
+use Rattle.proof_search.proofs.Walking.{found_at, passed_at, none_found}
+use Rattle.std.proofs.lemmas.Option.{slice_get-get_or}
+use Rattle.clause_core.specs.declared.steps.Place.{Place}
+use Rattle.clause_core.specs.declared.steps.Step.{Step}
+use Rattle.routine_proof.specs.Candidates.{certain, nothing}
+use Rattle.proof_search.specs.Ruling.{ruling_step}
+use Rattle.proof_search.specs.Taking.{IsTaken}
+use Rattle.proof_search.proofs.TakenSteps.{certain_found}
+use Rattle.proof_search.proofs.ruling.ruling_by.Goals as goal
+
+pub returns-then-is_some : goal.returns-then-is_some
+returns-then-is_some g c =
+    let says = SaysAt (g.O.TermOrder.above c.args.order.now) c.args.at.now in
+    let k = c.loop-number.number-index in
+    let found = c.in_ok-found.found in
+    let n = get_or c.args.numbers.now k 0 in
+    let step : c.step-step.result ≡ ruling_step c.args.entry c.args.place.now n =
+    c.step-step.ensures ∙ ap (λ (p : Place). ruling_step c.args.entry p n)
+    c.in_ok-copy_place.ensures in
+    let there : is_some found ≡ true = cc (c.is_some.ensures, c.if-is_some.true) in
+    found_at (Gives says) c.args.numbers.now (λ (n : ℕ). certain
+    (ruling_step c.args.entry c.args.place.now n)) k n found
+    (slice_get-get_or c.args.numbers.now k 0 c.loop-number-test.true)
+    c.loop-number.invariant there (certain_found says
+    (ruling_step c.args.entry c.args.place.now n) found
+    (subst (λ (s : Step). IsTaken says s nothing found) step c.in_ok-found.ensures))
+
+pub loop-number-preserved : goal.loop-number-preserved
+loop-number-preserved g c =
+    let says = SaysAt (g.O.TermOrder.above c.args.order.now) c.args.at.now in
+    let k = c.loop-number.number-index in
+    let found = c.in_ok-found.found in
+    let n = get_or c.args.numbers.now k 0 in
+    let step : c.step-step.result ≡ ruling_step c.args.entry c.args.place.now n =
+    c.step-step.ensures ∙ ap (λ (p : Place). ruling_step c.args.entry p n)
+    c.in_ok-copy_place.ensures in
+    let there : is_some found ≡ false = cc (c.is_some.ensures, c.if-is_some.false) in
+    passed_at (Gives says) c.args.numbers.now
+    (λ (n : ℕ). certain (ruling_step c.args.entry c.args.place.now n)) k n found
+    (slice_get-get_or c.args.numbers.now k 0 c.loop-number-test.true)
+    c.loop-number.invariant there (certain_found says
+    (ruling_step c.args.entry c.args.place.now n) found
+    (subst (λ (s : Step). IsTaken says s nothing found) step c.in_ok-found.ensures))
+
+pub returns : goal.returns
+returns g c =
+    let says = SaysAt (g.O.TermOrder.above c.args.order.now) c.args.at.now in
+    let k = c.loop-number.number-index in
+    none_found (Gives says) c.args.numbers.now
+    (λ (n : ℕ). certain (ruling_step c.args.entry c.args.place.now n)) k
+    c.loop-number-test.false c.loop-number.invariant

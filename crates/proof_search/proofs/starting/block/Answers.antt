@@ -1,0 +1,101 @@
+use Rattle.std.proofs.Common.{◌<◌, ◌≤◌, [], ◌∷◌, length, length-append, ap, ◌∙◌, subst, arith}
+use Rattle.std.specs.Prelude.{None}
+use Rattle.proof_search.specs.Starting.{start_of, IsNext}
+use Rattle.routine_proof.proofs.OneProofs.{chosen_one}
+use Rattle.proof_search.proofs.BuiltBlocks.{part_begins, part_long, part_stops, part_takes, part_ends}
+use Rattle.proof_search.proofs.starting.block.Goals as goal
+
+pub loop-alloc-init : goal.loop-alloc-init
+loop-alloc-init g c =
+    part_begins (g.O.TermOrder.above c.args.order.now) c.args.setting.now.spec.now
+    c.args.setting.now.lemmas.now (start_of c.args.start) c.args.clause c.args.most
+    c.in_ok-building.building c.requires.node c.in_ok-building.ensures
+
+pub returns-then-len-most : goal.returns-then-len-most
+returns-then-len-most g c =
+    let more : c.args.most < length c.loop-alloc.building.nodes.items =
+    omega (
+      arith,
+      c.if-len-most.true,
+      c.len-in-loop-alloc-2.ensures,
+      c.loop-alloc.building.nodes.ok.0,
+    ) in
+    part_long (g.O.TermOrder.above c.args.order.now) c.args.setting.now.spec.now
+    c.args.setting.now.lemmas.now (start_of c.args.start) c.args.clause c.args.most
+    c.loop-alloc.building c.loop-alloc.invariant more
+
+pub returns-in-None : goal.returns-in-None
+returns-in-None g c =
+    let lt : length c.loop-alloc.building.steps.items < length c.loop-alloc.building.nodes.items =
+    omega (
+      arith,
+      c.loop-alloc-test.true,
+      c.len.ensures,
+      c.len-in-loop-alloc.ensures,
+      c.loop-alloc.building.steps.ok.0,
+      c.loop-alloc.building.nodes.ok.0,
+    ) in
+    let next : IsNext (g.O.TermOrder.above c.args.order.now) c.args.setting.now.spec.now
+    c.args.setting.now.lemmas.now (start_of c.args.start) c.loop-alloc.building None =
+    subst
+    (λ o. IsNext (g.O.TermOrder.above c.args.order.now) c.args.setting.now.spec.now
+    c.args.setting.now.lemmas.now (start_of c.args.start) c.loop-alloc.building o)
+    c.in-None.is c.in_ok-next_move.ensures in
+    part_stops (g.O.TermOrder.above c.args.order.now) c.args.setting.now.spec.now
+    c.args.setting.now.lemmas.now (start_of c.args.start) c.args.clause c.args.most
+    c.loop-alloc.building c.loop-alloc.invariant lt next
+
+pub loop-alloc-preserved : goal.loop-alloc-preserved
+loop-alloc-preserved g c =
+    let lt : length c.loop-alloc.building.steps.items < length c.loop-alloc.building.nodes.items =
+    omega (
+      arith,
+      c.loop-alloc-test.true,
+      c.len.ensures,
+      c.len-in-loop-alloc.ensures,
+      c.loop-alloc.building.steps.ok.0,
+      c.loop-alloc.building.nodes.ok.0,
+    ) in
+    let le : length c.loop-alloc.building.nodes.items ≤ c.args.most =
+    omega (
+      arith,
+      c.if-len-most.false,
+      c.len-in-loop-alloc-2.ensures,
+      c.loop-alloc.building.nodes.ok.0,
+    ) in
+    let next =
+    subst
+    (λ o. IsNext (g.O.TermOrder.above c.args.order.now) c.args.setting.now.spec.now
+    c.args.setting.now.lemmas.now (start_of c.args.start) c.loop-alloc.building o)
+    c.in-Some.is c.in_ok-next_move.ensures in
+    part_takes (g.O.TermOrder.above c.args.order.now) c.args.setting.now.spec.now
+    c.args.setting.now.lemmas.now (start_of c.args.start) c.args.clause c.args.most
+    c.loop-alloc.building c.loop-alloc.invariant lt
+    c.children_are_sorted.ensures c.requires.setting.fine
+    (chosen_one (g.O.TermOrder.above c.args.order.now) c.one_answer.ensures
+    c.args.setting.now.spec.now c.requires.setting.fine c.args.setting.now.lemmas.now
+    (start_of c.args.start))
+    le c.take.new.self c.in-Some.next next c.in_ok-take-in-Some.ensures
+
+pub loop-alloc-smaller : goal.loop-alloc-smaller
+loop-alloc-smaller g c =
+    let few = (loop-alloc-preserved g c).few in
+    let steps =
+    ap length c.in_ok-take-in-Some.ensures.steps
+    ∙ length-append c.loop-alloc.building.steps.items (c.in-Some.next.step ∷ []) in
+    omega (arith, few, steps)
+
+pub returns : goal.returns
+returns g c =
+    let le : length c.loop-alloc.building.nodes.items ≤ length c.loop-alloc.building.steps.items =
+    omega (
+      arith,
+      c.loop-alloc-test.false,
+      c.len.ensures,
+      c.len-in-loop-alloc.ensures,
+      c.loop-alloc.building.steps.ok.0,
+      c.loop-alloc.building.nodes.ok.0,
+    ) in
+    part_ends (g.O.TermOrder.above c.args.order.now) c.args.setting.now.spec.now
+    c.args.setting.now.lemmas.now (start_of c.args.start) c.args.clause c.args.most
+    c.loop-alloc.building c.loop-alloc.invariant le

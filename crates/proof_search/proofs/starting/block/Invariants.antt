@@ -1,0 +1,12 @@
+use Rattle.std.proofs.Common.{◌-◌, length}
+use Rattle.proof_search.specs.Starting.{start_of}
+use Rattle.proof_search.proofs.BuiltBlocks.{IsPart}
+use Rattle.proof_search.proofs.starting.block.Given as goal
+
+abbrev pub invariant-loop-alloc : goal.invariant-loop-alloc
+invariant-loop-alloc g l =
+    IsPart (g.O.TermOrder.above l.order) l.setting.spec.now l.setting.lemmas.now (start_of l.start)
+    l.fn.clause l.most l.building
+
+abbrev pub decreases-loop-alloc : goal.decreases-loop-alloc
+decreases-loop-alloc g l = l.most - length l.building.steps.items

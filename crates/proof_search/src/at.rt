@@ -1,0 +1,152 @@
+ghost use Rattle.std.specs.Prelude.{◌≡◌, ◌↔◌, ◌<◌, IsTrue, IfOk, length};
+ghost use Rattle.std.specs.List.{AllByRecursion};
+ghost use Rattle.clause_core.specs.declared.answers.Child.{Child as ChildOf};
+ghost use Rattle.clause_core.specs.declared.answers.Reference.{Reference as ReferenceOf};
+ghost use Rattle.clause_core.specs.declared.clauses.Relation.TheVariants.{Less};
+ghost use Rattle.inference_rules.specs.Answers.{clauses_of};
+ghost use Rattle.inference_rules.specs.Nodes.{AreNodes};
+ghost use Rattle.routine_proof.specs.Candidates.{Meets};
+ghost use Rattle.proof_search.specs.Settings.{IsSetting};
+ghost use Rattle.proof_search.specs.Taking.{IsAt, IsTaken, SaysAt, asks_of, IsNotNeither};
+
+use crate::setting::Setting;
+use clause_core::{Child, Children, Clause, Place, Reference, Relation, Step, one_answer};
+use clause_places::{places, places_are_there};
+use inference_rules::{Node, StepError, children};
+use path_order::TermOrder;
+use routine_proof::Move;
+use std::alloc::Global;
+use term_core::OutOfMemory;
+
+/// A node whose step is sought: its number and its clause, with the places there, over the nodes so
+/// far, and its ancestors from which some step isn't a cover.
+#[derive(Drop)]
+pub(crate) struct At<'a> {
+    pub(crate) setting: &'a Setting<'a>,
+    pub(crate) nodes: &'a [Node],
+    pub(crate) ancestors: &'a [u32],
+    pub(crate) number: u32,
+    pub(crate) here: &'a Clause,
+    pub(crate) places: Vec<Place>,
+}
+
+impl<'a> At<'a> {
+    /// The node of this number. Its places are listed once, for all entries.
+    pub(crate) fn new(
+        alloc: Global,
+        setting: &'a Setting<'a>,
+        nodes: &'a [Node],
+        ancestors: &'a [u32],
+        number: u32,
+    ) -> Result<At<'a>, OutOfMemory>
+        requires setting { IsSetting setting.now }
+        requires in_range { number < length nodes.now }
+        requires nodes { AreNodes setting.now.spec.now.sig (clauses_of nodes.now) }
+        ensures is { IfOk result IsAt }
+        ensures same { IfOk result (λ at. (at.setting.now ≡ setting.now)
+            × (at.nodes.now ≡ nodes.now) × (at.ancestors.now ≡ ancestors.now)
+            × (at.number ≡ number)) }
+    {
+        places_are_there();
+        let here = &nodes[number as usize].clause;
+        let places = places(alloc, here)?;
+        Ok(At {
+            setting,
+            nodes,
+            ancestors,
+            number,
+            here,
+            places,
+        })
+    }
+}
+
+/// What is asked of the relations that a step makes, beyond the table of steps.
+#[derive(Clone, Copy)]
+pub(crate) enum Asked {
+    Nothing,
+    ReferenceNotNeither,
+    AllLess,
+}
+
+impl Asked {
+    fn is_met(self, made: &Children) -> bool
+        ensures { IsTrue result ↔ Meets (asks_of self) made.now }
+    {
+        match self {
+            Asked::Nothing => true,
+            Asked::ReferenceNotNeither => are_not_neither(made.refs.as_slice()),
+            Asked::AllLess => {
+                children_are_less(made.clauses.as_slice()) && are_less(made.refs.as_slice())
+            }
+        }
+    }
+}
+
+fn children_are_less(children: &[Child]) -> bool
+    ensures { IsTrue result ↔ AllByRecursion (λ (d : ChildOf). d.relation ≡ Less) children.now }
+{
+    for child in children {
+        if child.relation != Relation::Less {
+            return false;
+        }
+    }
+    true
+}
+
+fn are_less(refs: &[Reference]) -> bool
+    ensures { IsTrue result ↔ AllByRecursion (λ (r : ReferenceOf). r.relation ≡ Less) refs.now }
+{
+    for reference in refs {
+        if reference.relation != Relation::Less {
+            return false;
+        }
+    }
+    true
+}
+
+fn are_not_neither(refs: &[Reference]) -> bool
+    ensures { IsTrue result ↔ AllByRecursion IsNotNeither refs.now }
+{
+    for reference in refs {
+        if reference.relation == Relation::Neither {
+            return false;
+        }
+    }
+    true
+}
+
+/// The step with what it makes at the node, where the table defines it and its relations are those
+/// that are asked for.
+pub(crate) fn taken<O: TermOrder>(
+    alloc: Global,
+    order: &O,
+    at: &At,
+    step: Step,
+    asks: Asked,
+) -> Result<Option<Move>, OutOfMemory>
+    requires { IsAt at.now }
+    ensures { IfOk result (IsTaken (SaysAt (O.above order.now) at.now) step (asks_of asks)) }
+{
+    one_answer(order);
+    let setting = at.setting;
+    let lemmas = setting.lemmas;
+    match children(
+        alloc,
+        setting.spec,
+        order,
+        lemmas,
+        at.nodes,
+        at.number,
+        &step,
+    ) {
+        Ok(made) => {
+            if asks.is_met(&made) {
+                return Ok(Some(Move { step, made }));
+            }
+            Ok(None)
+        }
+        Err(StepError::Why(_)) => Ok(None),
+        Err(StepError::OutOfMemory) => Err(OutOfMemory),
+    }
+}

@@ -1,0 +1,83 @@
+ghost use Rattle.std.specs.Prelude.{◌≡◌, ◌<◌, ◌^◌, Some, IfOk, OnOk, length, slice_get};
+ghost use Rattle.routine_proof.specs.Ways.{Node as WayNode, ancestors as ancestors_of, is_cover as is_cover_of};
+ghost use Rattle.proof_search.specs.Building.{IsWhole, nodes_in, Begins, Takes};
+
+use block_links::apart;
+use clause_core::{Children, Clause, Step};
+use inference_rules::Node;
+use routine_proof::Move;
+use std::alloc::Global;
+use term_core::OutOfMemory;
+
+/// A block that is being built: its nodes so far, of which the first ones have their steps.
+#[derive(Drop)]
+pub(crate) struct Building {
+    pub nodes: Vec<Node>,
+    /// For each node the number of the node whose child it is, and 0 for node 0.
+    pub parents: Vec<u32>,
+    pub steps: Vec<Step>,
+    /// For each step what it makes, without the clauses of children, which stand in `nodes`.
+    pub links: Vec<Children>,
+}
+
+impl Building {
+    /// The node of the clause alone, without a step.
+    pub fn new(alloc: Global, clause: Clause) -> Result<Building, OutOfMemory>
+        ensures { IfOk result (Begins clause) }
+    {
+        let mut nodes = Vec::new(alloc);
+        nodes.push(Node { clause })?;
+        let mut parents = Vec::new(alloc);
+        parents.push(0)?;
+        Ok(Building {
+            nodes,
+            parents,
+            steps: Vec::new(alloc),
+            links: Vec::new(alloc),
+        })
+    }
+
+    /// Gives the next node its step. The children that it makes stand behind the other nodes.
+    pub fn take(&mut self, alloc: Global, taken: Move) -> Result<(), OutOfMemory>
+        requires { length self.old.steps.items < 2 ^ 32 }
+        ensures { OnOk result (Takes self.old self.new taken) }
+    {
+        let Move { step, made } = taken;
+        let (clauses, links) = apart(alloc, made)?;
+        let parent = self.steps.len() as u32;
+        self.steps.push(step)?;
+        self.links.push(links)?;
+        for clause in clauses {
+            self.nodes.push(Node { clause })?;
+            self.parents.push(parent)?;
+        }
+        Ok(())
+    }
+
+    /// The ancestors of a node from which some step on the way to it isn't a cover, from node 0 on.
+    pub fn ancestors(&self, alloc: Global, node: u32) -> Result<Vec<u32>, OutOfMemory>
+        requires whole { IsWhole self.now }
+        requires in_range { node < length self.now.nodes.items }
+        ensures { IfOk result (λ found. (here : WayNode) →
+            slice_get (nodes_in self.now) node ≡ Some here → found.items ≡ ancestors_of here.way) }
+    {
+        let parents = self.parents.as_slice();
+        let steps = self.steps.as_slice();
+        let mut found = Vec::new(alloc);
+        let mut here = node;
+        while here > 0 {
+            here = parents[here as usize];
+            if !found.is_empty() || !is_cover(&steps[here as usize]) {
+                found.push(here)?;
+            }
+        }
+        found.reverse();
+        Ok(found)
+    }
+}
+
+fn is_cover(step: &Step) -> bool
+    ensures { result ≡ is_cover_of step.now }
+{
+    matches!(step, Step::Cover(..))
+}

@@ -1,0 +1,29 @@
+//! Routine proofs, found: for each start of a goal the one block that can be routine, and of these
+//! the first that is a proof.
+//!
+//! It stands on routine_proof, which says what routine blocks and proofs are, on inference_rules,
+//! whose `children` takes steps, on acceptance, which says when steps prove a clause, and on
+//! proof_script for the length of a claim's text. The layers above use [`guided`]: it answers the
+//! first routine proof of a goal over some lemmas, or that there is none.
+//!
+//! `choosing` finds the step that a node takes: it goes through the entries of the list in their
+//! order, of which each kind has a file. What cannot fit is passed over before the table of steps is
+//! asked: rules of another function, and clauses whose symbols differ.
+#![tactic(auto)]
+
+mod answers;
+mod at;
+mod building;
+mod choosing;
+mod covering;
+mod guiding;
+mod numbered;
+mod proving;
+mod referring;
+mod rewriting;
+mod ruling;
+mod setting;
+mod starting;
+
+pub use answers::Guided;
+pub use guiding::guided;

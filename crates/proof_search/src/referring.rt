@@ -1,0 +1,215 @@
+ghost use Rattle.std.specs.Prelude.{◌≡◌, [], ◌∷◌, IfOk, length};
+ghost use Rattle.clause_core.specs.Clauses.{ClauseIsSorted};
+ghost use Rattle.fitting_lists.specs.Answering.{AreVariables};
+ghost use Rattle.fitting_lists.specs.Fitting.{both_sides};
+ghost use Rattle.routine_proof.specs.Candidates.{each};
+ghost use Rattle.proof_search.specs.Chosen.{subsumptions_by, lemma_instances_by};
+ghost use Rattle.proof_search.specs.Taking.{IsAt, IsFound, asks_of};
+ghost use Rattle.proof_search.specs.Referring.{target_of, closing_step, closing_asks, rewriting_step, closings, closing, closing_pair};
+
+use crate::at::{Asked, At, taken};
+use crate::ruling::copy_place;
+use clause_core::{Clause, Place, Step, tidying_laws};
+use fitting_lists::{fitting_terms, leading};
+use path_order::TermOrder;
+use routine_proof::Move;
+use spec_core::Equation;
+use std::alloc::Global;
+use term_core::{Name, OutOfMemory, Seq, Term};
+
+/// Which clause a step refers to: that of the node of this number, or that of the goal of this
+/// name.
+#[derive(Drop)]
+pub(crate) enum Referral<'a> {
+    Node(u32),
+    Goal(&'a Name),
+}
+
+impl<'a> Referral<'a> {
+    /// The step that closes a node by the instance with these terms.
+    fn closing_step(&self, alloc: Global, terms: Seq<Term>) -> Result<Step, OutOfMemory>
+        ensures { IfOk result (λ made. made ≡ closing_step (target_of self.now) terms) }
+    {
+        match self {
+            Referral::Node(number) => Ok(Step::Subsume(*number, terms)),
+            Referral::Goal(name) => Ok(Step::ByLemma(name.copy(alloc)?, terms)),
+        }
+    }
+
+    fn closing_asks(&self) -> Asked
+        ensures { asks_of result ≡ closing_asks (target_of self.now) }
+    {
+        match self {
+            Referral::Node(_) => Asked::ReferenceNotNeither,
+            Referral::Goal(_) => Asked::Nothing,
+        }
+    }
+
+    /// The step that rewrites the term at the place by the instance with these terms, from left to
+    /// right where `left` is true.
+    pub(crate) fn rewriting_step(
+        &self,
+        alloc: Global,
+        terms: Seq<Term>,
+        place: &Place,
+        left: bool,
+    ) -> Result<Step, OutOfMemory>
+        ensures { IfOk result (λ made.
+            made ≡ rewriting_step (target_of self.now) place.now terms left) }
+    {
+        let at = copy_place(alloc, place)?;
+        match self {
+            Referral::Node(number) => Ok(Step::Hyp(*number, terms, at, left)),
+            Referral::Goal(name) => Ok(Step::Lemma(name.copy(alloc)?, terms, at, left)),
+        }
+    }
+}
+
+/// A clause that is referred to, with its leading equation.
+#[derive(Drop)]
+struct Closing<'a> {
+    referral: &'a Referral<'a>,
+    clause: &'a Clause,
+    equation: &'a Equation,
+}
+
+/// The first step by an ancestor that closes the node.
+pub(crate) fn first_subsumption<O: TermOrder>(
+    alloc: Global,
+    order: &O,
+    at: &At,
+) -> Result<Option<Move>, OutOfMemory>
+    requires { IsAt at.now }
+    ensures { IfOk result (IsFound (O.above order.now) at.now
+        (each at.now.ancestors.now (subsumptions_by at.now))) }
+{
+    for number in at.ancestors {
+        let found = subsumption_by(alloc, order, at, *number)?;
+        if found.is_some() {
+            return Ok(found);
+        }
+    }
+    Ok(None)
+}
+
+/// The first step by the node of this number that closes the node.
+fn subsumption_by<O: TermOrder>(
+    alloc: Global,
+    order: &O,
+    at: &At,
+    number: u32,
+) -> Result<Option<Move>, OutOfMemory>
+    requires { IsAt at.now }
+    ensures { IfOk result (IsFound (O.above order.now) at.now (subsumptions_by at.now number)) }
+{
+    match at.nodes.get(number as usize) {
+        None => Ok(None),
+        Some(node) => {
+            let referral = Referral::Node(number);
+            first_closing(alloc, order, at, &referral, &node.clause)
+        }
+    }
+}
+
+/// The first step by a lemma that closes the node.
+pub(crate) fn first_lemma_instance<O: TermOrder>(
+    alloc: Global,
+    order: &O,
+    at: &At,
+) -> Result<Option<Move>, OutOfMemory>
+    requires { IsAt at.now }
+    ensures { IfOk result (IsFound (O.above order.now) at.now
+        (each at.now.setting.now.goals.items (lemma_instances_by at.now))) }
+{
+    tidying_laws();
+    let setting = at.setting;
+    for goal in &setting.goals {
+        let referral = Referral::Goal(&goal.name);
+        let found = first_closing(alloc, order, at, &referral, &goal.clause)?;
+        if found.is_some() {
+            return Ok(found);
+        }
+    }
+    Ok(None)
+}
+
+/// The first step by an instance of the clause that closes the node: one by which its leading
+/// equation becomes an equation of the same kind.
+fn first_closing<'a, O: TermOrder>(
+    alloc: Global,
+    order: &O,
+    at: &At,
+    referral: &'a Referral<'a>,
+    clause: &'a Clause,
+) -> Result<Option<Move>, OutOfMemory>
+    requires at { IsAt at.now }
+    requires sorted { ClauseIsSorted at.now.setting.now.spec.now.sig clause.now }
+    ensures { IfOk result (IsFound (O.above order.now) at.now
+        (closings at.now.here.now (target_of referral.now) clause.now)) }
+{
+    let Some(first) = leading(clause) else {
+        return Ok(None);
+    };
+    let by = Closing {
+        referral,
+        clause,
+        equation: first.equation,
+    };
+    for equation in at.here.equations(first.conclusion) {
+        let found = closing_either_way(alloc, order, at, &by, equation)?;
+        if found.is_some() {
+            return Ok(found);
+        }
+    }
+    Ok(None)
+}
+
+/// The step by which the leading equation becomes this one, as written or else with its sides
+/// swapped.
+fn closing_either_way<O: TermOrder>(
+    alloc: Global,
+    order: &O,
+    at: &At,
+    by: &Closing,
+    equation: &Equation,
+) -> Result<Option<Move>, OutOfMemory>
+    requires at { IsAt at.now }
+    requires variables { let clause = by.now.clause.now in
+        AreVariables (length clause.ctx) (both_sides by.now.equation.now) }
+    ensures { let clause = by.now.clause.now in
+        let target = target_of by.now.referral.now in
+        let e = by.now.equation.now in
+        IfOk result (IsFound (O.above order.now) at.now
+        (closing_pair target clause e equation.now)) }
+{
+    let found = closing_by(alloc, order, at, by, &equation.left, &equation.right)?;
+    if found.is_some() {
+        return Ok(found);
+    }
+    closing_by(alloc, order, at, by, &equation.right, &equation.left)
+}
+
+/// The step by which the sides of the leading equation become these.
+fn closing_by<O: TermOrder>(
+    alloc: Global,
+    order: &O,
+    at: &At,
+    by: &Closing,
+    left: &Term,
+    right: &Term,
+) -> Result<Option<Move>, OutOfMemory>
+    requires at { IsAt at.now }
+    requires variables { let clause = by.now.clause.now in
+        AreVariables (length clause.ctx) (both_sides by.now.equation.now) }
+    ensures { let clause = by.now.clause.now in
+        let target = target_of by.now.referral.now in
+        IfOk result (IsFound (O.above order.now) at.now
+        (closing target clause by.now.equation.now left.now right.now ∷ [])) }
+{
+    let count = by.clause.ctx.len();
+    let Some(terms) = fitting_terms(alloc, count, by.equation, left, right)? else {
+        return Ok(None);
+    };
+    let step = by.referral.closing_step(alloc, terms)?;
+    taken(alloc, order, at, step, by.referral.closing_asks())
+}

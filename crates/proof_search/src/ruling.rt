@@ -1,0 +1,107 @@
+ghost use Rattle.std.specs.Prelude.{◌≡◌, IfOk};
+ghost use Rattle.routine_proof.specs.Entries.{rules};
+ghost use Rattle.proof_search.specs.Taking.{IsAt, IsFound};
+ghost use Rattle.proof_search.specs.Ruling.{ruling_step, rulings_by, rulings};
+
+use crate::at::{Asked, At, taken};
+use clause_core::{Place, Step};
+use path_order::TermOrder;
+use routine_proof::Move;
+use std::alloc::Global;
+use term_core::{Node, OutOfMemory, Seq};
+
+/// The entries of the list that rewrite the term at a place by rules.
+#[derive(Clone, Copy)]
+pub(crate) enum ByRule {
+    Rule,
+    Case,
+}
+
+impl ByRule {
+    fn step(self, place: Place, number: u32) -> Step
+        ensures { result ≡ ruling_step self place number }
+    {
+        match self {
+            ByRule::Rule => Step::Rule(place, number),
+            ByRule::Case => Step::Case(place, number),
+        }
+    }
+}
+
+/// The first of the entry's steps that is defined.
+pub(crate) fn first_ruling<O: TermOrder>(
+    alloc: Global,
+    order: &O,
+    at: &At,
+    entry: ByRule,
+) -> Result<Option<Move>, OutOfMemory>
+    requires { IsAt at.now }
+    ensures { IfOk result (IsFound (O.above order.now) at.now
+        (rulings entry at.now.setting.now.spec.now at.now.here.now)) }
+{
+    for place in &at.places {
+        let found = ruling_at(alloc, order, at, entry, place)?;
+        if found.is_some() {
+            return Ok(found);
+        }
+    }
+    Ok(None)
+}
+
+/// The first of them at the place. Only rules of the symbol there are tried, since no other rule
+/// fits.
+fn ruling_at<O: TermOrder>(
+    alloc: Global,
+    order: &O,
+    at: &At,
+    entry: ByRule,
+    place: &Place,
+) -> Result<Option<Move>, OutOfMemory>
+    requires { IsAt at.now }
+    ensures { IfOk result (IsFound (O.above order.now) at.now
+        (rulings_by entry place.now (rules at.now.setting.now.spec.now))) }
+{
+    let Some(term) = at.here.term_at(place) else {
+        return Ok(None);
+    };
+    let Node::App(sym, _) = &term.node else {
+        return Ok(None);
+    };
+    let setting = at.setting;
+    ruling_by(alloc, order, at, entry, place, setting.rules_of(*sym))
+}
+
+/// The first of them at the place by a rule of these numbers.
+fn ruling_by<O: TermOrder>(
+    alloc: Global,
+    order: &O,
+    at: &At,
+    entry: ByRule,
+    place: &Place,
+    numbers: &[u32],
+) -> Result<Option<Move>, OutOfMemory>
+    requires { IsAt at.now }
+    ensures { IfOk result (IsFound (O.above order.now) at.now
+        (rulings_by entry place.now numbers.now)) }
+{
+    for number in numbers {
+        let step = entry.step(copy_place(alloc, place)?, *number);
+        let found = taken(alloc, order, at, step, Asked::Nothing)?;
+        if found.is_some() {
+            return Ok(found);
+        }
+    }
+    Ok(None)
+}
+
+/// A copy of the place.
+pub(crate) fn copy_place(alloc: Global, place: &Place) -> Result<Place, OutOfMemory>
+    ensures { IfOk result (λ made. made ≡ place.now) }
+{
+    Ok(Place {
+        conclusion: place.conclusion,
+        number: place.number,
+        left: place.left,
+        path: Seq::from_vec(place.path.as_slice().to_vec(alloc)?),
+    })
+}

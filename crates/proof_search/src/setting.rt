@@ -1,0 +1,116 @@
+ghost use Rattle.std.specs.Prelude.{◌≡◌, [], IfOk, OnOk, map};
+ghost use Rattle.spec_core.specs.WellSorted.{IsWellSorted};
+ghost use Rattle.routine_proof.specs.Entries.{lemma_goals};
+ghost use Rattle.proof_search.specs.Settings.{IsSetting, IsTable, IsTableOf, AddsNumber, lemma_goal, numbers_of};
+
+use clause_core::{Clause, of_goal};
+use spec_core::Spec;
+use std::alloc::Global;
+use term_core::{Name, Node, OutOfMemory, Seq, SymId};
+
+/// What stays the same while the proof of a goal is looked for: the specification, the numbers of
+/// the lemmas with these goals as clauses, and for each symbol the numbers of its rules.
+#[derive(Drop)]
+pub(crate) struct Setting<'a> {
+    pub(crate) spec: &'a Spec,
+    pub(crate) lemmas: &'a [u32],
+    pub(crate) goals: Vec<LemmaGoal>,
+    pub(crate) rules: Vec<Seq<u32>>,
+}
+
+/// A goal that is a lemma: its name and its tidied clause.
+#[derive(Drop)]
+pub(crate) struct LemmaGoal {
+    pub(crate) name: Name,
+    pub(crate) clause: Clause,
+}
+
+impl<'a> Setting<'a> {
+    pub(crate) fn new(
+        alloc: Global,
+        spec: &'a Spec,
+        lemmas: &'a [u32],
+    ) -> Result<Setting<'a>, OutOfMemory>
+        requires { IsWellSorted spec.now }
+        ensures { IfOk result (λ made. IsSetting made × (made.spec.now ≡ spec.now)
+            × (made.lemmas.now ≡ lemmas.now)) }
+    {
+        let goals = goals_of(alloc, spec, lemmas)?;
+        let rules = rules_by_function(alloc, spec)?;
+        Ok(Setting {
+            spec,
+            lemmas,
+            goals,
+            rules,
+        })
+    }
+
+    /// The numbers of the symbol's rules, which count from 1, in their order.
+    pub(crate) fn rules_of(&self, sym: SymId) -> &[u32]
+        requires { IsSetting self.now }
+        ensures { result.now ≡ numbers_of sym.0 1 self.now.spec.now.rules }
+    {
+        match self.rules.get(sym.0 as usize) {
+            Some(numbers) => numbers.as_slice(),
+            None => &[],
+        }
+    }
+}
+
+/// The goals of these numbers, in the order of the specification.
+fn goals_of(alloc: Global, spec: &Spec, lemmas: &[u32]) -> Result<Vec<LemmaGoal>, OutOfMemory>
+    requires { IsWellSorted spec.now }
+    ensures { IfOk result (λ made. made.items ≡
+        map lemma_goal (lemma_goals spec.now lemmas.now)) }
+{
+    let mut made = Vec::new(alloc);
+    for (number, goal) in spec.goals.as_slice().iter().enumerate() {
+        if !lemmas.contains(&(number as u32)) {
+            continue;
+        }
+        made.push(LemmaGoal {
+            name: goal.name.copy(alloc)?,
+            clause: of_goal(alloc, goal)?,
+        })?;
+    }
+    Ok(made)
+}
+
+/// For each symbol the numbers of its rules, in their order.
+fn rules_by_function(alloc: Global, spec: &Spec) -> Result<Vec<Seq<u32>>, OutOfMemory>
+    requires { IsWellSorted spec.now }
+    ensures { IfOk result (λ table. IsTable spec.now table.items) }
+{
+    let mut table = no_numbers(alloc, spec.sig.symbols())?;
+    for (index, rule) in spec.rules.as_slice().iter().enumerate() {
+        let left = &rule.left;
+        match &left.node {
+            Node::Var(_) => continue,
+            Node::App(sym, _) => add_number(&mut table, *sym, index as u32 + 1)?,
+        }
+    }
+    Ok(table)
+}
+
+/// No numbers for each symbol.
+fn no_numbers(alloc: Global, symbols: u32) -> Result<Vec<Seq<u32>>, OutOfMemory>
+    ensures { IfOk result (λ table. IsTableOf symbols [] table.items) }
+{
+    let mut table = Vec::with_capacity(alloc, symbols as usize)?;
+    for _ in 0..symbols {
+        table.push(Seq::new(alloc))?;
+    }
+    Ok(table)
+}
+
+/// Adds the number to the symbol's entry, if the symbol has one.
+fn add_number(table: &mut Vec<Seq<u32>>, sym: SymId, number: u32) -> Result<(), OutOfMemory>
+    ensures { OnOk result (AddsNumber table.old.items table.new.items sym.0 number) }
+{
+    let function = sym.0 as usize;
+    if function < table.len() {
+        let numbers = &mut table[function];
+        numbers.push(number)?;
+    }
+    Ok(())
+}
