@@ -1,5 +1,5 @@
 -- The claims that a specification's goals get by searches for counterexamples.
-use Rattle.std.specs.Prelude.{◌≡◌, ℕ, List, [], ◌∷◌, Bool}
+use Rattle.std.specs.Prelude.{◌≡◌, ℕ, List, [], ◌∷◌, ◌++◌, Bool}
 use Rattle.std.specs.List.{zip}
 use Rattle.term_core.specs.Tree.{Tree}
 use Rattle.spec_core.specs.declared.records.Spec.{Spec}
@@ -46,22 +46,25 @@ module _ (bounds : SearchBounds) (spec : Spec) where
     pub name : claim.goal ≡ goal.name
     pub outcome : claim.outcome ≡ outcome_of bounds goal search
     pub false : IsFalse spec goal bounds.tries (substitutions spec goal bounds.depth) search
-    pub exact : Finds spec goal bounds.steps bounds.tries (substitutions spec goal bounds.depth) search
+    pub exact :
+        Finds spec goal bounds.steps bounds.tries (substitutions spec goal bounds.depth) search
 
--- by what a claim on a goal is
-module _ (IsOn : Goal → Claim → Type 0) where
-  -- there are claims on the first goals, one for each and in their order
-  abbrev pub AreFirstClaims : List Goal → List Claim → Type 0
-  AreFirstClaims goals [] = Unit {0}
-  AreFirstClaims [] (claim ∷ claims) = ⊥
-  AreFirstClaims (goal ∷ goals) (claim ∷ claims) = IsOn goal claim × AreFirstClaims goals claims
+-- by what a claim on a goal is, behind the claims on the goals before it
+module _ (IsOn : List Claim → Goal → Claim → Type 0) where
+  -- behind these claims there are claims on the first goals, one for each and in their order
+  abbrev pub AreFirstClaims : List Claim → List Goal → List Claim → Type 0
+  AreFirstClaims before goals [] = Unit {0}
+  AreFirstClaims before [] (claim ∷ claims) = ⊥
+  AreFirstClaims before (goal ∷ goals) (claim ∷ claims) =
+      IsOn before goal claim × AreFirstClaims (before ++ claim ∷ []) goals claims
 
-  -- there are claims on all goals, one for each and in their order
-  abbrev pub AreClaims : List Goal → List Claim → Type 0
-  AreClaims [] [] = Unit {0}
-  AreClaims (goal ∷ goals) [] = ⊥
-  AreClaims [] (claim ∷ claims) = ⊥
-  AreClaims (goal ∷ goals) (claim ∷ claims) = IsOn goal claim × AreClaims goals claims
+  -- behind these claims there are claims on all goals, one for each and in their order
+  abbrev pub AreClaims : List Claim → List Goal → List Claim → Type 0
+  AreClaims before [] [] = Unit {0}
+  AreClaims before (goal ∷ goals) [] = ⊥
+  AreClaims before [] (claim ∷ claims) = ⊥
+  AreClaims before (goal ∷ goals) (claim ∷ claims) =
+      IsOn before goal claim × AreClaims (before ++ claim ∷ []) goals claims
 
 -- the report of these claims, where a side's evaluation may cost this many rule uses
 abbrev pub report_of : ℕ → List Claim → Report

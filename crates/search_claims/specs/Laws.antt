@@ -1,5 +1,5 @@
 -- What holds of the reports of searches.
-use Rattle.std.specs.Prelude.{◌≤◌, List}
+use Rattle.std.specs.Prelude.{◌≤◌, List, []}
 use Rattle.term_core.specs.Tree.{Tree}
 use Rattle.spec_core.specs.declared.records.Spec.{Spec}
 use Rattle.spec_core.specs.WellSorted.{IsWellSorted}
@@ -24,7 +24,7 @@ abbrev pub SearchReportsStand : Type 0
 SearchReportsStand =
     (bounds : SearchBounds) (spec : Spec) (claims : List Claim) →
     IsWellSorted spec → NamesStand spec → BoundsStand bounds →
-    AreClaims (IsClaimOn bounds spec) spec.goals claims →
+    AreClaims (λ before. IsClaimOn bounds spec) [] spec.goals claims →
     IsReportText spec.sig (report_text spec.sig (report_of bounds.steps claims))
     (report_of bounds.steps claims)
 
@@ -32,5 +32,5 @@ SearchReportsStand =
 abbrev pub SearchReportsAreAccepted : (Tree → Tree → Type 0) → Type 0
 SearchReportsAreAccepted above =
     (bounds : SearchBounds) (spec : Spec) (claims : List Claim) →
-    IsWellSorted spec → AreClaims (IsClaimOn bounds spec) spec.goals claims →
+    IsWellSorted spec → AreClaims (λ before. IsClaimOn bounds spec) [] spec.goals claims →
     IsAccepted above spec (report_of bounds.steps claims)

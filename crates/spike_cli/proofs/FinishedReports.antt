@@ -9,7 +9,8 @@ use Rattle.spike_cli.specs.declared.statuses.Status.{Status}
 use Rattle.spike_cli.specs.declared.statuses.Status.TheVariants.{Done}
 use Rattle.spike_cli.specs.FinishedReports.{FinishedReportsAreAccepted}
 use Rattle.spike_cli.specs.Outcomes.{OneReplay}
-use Rattle.spike_cli.specs.Replays.{IsReplay, IsFileReplay, accepted, replayed, too_long_report, yes_line}
+use Rattle.spike_cli.specs.Replays.{IsReplay, IsFileReplay, accepted, replayed, too_long_report}
+use Rattle.reply_lines.specs.Lines.{yes_line}
 
 module _ (one : OneReplay) (spec : Spec) (fine : IsWellSorted spec) (bytes line : List ℕ) (yes : IsReplay spec bytes line Done) (short : length bytes ≤ MAX_REPORT_BYTES) where
   only_yes : (held : Option (List ℕ)) → held ≡ Some bytes → (text : List ℕ) (s : Status) → IsFileReplay spec held text s → (text ≡ line) × (s ≡ Done)

@@ -1,6 +1,8 @@
 pub mod Pieces
+pub mod ProvedGoals
 pub mod ClaimLemmas
 pub mod TrueClaims
+pub mod AcceptedClaims
 pub mod ReportedClaims
 pub mod Unproved
 pub mod Accepting

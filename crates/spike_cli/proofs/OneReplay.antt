@@ -13,7 +13,8 @@ use Rattle.acceptance.specs.Laws.{OneVerdict}
 use Rattle.acceptance.specs.Refusals.{IsFirstRefusal}
 use Rattle.spike_cli.specs.declared.statuses.Status.{Status}
 use Rattle.spike_cli.specs.declared.statuses.Status.TheVariants as status
-use Rattle.spike_cli.specs.Replays.{IsReplay, accepted, no_report, refused, yes_line, no_line, why_text}
+use Rattle.spike_cli.specs.Replays.{IsReplay, accepted, no_report, refused}
+use Rattle.reply_lines.specs.Lines.{yes_line, no_line, why_text}
 
 module _ (reports : OneReport) (faults : OneFault) (verdict : OneVerdict Above) where
   module _ (spec : Spec) (bytes : List ℕ) (fine : IsWellSorted spec) where

@@ -6,7 +6,8 @@ use Rattle.clause_core.specs.declared.reports.Claim.{Claim}
 use Rattle.command_line.specs.declared.bounds.ProofBounds.{ProofBounds}
 use Rattle.spike_cli.specs.declared.statuses.Status.{Status}
 use Rattle.spike_cli.specs.declared.statuses.Status.TheVariants.{Done}
-use Rattle.spike_cli.specs.Replays.{IsFileReplay, yes_line}
+use Rattle.spike_cli.specs.Replays.{IsFileReplay}
+use Rattle.reply_lines.specs.Lines.{yes_line}
 use Rattle.spike_cli.specs.Reports.{IsReport}
 
 -- a file of these bytes is answered by yes, with how many claims there are of each kind, and nothing

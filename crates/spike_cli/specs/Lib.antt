@@ -18,4 +18,5 @@ pub mod Codes
 pub mod Tellings
 pub mod Ranges
 pub mod Within
+pub mod Lemmas
 pub mod Stops

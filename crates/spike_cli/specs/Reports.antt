@@ -1,5 +1,5 @@
 -- The report of a specification.
-use Rattle.std.specs.Prelude.{◌≡◌, ◌≤◌, ℕ, List, ◌++◌, length}
+use Rattle.std.specs.Prelude.{◌≡◌, ◌≤◌, ℕ, List, [], ◌++◌, length}
 use Rattle.spec_core.specs.declared.records.Spec.{Spec}
 use Rattle.spec_core.specs.Sig.{Sig}
 use Rattle.path_order.specs.Above.{Above}
@@ -14,7 +14,7 @@ use Rattle.command_line.specs.declared.bounds.ProofBounds.{ProofBounds}
 use Rattle.command_line.specs.declared.bounds.SearchBounds.{SearchBounds}
 use Rattle.spike_cli.specs.declared.replaying.TheConstants.{MAX_REPORT_BYTES}
 use Rattle.spike_cli.specs.declared.statuses.Status.{Status}
-use Rattle.spike_cli.specs.Claims.{IsClaimOn, IsStatusOfClaims, IsStatusOfGoals}
+use Rattle.spike_cli.specs.Claims.{IsNextClaim, IsStatusOfClaims, IsStatusOfGoals}
 
 -- a search for counterexamples that goes so far, and no proof
 abbrev pub search_alone : SearchBounds → ProofBounds
@@ -25,23 +25,23 @@ abbrev pub begun_text : ℕ → Sig → List Claim → List ℕ
 begun_text steps sig claims = lines_text sig (header_lines steps) ++ claims_text sig claims
 
 -- the report of a specification, or what it begins with: the claims are those of its goals in their
--- order
+-- order, each behind the claims before it
 pub data BeginsReport (bounds : ProofBounds) (spec : Spec) : List ℕ → Type 0 where
-  begun : (claims : List Claim) → AreFirstClaims (IsClaimOn bounds spec) spec.goals claims
+  begun : (claims : List Claim) → AreFirstClaims (IsNextClaim bounds spec) [] spec.goals claims
       → BeginsReport bounds spec (begun_text bounds.search.steps spec.sig claims)
-  whole : (claims : List Claim) → AreClaims (IsClaimOn bounds spec) spec.goals claims
+  whole : (claims : List Claim) → AreClaims (IsNextClaim bounds spec) [] spec.goals claims
       → BeginsReport bounds spec (report_text spec.sig (report_of bounds.search.steps claims))
 
--- a whole report and its status: the report has this text, which isn't too long for `replay`, is accepted
--- and is true
+-- a whole report and its status: the report has this text, which isn't too long for `replay`, is
+-- accepted and is true
 pub record IsReport (bounds : ProofBounds) (spec : Spec) (text : List ℕ)
     (status : Status) : Type 0 where
   pub claims : List Claim
-  pub are_claims : AreClaims (IsClaimOn bounds spec) spec.goals claims
+  pub are_claims : AreClaims (IsNextClaim bounds spec) [] spec.goals claims
   pub is_text : text ≡ report_text spec.sig (report_of bounds.search.steps claims)
   pub stands : IsReportText spec.sig text (report_of bounds.search.steps claims)
   pub short : length text ≤ MAX_REPORT_BYTES
   pub accepted : IsAccepted Above spec (report_of bounds.search.steps claims)
   pub true : ReportIsTrue spec (report_of bounds.search.steps claims)
   pub answers : IsStatusOfClaims claims status
-  pub exact : IsStatusOfGoals bounds spec spec.goals status
+  pub exact : IsStatusOfGoals bounds spec status

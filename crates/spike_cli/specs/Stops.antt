@@ -46,10 +46,10 @@ joined s (Proved block) = s
 joined s (Refuted index values) = status.Refuted
 joined s (Open budget) = status.Open
 
--- the text of a claim on the goal
-abbrev pub IsTextOnGoal : ProofBounds → Spec → Goal → List ℕ → Type 0
-IsTextOnGoal bounds spec goal text =
-    (claim : Claim) × IsClaimOn bounds spec goal claim × (text ≡ claim_text spec.sig claim)
+-- the text of a claim on the goal, with these lemmas
+abbrev pub IsTextOnGoal : ProofBounds → Spec → List ℕ → Goal → List ℕ → Type 0
+IsTextOnGoal bounds spec lemmas goal text =
+    (claim : Claim) × IsClaimOn bounds spec lemmas goal claim × (text ≡ claim_text spec.sig claim)
 
 module _ (old new : Option (List ℕ)) (writes writes' : ℕ) where
   -- a part of one of these texts was appended, and the count of faults rose where that was why it
@@ -65,12 +65,12 @@ module _ (old new : Option (List ℕ)) (writes writes' : ℕ) where
   WritesHeader sig steps (Err stop) =
       Stopped (λ text. text ≡ lines_text sig (header_lines steps)) stop
 
-  -- the claim on the goal was appended, and this is the status with it
-  abbrev pub WritesClaim : ProofBounds → Spec → Goal → Status → Result Status Stop → Type 0
-  WritesClaim bounds spec goal before (Ok after) =
-      (claim : Claim) × IsClaimOn bounds spec goal claim
-      × Appended old new (claim_text spec.sig claim) × (after ≡ joined before claim.outcome)
-  WritesClaim bounds spec goal before (Err stop) = Stopped (IsTextOnGoal bounds spec goal) stop
+  -- the claim on the goal, with these lemmas, was appended
+  abbrev pub WritesClaim : ProofBounds → Spec → List ℕ → Goal → Result Claim Stop → Type 0
+  WritesClaim bounds spec lemmas goal (Ok claim) =
+      IsClaimOn bounds spec lemmas goal claim × Appended old new (claim_text spec.sig claim)
+  WritesClaim bounds spec lemmas goal (Err stop) =
+      Stopped (IsTextOnGoal bounds spec lemmas goal) stop
 
   -- a whole text was appended, with its status, or a part of one where the command stopped
   abbrev pub Finishes :

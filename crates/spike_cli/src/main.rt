@@ -2,7 +2,8 @@
 //! a report on the goals or the value of a term, or checks a report.
 //!
 //! `prove FILE` looks for counterexamples of the goals, as far as `--depth`, `--tries` and `--steps`
-//! say, and then for plain proofs of at most the length `--plain`; `refute FILE` looks for
+//! say, then for plain proofs of at most the length `--plain`, and then for routine proofs of at
+//! most `--nodes` nodes, with the goals proved before as lemmas; `refute FILE` looks for
 //! counterexamples alone. `replay FILE REPORT` says whether a report is accepted, or the line at
 //! which it first isn't. `check FILE` says that the file is accepted, or with `--print` writes its
 //! printed form, and `eval FILE TERM` evaluates a term without variables within `--steps` rule uses.
@@ -22,7 +23,6 @@ mod laws;
 mod reading;
 mod refusals;
 mod replaying;
-mod replies;
 mod reporting;
 mod running;
 mod statuses;

@@ -2,12 +2,12 @@ ghost use Rattle.std.specs.Prelude.{◌≡◌, ◌≤◌, ℕ, List, [], ◌∷�
 ghost use Rattle.spike_cli.specs.Replays.{IsFileReplay, IsFileReplayText, IsReplay, IsReplayText};
 ghost use Rattle.spike_cli.specs.Stops.{AsksFor, Finishes, FinishesReading};
 
-use crate::replies::{no_line, reason, yes_line};
 use crate::statuses::{Ending, Status};
 use crate::stops::Stop;
 use io_core::{Files, ReadError, Sink, write_all};
 use path_order::Lpo;
 use replay_check::{Answer, replay};
+use reply_lines::{no_line, reason, yes_line};
 use report_reader::{ReportError, read_report};
 use spec_admit::Admitted;
 use std::alloc::Global;

@@ -1,4 +1,6 @@
-ghost use Rattle.std.specs.Prelude.{◌≡◌, ◌≤◌, ℕ, Some, slice_get};
+ghost use Rattle.std.specs.Prelude.{◌≡◌, ◌≤◌, ◌++◌, ℕ, Some, OnOk, slice_get};
+ghost use Rattle.spike_cli.specs.Claims.{number_proved};
+ghost use Rattle.spike_cli.specs.Lemmas.{AreLemmas};
 ghost use Rattle.spike_cli.specs.Reports.{BeginsReport, IsReport, search_alone as search_alone_of};
 ghost use Rattle.spike_cli.specs.Stops.{Finishes, WritesHeader, WritesClaim, joined};
 ghost use Rattle.spike_cli.specs.Within.{AreWithin, HasReports};
@@ -6,15 +8,17 @@ ghost use Rattle.spike_cli.specs.Within.{AreWithin, HasReports};
 use crate::claims::claim_on;
 use crate::statuses::Status;
 use crate::stops::Stop;
-use clause_core::Outcome;
+use clause_core::{Claim, Outcome};
 use command_line::{ProofBounds, SearchBounds};
 use io_core::{Sink, write_all};
 use path_order::Lpo;
 use plain_blocks::plain_blocks_stand;
 use proof_script::{print_claim, print_header};
+use routine_proof::{proves_behind_claims, routine_blocks_stand};
 use soundness::accepted_are_true;
 use spec_core::{Goal, Signature, Spec};
 use std::alloc::Global;
+use term_core::OutOfMemory;
 
 /// A search for counterexamples alone.
 pub fn search_alone(search: SearchBounds) -> ProofBounds
@@ -41,12 +45,18 @@ pub fn write_report<S: Sink>(
         (IsReport bounds spec.now) (BeginsReport bounds spec.now) result }
     ensures writes { S.faults out.old ≤ S.faults out.new }
 {
-    plain_blocks_stand(&Lpo::by_number());
-    accepted_are_true(&Lpo::by_number());
+    let order = Lpo::by_number();
+    plain_blocks_stand(&order);
+    routine_blocks_stand(&order);
+    proves_behind_claims(&order);
+    accepted_are_true(&order);
     write_header(alloc, &spec.sig, bounds.search.steps, out)?;
     let mut status = Status::Done;
-    for goal in spec.goals.as_slice() {
-        status = write_claim(alloc, spec, goal, bounds, status, out)?;
+    let mut proved = Vec::new(alloc);
+    for (number, goal) in spec.goals.as_slice().iter().enumerate() {
+        let claim = write_claim(alloc, spec, goal, bounds, &proved, out)?;
+        status = with_claim(status, &claim.outcome);
+        add_proved(&mut proved, number as u32, &claim.outcome)?;
     }
     write_all(out, alloc, b"done\n")?;
     Ok(status)
@@ -68,27 +78,29 @@ fn write_header<S: Sink>(
     Ok(())
 }
 
-/// Writes the claim on a goal of the specification, and answers the status with it.
+/// Writes the claim on a goal of the specification, with the goals of these numbers as lemmas.
 fn write_claim<S: Sink>(
     alloc: Global,
     spec: &Spec,
     goal: &Goal,
     bounds: ProofBounds,
-    status: Status,
+    lemmas: &[u32],
     out: &mut S,
-) -> Result<Status, Stop>
+) -> Result<Claim, Stop>
     requires reported { HasReports spec.now }
     requires within { AreWithin bounds }
     requires listed { (k : ℕ) × (slice_get spec.now.goals k ≡ Some goal.now) }
+    requires lemmas { AreLemmas bounds.search.steps spec.now goal.now lemmas.now }
     ensures claim { WritesClaim (S.written out.old) (S.written out.new)
-        (S.faults out.old) (S.faults out.new) bounds spec.now goal.now status result }
+        (S.faults out.old) (S.faults out.new) bounds spec.now lemmas.now goal.now result }
     ensures writes { S.faults out.old ≤ S.faults out.new }
 {
     plain_blocks_stand(&Lpo::by_number());
-    let claim = claim_on(alloc, spec, goal, bounds)?;
+    routine_blocks_stand(&Lpo::by_number());
+    let claim = claim_on(alloc, spec, goal, bounds, lemmas)?;
     let text = print_claim(alloc, &spec.sig, &claim)?;
     write_all(out, alloc, &text)?;
-    Ok(with_claim(status, &claim.outcome))
+    Ok(claim)
 }
 
 /// The status after one claim more.
@@ -100,4 +112,15 @@ fn with_claim(status: Status, outcome: &Outcome) -> Status
         (_, Outcome::Proved(_)) => status,
         (_, Outcome::Open(_)) => Status::Open,
     }
+}
+
+/// Adds the number of a goal where its claim proves it.
+fn add_proved(proved: &mut Vec<u32>, number: u32, outcome: &Outcome) -> Result<(), OutOfMemory>
+    ensures { OnOk result (proved.new.items ≡
+        proved.old.items ++ number_proved number outcome.now) }
+{
+    if let Outcome::Proved(_) = outcome {
+        proved.push(number)?;
+    }
+    Ok(())
 }

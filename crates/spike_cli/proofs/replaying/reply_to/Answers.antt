@@ -8,7 +8,8 @@ use Rattle.replay_check.specs.declared.answers.Answer.TheVariants.{Yes, No}
 use Rattle.report_reader.specs.declared.errors.ReportError.{ReportError}
 use Rattle.replay_check.specs.Tells.{Tells}
 use Rattle.report_reader.specs.Answers.{TellsFault}
-use Rattle.spike_cli.specs.Replays.{accepted, no_report, refused, no_line, yes_line}
+use Rattle.spike_cli.specs.Replays.{accepted, no_report, refused}
+use Rattle.reply_lines.specs.Lines.{no_line, yes_line}
 use Rattle.spike_cli.proofs.Readings.{reply_told}
 use Rattle.spike_cli.proofs.replaying.reply_to.Goals as goal
 

@@ -1,7 +1,7 @@
 ghost use Rattle.std.specs.Prelude.{◌≡◌, ◌++◌, IfOk, OnOk, codes};
 ghost use Rattle.std.specs.Fmt.{decimal};
-ghost use Rattle.spike_cli.specs.Replays as replays;
-ghost use Rattle.spike_cli.specs.Replays.{claim_count, is_open, is_proved, is_refuted, step_text, why_text};
+ghost use Rattle.reply_lines.specs.Lines as lines_of;
+ghost use Rattle.reply_lines.specs.Lines.{claim_count, is_open, is_proved, is_refuted, step_text, why_text};
 
 use clause_core::{Claim, Outcome, ReplayWhy, Why};
 use std::alloc::Global;
@@ -9,7 +9,7 @@ use term_core::OutOfMemory;
 
 /// The line of an accepted report with these claims.
 pub fn yes_line(alloc: Global, claims: &[Claim]) -> Result<Vec<u8>, OutOfMemory>
-    ensures { IfOk result (λ text. text.items ≡ replays.yes_line claims.now) }
+    ensures { IfOk result (λ text. text.items ≡ lines_of.yes_line claims.now) }
 {
     let mut text = Vec::from_slice(alloc, b"yes: proved ")?;
     append_count(alloc, proved_count(claims), &mut text)?;
@@ -23,7 +23,7 @@ pub fn yes_line(alloc: Global, claims: &[Claim]) -> Result<Vec<u8>, OutOfMemory>
 
 /// The line of a report that isn't accepted, with the number of its first line that is at fault.
 pub fn no_line(alloc: Global, line: u64, why: &[u8]) -> Result<Vec<u8>, OutOfMemory>
-    ensures { IfOk result (λ text. text.items ≡ replays.no_line line why.now) }
+    ensures { IfOk result (λ text. text.items ≡ lines_of.no_line line why.now) }
 {
     let mut text = Vec::from_slice(alloc, b"no line ")?;
     text.extend_from_slice(line.to_string(alloc)?.as_bytes())?;

@@ -1,0 +1,2 @@
+-- The lines that are written of a report.
+pub mod Lines
