@@ -1,7 +1,6 @@
 -- Where a test has its answer, the rule that goes on does so with the first slots.
 use Rattle.std.proofs.Common.{◌≡◌, ℕ, zero, suc, ◌+◌, ◌-◌, ◌<◌, ◌≤◌, List, [], ◌∷◌, ◌++◌, Option, Some, None, refl, ap, sym, ◌∙◌, subst, arith, length, length-drop, take, drop, get_or}
 use Rattle.std.specs.Prelude.{slice_get, reverse}
-use Rattle.std.specs.Global.{Vec}
 use Rattle.std.specs.List.{AllByRecursion}
 use Rattle.std.proofs.lemmas.List.{take-append-drop, drop-take}
 use Rattle.std.proofs.lemmas.Option.{slice_get_within}
@@ -14,6 +13,7 @@ use Rattle.spec_core.specs.declared.records.Rule.{Rule}
 use Rattle.value_bank.specs.Cells.{Cell, cell, IsTerm, AreTerms}
 use Rattle.value_bank.proofs.Terms.{same_cell}
 use Rattle.bank_machine.specs.declared.rule_codes.RuleCode.{RuleCode}
+use Rattle.bank_machine.specs.declared.decision_trees.DecisionTree.{DecisionTree}
 use Rattle.bank_machine.specs.declared.following.Branch.{Branch}
 use Rattle.bank_machine.specs.declared.turns.Turn.TheVariants.{Moved, Stuck}
 use Rattle.bank_machine.specs.Blocks.{HasBlock}
@@ -69,7 +69,7 @@ module _ (p : Program) (old : List Cell) (before : Stack) (s : State) (sort : So
   pub answer_term : (place : ℕ) → place ≡ get_or before.places (before.base + i) 0 → IsTerm old place (instance s.top.env (var i))
   answer_term place e = subst (λ z. IsTerm old z (instance s.top.env (var i))) (sym e) (slot_term (slot_there old before.base before.places s.top.env w.at.slots i (end_ranged p old before s sort w (decide i number k homes) there).0))
 
-  module _ (fine : IsWellSorted p.spec) (rules : List RuleCode) (index : List (Vec ℕ)) (whole : IsProgram p.spec p.code rules index) where
+  module _ (fine : IsWellSorted p.spec) (rules : List RuleCode) (trees : List DecisionTree) (whole : IsProgram p.spec p.code rules trees) where
     pub rule_within : number < length rules
     rule_within = omega (arith, slice_get_within p.spec.rules number asked_rule.rule asked_rule.listed, whole.compiled.count)
 

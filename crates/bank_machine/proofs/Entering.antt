@@ -2,7 +2,6 @@
 use Rattle.std.proofs.Common.{◌≡◌, ℕ, suc, ◌<◌, List, [], ◌∷◌, Some, refl, ap, sym, ◌∙◌, subst, arith, length, drop, get_or}
 use Rattle.std.specs.Prelude.{slice_get}
 use Rattle.std.specs.List.{AllByRecursion}
-use Rattle.std.specs.Global.{Vec}
 use Rattle.std.proofs.lemmas.List.{length-map}
 use Rattle.std.proofs.lemmas.Option.{slice_get_within, slice_get-get_or}
 use Rattle.term_core.proofs.Items.{all_at}
@@ -18,6 +17,7 @@ use Rattle.spec_core.specs.WellSorted.{IsWellSorted, RuleIsSorted, sorts_of}
 use Rattle.spec_core.proofs.Values.{env_built}
 use Rattle.value_bank.specs.Cells.{Cell, AreTerms}
 use Rattle.bank_machine.specs.declared.rule_codes.RuleCode.{RuleCode}
+use Rattle.bank_machine.specs.declared.decision_trees.DecisionTree.{DecisionTree}
 use Rattle.bank_machine.specs.declared.left_sides.LeftSide.{LeftSide}
 use Rattle.bank_machine.specs.Code.{Step, End, entries}
 use Rattle.bank_machine.specs.Compiled.{Fills, IsNext}
@@ -27,9 +27,10 @@ use Rattle.bank_machine.specs.Matching.{Unpacks, HaveHomes}
 use Rattle.bank_machine.specs.RuleCodes.{IsRuleCode}
 use Rattle.bank_machine.specs.Sound.{IsReady}
 use Rattle.bank_machine.specs.States.{frame}
+use Rattle.bank_machine.specs.DecisionTrees.{Lists, IsTree}
 use Rattle.bank_machine.specs.Index.{numbers_of}
 use Rattle.bank_machine.specs.Programs.{program, IsProgram}
-use Rattle.bank_machine.proofs.Numbers.{RuleAt, number_has_rule, match_listed}
+use Rattle.bank_machine.proofs.Numbers.{RuleAt, number_has_rule}
 use Rattle.bank_machine.proofs.Ranges.{symbol_in_range, item_listed}
 use Rattle.bank_machine.specs.Calls.{FoundBy}
 use Rattle.bank_machine.proofs.Matches.{entry_at, some_slot, tests_match, unpacked_count}
@@ -142,31 +143,13 @@ module _ (spec : Spec) (fine : IsWellSorted spec) (number : ℕ) (rule : Rule) (
           subst (λ n. IsCodeAt code n b.steps b.end) (sym place) b.there,
         )
 
--- the rules of a function, by the index
-module _ (spec : Spec) (code : List Instruction) (rules : List RuleCode) (index : List (Vec ℕ)) (h : IsProgram spec code rules index) (f : ℕ) (entry : Vec ℕ) (at : slice_get index f ≡ Some entry) (numbers : List ℕ) (shown : numbers ≡ entry.items) where
-  pub numbers_are : numbers ≡ numbers_of f 0 spec.rules
-  numbers_are = shown ∙ h.indexed.entries f entry at
+-- the tree of the function of a call
+module _ (spec : Spec) (code : List Instruction) (rules : List RuleCode) (trees : List DecisionTree) (h : IsProgram spec code rules trees) (f : ℕ) (vs : Trees) (s : SortId) (ready : IsReady spec f vs s) where
+  pub tree_there : f < length trees
+  tree_there = omega (arith, h.indexed.count, symbol_in_range spec.sig.table f ready.sorted.0 ready.sorted.1)
 
-  pub rule_at : (i k : ℕ) → slice_get numbers i ≡ Some k → RuleAt f spec.rules k
-  rule_at i k e = number_has_rule f spec.rules i k (subst (λ z. slice_get z i ≡ Some k) numbers_are e)
-
-  pub code_within : (i k : ℕ) → slice_get numbers i ≡ Some k → k < length rules
-  code_within i k e =
-      let r = rule_at i k e in
-      omega (arith, slice_get_within spec.rules k r.rule r.there, h.compiled.count)
-
-  pub code_at : (i k : ℕ) (one : RuleCode) (e : slice_get numbers i ≡ Some k) → slice_get rules k ≡ Some one → IsRuleCode spec code k (rule_at i k e).rule one
-  code_at i k one e there = h.compiled.each k (rule_at i k e).rule one (rule_at i k e).there there
-
-  -- a rule that matches a call of the function is one of them
-  pub match_numbered : IsWellSorted spec → (k : ℕ) (rule : Rule) (xs : List Tree) (vs : Trees) → slice_get spec.rules k ≡ Some rule → instance xs rule.left ≡ app f vs → (j : ℕ) × (slice_get numbers j ≡ Some k)
-  match_numbered fine k rule xs vs there is =
-      let j = match_listed spec fine f k rule xs vs there is in
-      (j.0, subst (λ z. slice_get z j.0 ≡ Some k) (sym numbers_are) j.1)
-
--- the index has an entry for the function of a call
-pub entry_there : (spec : Spec) (code : List Instruction) (rules : List RuleCode) (index : List (Vec ℕ)) (h : IsProgram spec code rules index) (f : ℕ) (vs : Trees) (s : SortId) → IsReady spec f vs s → f < length index
-entry_there spec code rules index h f vs s ready = omega (arith, h.indexed.count, symbol_in_range spec.sig.table f ready.sorted.0 ready.sorted.1)
+  pub tree_at : (tree : DecisionTree) → tree ≡ get_or trees f tree → IsTree spec.rules (numbers_of f 0 spec.rules) tree
+  tree_at tree e = h.indexed.each f tree (item_listed trees trees f tree refl tree_there e)
 
 -- the rule at a place of a function's numbers, with its code
 pub record Tried (spec : Spec) (code : List Instruction) (f number : ℕ) (one : RuleCode) : Type 0 where
@@ -176,25 +159,22 @@ pub record Tried (spec : Spec) (code : List Instruction) (f number : ℕ) (one :
   pub calls : rule.left ≡ app f args
   pub compiled : IsRuleCode spec code number rule one
 
-module _ (spec : Spec) (code : List Instruction) (rules : List RuleCode) (index : List (Vec ℕ)) (h : IsProgram spec code rules index) (f : ℕ) (vs : Trees) (s : SortId) (ready : IsReady spec f vs s) (entry : Vec ℕ) (e : entry ≡ get_or index f entry) (numbers : List ℕ) (shown : numbers ≡ entry.items) where
-  pub entry_at_function : slice_get index f ≡ Some entry
-  entry_at_function = item_listed index index f entry refl (entry_there spec code rules index h f vs s ready) e
+module _ (spec : Spec) (code : List Instruction) (rules : List RuleCode) (trees : List DecisionTree) (h : IsProgram spec code rules trees) (f : ℕ) (numbers : List ℕ) (some : (k : ℕ) → Lists numbers k → Lists (numbers_of f 0 spec.rules) k) (i : ℕ) (lt : i < length numbers) where
+  rule_here : RuleAt f spec.rules (get_or numbers i 0)
+  rule_here =
+      let j = some (get_or numbers i 0) (i, slice_get-get_or numbers i 0 lt) in
+      number_has_rule f spec.rules j.0 (get_or numbers i 0) j.1
 
-  module _ (i : ℕ) (lt : i < length numbers) where
-    number_at : slice_get numbers i ≡ Some (get_or numbers i 0)
-    number_at = slice_get-get_or numbers i 0 lt
+  pub number_within : get_or numbers i 0 < length rules
+  number_within = omega (arith, slice_get_within spec.rules (get_or numbers i 0) rule_here.rule rule_here.there, h.compiled.count)
 
-    pub number_within : get_or numbers i 0 < length rules
-    number_within = code_within spec code rules index h f entry entry_at_function numbers shown i (get_or numbers i 0) number_at
-
-    pub tried : (one : RuleCode) → one ≡ get_or rules (get_or numbers i 0) one → Tried spec code f (get_or numbers i 0) one
-    tried one o =
-        let r = rule_at spec code rules index h f entry entry_at_function numbers shown i (get_or numbers i 0) number_at in
-        let there = item_listed rules rules (get_or numbers i 0) one refl number_within o in
-        record {
-          rule = r.rule;
-          listed = r.there;
-          args = r.args;
-          calls = r.calls;
-          compiled = code_at spec code rules index h f entry entry_at_function numbers shown i (get_or numbers i 0) one number_at there;
-        }
+  pub tried : (one : RuleCode) → one ≡ get_or rules (get_or numbers i 0) one → Tried spec code f (get_or numbers i 0) one
+  tried one o =
+      let r = rule_here in
+      record {
+        rule = r.rule;
+        listed = r.there;
+        args = r.args;
+        calls = r.calls;
+        compiled = h.compiled.each (get_or numbers i 0) r.rule one r.there (item_listed rules rules (get_or numbers i 0) one refl number_within o);
+      }

@@ -1,11 +1,11 @@
 -- A program's code stays where more is added behind it.
 use Rattle.std.proofs.Common.{◌≡◌, ℕ, zero, suc, ◌+◌, List, [], ◌∷◌, ◌++◌, Some, None, ◌⊎◌, inl, inr, refl, ap, sym, subst, arith, length, length-append}
 use Rattle.std.specs.Prelude.{slice_get}
-use Rattle.std.specs.Global.{Vec}
 use Rattle.term_core.specs.Tree.{Tree}
 use Rattle.spec_core.specs.declared.records.Rule.{Rule}
 use Rattle.spec_core.specs.declared.records.Spec.{Spec}
 use Rattle.bank_machine.specs.declared.rule_codes.RuleCode.{RuleCode}
+use Rattle.bank_machine.specs.declared.decision_trees.DecisionTree.{DecisionTree}
 use Rattle.bank_machine.specs.Instructions.{Instruction}
 use Rattle.bank_machine.specs.Compiled.{IsBody}
 use Rattle.bank_machine.specs.Blocks.{AddsCode, AddsBlock}
@@ -51,8 +51,8 @@ rule_code_added spec old new n made after one adds h e here =
         subst (λ (z : RuleCode). IsRuleCode spec new k rule z) is (subst (λ z. IsRuleCode spec new z rule one) m (here rule (subst (λ z. slice_get spec.rules z ≡ Some rule) (sym m) at)))
     by k rule other at (inr (suc i, p, q)) = absurd (let o : None ≡ Some other = p in cc)
 
-pub program_kept : (spec : Spec) (old new : List Instruction) (rules : List RuleCode) (index : List (Vec ℕ)) → AddsCode old new → IsProgram spec old rules index → IsProgram spec new rules index
-program_kept spec old new rules index adds h = record { compiled = rule_codes_kept spec old new (length spec.rules) rules adds h.compiled; indexed = h.indexed }
+pub program_kept : (spec : Spec) (old new : List Instruction) (rules : List RuleCode) (trees : List DecisionTree) → AddsCode old new → IsProgram spec old rules trees → IsProgram spec new rules trees
+program_kept spec old new rules trees adds h = record { compiled = rule_codes_kept spec old new (length spec.rules) rules adds h.compiled; indexed = h.indexed }
 
 pub side_added : (spec : Spec) (old new : List Instruction) (place count : ℕ) (homes : List ℕ) (t : Tree) → place ≡ length old → homes ≡ first_numbers count → AddsBlock old new (IsBody spec.sig homes t count) → IsSide (program spec new) place count t
 side_added spec old new place count homes t p e b = (b.0, b.1, added_at old new place b.0 b.1 p b.2, subst (λ hs. IsBody spec.sig hs t count b.0 b.1) e b.3)

@@ -17,6 +17,9 @@ pub mod Homes
 pub mod Placed
 pub mod Ranges
 mod RuleIndex
+mod Looking
+mod Descending
+mod Parts
 mod RightCalls
 mod Numbers
 mod Grown

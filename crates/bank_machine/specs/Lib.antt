@@ -25,3 +25,6 @@ pub mod SoundLaws
 pub mod Instructions
 pub mod Emitting
 pub mod Stacks
+pub mod Symbols
+pub mod DecisionTrees
+pub mod Growing

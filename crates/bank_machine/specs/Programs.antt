@@ -1,15 +1,15 @@
 -- A specification's code, and code of terms behind it.
 use Rattle.std.specs.Prelude.{◌≡◌, ℕ, zero, suc, List, [], ◌∷◌, ◌++◌, Some, length, slice_get}
-use Rattle.std.specs.Global.{Vec}
 use Rattle.term_core.specs.Tree.{Tree}
 use Rattle.spec_core.specs.declared.records.Rule.{Rule}
 use Rattle.spec_core.specs.declared.records.Spec.{Spec}
 use Rattle.bank_machine.specs.declared.rule_codes.RuleCode.{RuleCode}
+use Rattle.bank_machine.specs.declared.decision_trees.DecisionTree.{DecisionTree}
 use Rattle.bank_machine.specs.Code.{Step, End}
 use Rattle.bank_machine.specs.Instructions.{Instruction, IsCodeAt}
 use Rattle.bank_machine.specs.Compiled.{IsBody}
 use Rattle.bank_machine.specs.RuleCodes.{IsRuleCode}
-use Rattle.bank_machine.specs.Index.{IsIndex}
+use Rattle.bank_machine.specs.DecisionTrees.{AreTrees}
 
 -- the specification and all code
 pub record Program : Type 0 where
@@ -24,10 +24,10 @@ pub record AreRuleCodes (spec : Spec) (code : List Instruction) (n : ℕ) (made 
   pub count : length made ≡ n
   pub each : (k : ℕ) (rule : Rule) (one : RuleCode) → slice_get spec.rules k ≡ Some rule → slice_get made k ≡ Some one → IsRuleCode spec code k rule one
 
--- the code of each rule, and each function's rules
-pub record IsProgram (spec : Spec) (code : List Instruction) (rules : List RuleCode) (index : List (Vec ℕ)) : Type 0 where
+-- the code of each rule, and a decision tree of each function's rules
+pub record IsProgram (spec : Spec) (code : List Instruction) (rules : List RuleCode) (trees : List DecisionTree) : Type 0 where
   pub compiled : AreRuleCodes spec code (length spec.rules) rules
-  pub indexed : IsIndex spec index
+  pub indexed : AreTrees spec trees
 
 -- the numbers below n, in their order
 abbrev pub first_numbers : ℕ → List ℕ

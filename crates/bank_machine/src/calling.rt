@@ -21,7 +21,8 @@ impl<'a> Machine<'a> {
         requires call { IsCallAt self.now.spec bank.now sym base places.old.items }
         ensures { IfOk result (IsFound self.now bank.now sym base places.old.items places.new.items) }
     {
-        let numbers = self.index[sym as usize].as_slice();
+        let tree = &self.trees[sym as usize];
+        let numbers = tree.rules_for(bank, &places[base..]);
         for number in numbers {
             let rule = &self.rules[*number];
             if rule.left.matches(bank, base, places)? {

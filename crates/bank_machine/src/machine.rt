@@ -7,6 +7,8 @@ ghost use Rattle.bank_machine.specs.Programs.{AreRuleCodes, IsSide, first_number
 
 use crate::blocks::emit_body;
 use crate::code::Code;
+use crate::decision_trees::DecisionTree;
+use crate::growing::grow_trees;
 use crate::index::index_rules;
 use crate::rule_codes::RuleCode;
 use spec_core::Spec;
@@ -21,7 +23,7 @@ pub struct Machine<'a> {
     pub(crate) spec: &'a Spec,
     pub(crate) code: Code,
     pub(crate) rules: Vec<RuleCode>,
-    pub(crate) index: Vec<Vec<usize>>,
+    pub(crate) trees: Vec<DecisionTree>,
 }
 
 impl<'a> Model for Machine<'a> {
@@ -35,7 +37,7 @@ impl<'a> Model for Machine<'a> {
 
     ghost view = { λ m. program m.spec.now m.code };
 
-    ghost invariant = { λ m. IsProgram m.spec.now m.code m.rules.items m.index.items };
+    ghost invariant = { λ m. IsProgram m.spec.now m.code m.rules.items m.trees.items };
 }
 
 impl<'a> Machine<'a> {
@@ -47,11 +49,12 @@ impl<'a> Machine<'a> {
         let mut code = Code::new(alloc);
         let rules = compile_rules(alloc, spec, &mut code)?;
         let index = index_rules(alloc, spec)?;
+        let trees = grow_trees(alloc, spec, &index)?;
         Ok(Machine {
             spec,
             code,
             rules,
-            index,
+            trees,
         })
     }
 
@@ -73,7 +76,7 @@ impl<'a> Machine<'a> {
             spec,
             mut code,
             rules,
-            index,
+            trees,
         } = self;
         let place = code.len();
         emit_body(alloc, &spec.sig, &homes, term, variables, &mut code)?;
@@ -81,7 +84,7 @@ impl<'a> Machine<'a> {
             spec,
             code,
             rules,
-            index,
+            trees,
         };
         Ok((made, place))
     }

@@ -9,7 +9,7 @@ pub emit_body-requires-clause-variables : goal.emit_body-requires-clause-variabl
 emit_body-requires-clause-variables c n o = omega (arith, c.requires.variables n o, ap length c.deref.ensures.value, ap length c.in_ok-homes.ensures, first_numbers_count c.args.variables)
 
 pub invariant_of-made : goal.invariant_of-made
-invariant_of-made c = program_kept c.self.inside.spec.now c.self.inside.code c.emit_body.new.code c.self.inside.rules.items c.self.inside.index.items (block_adds c.self.inside.code c.emit_body.new.code c.in_ok-emit_body.ensures) c.self.invariant
+invariant_of-made c = program_kept c.self.inside.spec.now c.self.inside.code c.emit_body.new.code c.self.inside.rules.items c.self.inside.trees.items (block_adds c.self.inside.code c.emit_body.new.code c.in_ok-emit_body.ensures) c.self.invariant
 
 pub returns-clause-side : goal.returns-clause-side
 returns-clause-side c = side_added c.self.inside.spec.now c.self.inside.code c.emit_body.new.code c.len-place.result c.args.variables c.deref.result.now c.args.term.now c.len-place.ensures (c.deref.ensures.value ∙ c.in_ok-homes.ensures) c.in_ok-emit_body.ensures
