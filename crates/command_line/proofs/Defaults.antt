@@ -122,12 +122,10 @@ module _ (old : Command) (m : ArgMatches) (p : IsParsedFrom old m) (plain : IsPl
           ],
         )
 
-  -- with a default it has a text that its parser takes, read as the parser says
-  pub default_reads : WantsDefault a → (q : ValueParser) → a.value_parser ≡ Some q
+  -- where it is found, it has a text that its parser takes, read as the parser says
+  pub found_reads : is_some (matched_of (found_of m) id) ≡ true → (q : ValueParser) → a.value_parser ≡ Some q
       → (t : List ℕ) × (one_text (found_of m) id ≡ Some (read_as (reading_of q) t)) × Accepts a.ignore_case q t
-  default_reads wants q is =
-      let there = default_present old m p globals k d lt wants in
-      go (matched_of (found_of m) id) refl (entry_found (found_of m).entries.items id there.0 there.1 there.2)
+  found_reads has q is = go (matched_of (found_of m) id) refl has
     where
       go : (o : Option MatchedArg) → matched_of (found_of m) id ≡ o → is_some o ≡ true
           → (t : List ℕ) × (one_text (found_of m) id ≡ Some (read_as (reading_of q) t)) × Accepts a.ignore_case q t
@@ -136,3 +134,10 @@ module _ (old : Command) (m : ArgMatches) (p : IsParsedFrom old m) (plain : IsPl
           let parsed = p.parsed (p.from.globals ∙ globals) in
           let got = entry_by_id (EntryPasses p.built) (found_of m).entries.items id x parsed.values found in
           text got.0 ((bytes_eq-Decides got.0.0.now id).0 got.2) got.3 q is x found got.1
+
+  -- so it is where it has a default
+  pub default_reads : WantsDefault a → (q : ValueParser) → a.value_parser ≡ Some q
+      → (t : List ℕ) × (one_text (found_of m) id ≡ Some (read_as (reading_of q) t)) × Accepts a.ignore_case q t
+  default_reads wants q is =
+      let there = default_present old m p globals k d lt wants in
+      found_reads (entry_found (found_of m).entries.items id there.0 there.1 there.2) q is

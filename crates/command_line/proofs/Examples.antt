@@ -7,42 +7,52 @@ use Rattle.clap.specs.Words.{Row, Text, Kinds, fault_of, first_of, matches_of, o
 use Rattle.clap.specs.Walk.{is_empty}
 use Rattle.clap.proofs.OnLiterals.{clap_on_literals}
 use Rattle.command_line.specs.declared.ranges.NumberRange.{NumberRange}
-use Rattle.command_line.specs.declared.ranges.TheConstants.{DEPTHS, TRIES, STEPS, PLAIN, NODES}
-use Rattle.command_line.specs.Apps.{refute_app, prove_app, eval_app, check_app, replay_app}
+use Rattle.command_line.specs.declared.ranges.TheConstants.{DEPTHS, TRIES, STEPS, PLAIN, NODES, GOALS}
+use Rattle.command_line.specs.Apps.{refute_app, prove_app, eval_app, check_app, replay_app, load_app}
 use Rattle.command_line.specs.Matches.{HasNumber, IsGiven}
-use Rattle.command_line.specs.Tasks.{app_for, refuting, proving, evaluating, checking, replaying, Asks, AskNothing, AreBounds, AreProofBounds}
-use Rattle.command_line.specs.Examples.{Asking, Refused, refute, prove, eval, check, replay, usual, given, usual_proof, given_proof}
+use Rattle.command_line.specs.Tasks.{Task, app_for, refuting, proving, evaluating, checking, replaying, Asks, AsksToLoad, AskNothing, AreBounds, AreProofBounds}
+use Rattle.command_line.specs.Usual.{usual_search, usual_bounds}
+use Rattle.command_line.specs.Examples.{Asking, Refused, refute, prove, eval, check, replay, load, given, given_proof}
 use Rattle.command_line.proofs.OwnNames.{differs}
 use Rattle.command_line.proofs.ReadLemmas.{text_compared}
-use Rattle.command_line.proofs.Askings.{nothing_asked, refute_alone, prove_alone, eval_alone, check_alone, replay_alone}
+use Rattle.command_line.proofs.Askings.{nothing_asked, refute_alone, prove_alone, eval_alone, check_alone, replay_alone, no_load_asked}
 
 faulty : (ks : Kinds) → is_empty ks ≡ false → ks ≡ [] → ⊥
 faulty [] some none = cc
 faulty (k ∷ ks) some none = cc
 
 no_refute : (words : List Text) → is_empty (fault_of refute_app (codes "refute" ∷ words)) ≡ false → AskNothing (codes "refute" ∷ words)
-no_refute words fault = nothing_asked refute_app refute_app (codes "refute" ∷ words) refl refl refute_alone (faulty _ fault)
+no_refute words fault = nothing_asked refute_app refute_app (codes "refute" ∷ words) refl refl refute_alone (faulty _ fault) refl
 
 no_prove : (words : List Text) → is_empty (fault_of prove_app (codes "prove" ∷ words)) ≡ false → AskNothing (codes "prove" ∷ words)
-no_prove words fault = nothing_asked prove_app prove_app (codes "prove" ∷ words) refl refl prove_alone (faulty _ fault)
+no_prove words fault = nothing_asked prove_app prove_app (codes "prove" ∷ words) refl refl prove_alone (faulty _ fault) refl
 
 no_eval : (words : List Text) → is_empty (fault_of eval_app (codes "eval" ∷ words)) ≡ false → AskNothing (codes "eval" ∷ words)
-no_eval words fault = nothing_asked eval_app eval_app (codes "eval" ∷ words) refl refl eval_alone (faulty _ fault)
+no_eval words fault = nothing_asked eval_app eval_app (codes "eval" ∷ words) refl refl eval_alone (faulty _ fault) refl
 
 no_check : (words : List Text) → is_empty (fault_of check_app (codes "check" ∷ words)) ≡ false → AskNothing (codes "check" ∷ words)
-no_check words fault = nothing_asked check_app check_app (codes "check" ∷ words) refl refl check_alone (faulty _ fault)
+no_check words fault = nothing_asked check_app check_app (codes "check" ∷ words) refl refl check_alone (faulty _ fault) refl
 
 no_replay : (words : List Text) → is_empty (fault_of replay_app (codes "replay" ∷ words)) ≡ false → AskNothing (codes "replay" ∷ words)
-no_replay words fault = nothing_asked replay_app replay_app (codes "replay" ∷ words) refl refl replay_alone (faulty _ fault)
+no_replay words fault = nothing_asked replay_app replay_app (codes "replay" ∷ words) refl refl replay_alone (faulty _ fault) refl
+
+no_load : (words : List Text) → is_empty (fault_of load_app (codes "load" ∷ words)) ≡ false → AskNothing (codes "load" ∷ words)
+no_load words fault = no_load_asked load_app (codes "load" ∷ words) refl refl (faulty _ fault)
+
+no_command_task : (file : List ℕ) (task : Task) → Asks (codes "help" ∷ codes "a" ∷ []) file task → ⊥
+no_command_task file (refuting bounds) asks = differs (codes "help") (codes "refute") refl asks.named
+no_command_task file task asks = differs (codes "help") (app_for task).top.name refl asks.named
 
 no_command : AskNothing (codes "help" ∷ codes "a" ∷ [])
-no_command file (refuting bounds) asks = differs (codes "help") (codes "refute") refl asks.named
-no_command file task asks = differs (codes "help") (app_for task).top.name refl asks.named
+no_command = record {
+  no_task = no_command_task;
+  no_load = λ goals asks. differs (codes "help") (codes "load") refl asks.named;
+}
 
 pub refused : Refused
 unfolding clap_on_literals
 refused = record {
-  no_words = λ file task asks. asks.named;
+  no_words = record { no_task = λ file task asks. asks.named; no_load = λ goals asks. asks.named };
   no_command = no_command;
   no_file = no_refute _ refl;
   two_files = no_refute _ refl;
@@ -60,6 +70,11 @@ refused = record {
   no_term = no_eval _ refl;
   flag_with_text = no_check _ refl;
   no_report = no_replay _ refl;
+  no_goals = no_load _ refl;
+  too_many_goals = no_load _ refl;
+  no_number_of_goals = no_load _ refl;
+  two_numbers = no_load _ refl;
+  option_of_load = no_load _ refl;
   two_reports = no_replay _ refl;
 }
 
@@ -73,9 +88,9 @@ usual_steps : (rows : List Row) → one_of (codes "steps") rows ≡ Some (codes 
 usual_steps rows found =
     number rows (codes "steps") STEPS 1000 (codes "1000") found (omega arith, (omega arith, (omega arith, (omega arith, (omega arith, tt))))) refl (omega arith) (omega arith)
 
-usual_bounds : (rows : List Row) → one_of (codes "depth") rows ≡ Some (codes "3") → one_of (codes "tries") rows ≡ Some (codes "10000") → one_of (codes "steps") rows ≡ Some (codes "1000")
-    → AreBounds rows usual
-usual_bounds rows depth tries steps = record {
+has_usual_search : (rows : List Row) → one_of (codes "depth") rows ≡ Some (codes "3") → one_of (codes "tries") rows ≡ Some (codes "10000") → one_of (codes "steps") rows ≡ Some (codes "1000")
+    → AreBounds rows usual_search
+has_usual_search rows depth tries steps = record {
   depth = number rows (codes "depth") DEPTHS 3 (codes "3") depth (omega arith, (omega arith, tt)) refl (omega arith) (omega arith);
   tries = number rows (codes "tries") TRIES 10000 (codes "10000") tries (omega arith, (omega arith, (omega arith, (omega arith, (omega arith, (omega arith, tt)))))) refl (omega arith) (omega arith);
   steps = usual_steps rows steps;
@@ -89,9 +104,9 @@ given_bounds rows depth tries steps = record {
   steps = number rows (codes "steps") STEPS 2000 (codes "2000") steps (omega arith, (omega arith, (omega arith, (omega arith, (omega arith, tt))))) refl (omega arith) (omega arith);
 }
 
-plain : Asks (refute (codes "a" ∷ [])) (codes "a") (refuting usual)
+plain : Asks (refute (codes "a" ∷ [])) (codes "a") (refuting usual_search)
 unfolding clap_on_literals
-plain = record { named = refl; taken = refl; file_is = refl; task_is = usual_bounds (matches_of refute_app (refute (codes "a" ∷ []))) refl refl refl }
+plain = record { named = refl; taken = refl; file_is = refl; task_is = has_usual_search (matches_of refute_app (refute (codes "a" ∷ []))) refl refl refl }
 
 abbrev all_numbers : List Text
 all_numbers = codes "--depth" ∷ codes "+0" ∷ codes "--tries=007" ∷ codes "a" ∷ codes "--steps" ∷ codes "2000" ∷ []
@@ -100,19 +115,19 @@ numbers : Asks (refute all_numbers) (codes "a") (refuting given)
 unfolding clap_on_literals
 numbers = record { named = refl; taken = refl; file_is = refl; task_is = given_bounds (matches_of refute_app (refute all_numbers)) refl refl refl }
 
-behind_dashes : Asks (refute (codes "--" ∷ codes "--help" ∷ [])) (codes "--help") (refuting usual)
+behind_dashes : Asks (refute (codes "--" ∷ codes "--help" ∷ [])) (codes "--help") (refuting usual_search)
 unfolding clap_on_literals
-behind_dashes = record { named = refl; taken = refl; file_is = refl; task_is = usual_bounds (matches_of refute_app (refute (codes "--" ∷ codes "--help" ∷ []))) refl refl refl }
+behind_dashes = record { named = refl; taken = refl; file_is = refl; task_is = has_usual_search (matches_of refute_app (refute (codes "--" ∷ codes "--help" ∷ []))) refl refl refl }
 
-proof_bounds : (rows : List Row) → AreBounds rows usual → one_of (codes "plain") rows ≡ Some (codes "500") → one_of (codes "nodes") rows ≡ Some (codes "2000")
-    → AreProofBounds rows usual_proof
+proof_bounds : (rows : List Row) → AreBounds rows usual_search → one_of (codes "plain") rows ≡ Some (codes "500") → one_of (codes "nodes") rows ≡ Some (codes "2000")
+    → AreProofBounds rows usual_bounds
 proof_bounds rows bounds plain nodes = record {
   search = bounds;
   plain = number rows (codes "plain") PLAIN 500 (codes "500") plain (omega arith, (omega arith, (omega arith, (omega arith, tt)))) refl (omega arith) (omega arith);
   nodes = number rows (codes "nodes") NODES 2000 (codes "2000") nodes (omega arith, (omega arith, (omega arith, (omega arith, (omega arith, tt))))) refl (omega arith) (omega arith);
 }
 
-given_proof_bounds : (rows : List Row) → AreBounds rows usual → one_of (codes "plain") rows ≡ Some (codes "1000") → one_of (codes "nodes") rows ≡ Some (codes "0")
+given_proof_bounds : (rows : List Row) → AreBounds rows usual_search → one_of (codes "plain") rows ≡ Some (codes "1000") → one_of (codes "nodes") rows ≡ Some (codes "0")
     → AreProofBounds rows given_proof
 given_proof_bounds rows bounds plain nodes = record {
   search = bounds;
@@ -123,17 +138,17 @@ given_proof_bounds rows bounds plain nodes = record {
 abbrev prove_rows : List Text → List Row
 prove_rows words = matches_of prove_app (prove words)
 
-proved : Asks (prove (codes "a" ∷ [])) (codes "a") (proving usual_proof)
+proved : Asks (prove (codes "a" ∷ [])) (codes "a") (proving usual_bounds)
 unfolding clap_on_literals
 proved =
     let rows = prove_rows (codes "a" ∷ []) in
-    record { named = refl; taken = refl; file_is = refl; task_is = proof_bounds rows (usual_bounds rows refl refl refl) refl refl }
+    record { named = refl; taken = refl; file_is = refl; task_is = proof_bounds rows (has_usual_search rows refl refl refl) refl refl }
 
 proof_numbers : Asks (prove (codes "a" ∷ codes "--nodes=0" ∷ codes "--plain" ∷ codes "1000" ∷ [])) (codes "a") (proving given_proof)
 unfolding clap_on_literals
 proof_numbers =
     let rows = prove_rows (codes "a" ∷ codes "--nodes=0" ∷ codes "--plain" ∷ codes "1000" ∷ []) in
-    record { named = refl; taken = refl; file_is = refl; task_is = given_proof_bounds rows (usual_bounds rows refl refl refl) refl refl }
+    record { named = refl; taken = refl; file_is = refl; task_is = given_proof_bounds rows (has_usual_search rows refl refl refl) refl refl }
 
 one_dash : Asks (eval (codes "-" ∷ codes "x" ∷ [])) (codes "-") (evaluating (codes "x") 1000)
 unfolding clap_on_literals
@@ -158,6 +173,16 @@ replayed : Asks (replay (codes "a" ∷ codes "b" ∷ [])) (codes "a") (replaying
 unfolding clap_on_literals
 replayed = record { named = refl; taken = refl; file_is = refl; task_is = refl }
 
+loaded : AsksToLoad (load (codes "+0200" ∷ [])) 200
+unfolding clap_on_literals
+loaded = record {
+  named = refl;
+  taken = refl;
+  goals_are =
+      number (matches_of load_app (load (codes "+0200" ∷ []))) (codes "N") GOALS 200 (codes "+0200") refl
+      (omega arith, (omega arith, (omega arith, (omega arith, (omega arith, tt))))) refl (omega arith) (omega arith);
+}
+
 pub asking : Asking
 asking = record {
   plain = plain;
@@ -170,4 +195,5 @@ asking = record {
   printed = printed;
   unprinted = unprinted;
   replayed = replayed;
+  loaded = loaded;
 }

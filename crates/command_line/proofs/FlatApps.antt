@@ -2,7 +2,7 @@
 use Rattle.std.proofs.Common.{refl, ◌≡◌, ◌∙◌, ◌<◌, ◌≤◌, ap, ℕ, true, List, [], ◌∷◌, length, is_some, Option, Some, None, sym, subst, inl, inr, arith}
 use Rattle.std.specs.List.{slice_index_or}
 use Rattle.std.specs.Str.{bytes_eq}
-use Rattle.std.specs.Prelude.{slice_get}
+use Rattle.std.specs.Prelude.{slice_get, option_and_then, option_map}
 use Rattle.std.specs.Borrow.{Bor}
 use Rattle.std.proofs.lemmas.List.{get_or-map, length-map}
 use Rattle.std.proofs.lemmas.Option.{slice_get_within, get_or_from_slice_get}
@@ -11,7 +11,9 @@ use Rattle.clap.specs.Facts.{args_of, WantsDefault, least_values, unwrap_or_rang
 use Rattle.clap.specs.Built.{IsPlain, IsParsedFrom, IsAuto}
 use Rattle.clap.specs.Walk.{Rule, Text, rows_of, rule_of, texts}
 use Rattle.clap.specs.Simple.{App, IsSimple, app_of, shape_of, has_simple_rules, is_simple}
-use Rattle.clap.specs.Matches.{found_of, first_value, one_text}
+use Rattle.clap.specs.Matches.{found_of, first_value, matched_of, one_text}
+use Rattle.clap.specs.declared.parser.matches.Found.{Found}
+use Rattle.clap.specs.declared.parser.matches.MatchedArg.{MatchedArg}
 use Rattle.clap.specs.declared.builder.range.ValueRange.{ValueRange}
 use Rattle.clap.specs.declared.builder.arg.Arg.{Arg}
 use Rattle.clap.specs.declared.builder.command.Command.{Command}
@@ -24,9 +26,9 @@ use Rattle.clap.proofs.WalkLemmas.{both, first_value-rows, one_text-rows}
 use Rattle.command_line.specs.declared.ranges.NumberRange.{NumberRange}
 use Rattle.command_line.specs.FlatApps.{IsFlat, is_own}
 use Rattle.command_line.specs.Readings.{HasSomeNumber, HasSomeWord}
-use Rattle.command_line.specs.Rules.{number_rule, word_rule}
+use Rattle.command_line.specs.Rules.{number_rule, numeral_rule, word_rule}
 use Rattle.command_line.proofs.OwnNames.{distinct_rules, own_at, own_parts}
-use Rattle.command_line.proofs.Defaults.{default_reads}
+use Rattle.command_line.proofs.Defaults.{default_reads, found_reads}
 
 -- an argument with a default text has a list of them that isn't empty
 some_default : (xs : List (Bor Text)) (usual : Text) → texts xs ≡ usual ∷ [] → 0 < length xs
@@ -38,6 +40,14 @@ head [] lt = absurd (omega arith)
 head (x ∷ xs) lt = x
 
 -- a flat command, and a parse of it
+-- what has a first value is found
+is_matched : (f : Found) (id : Text) → is_some (first_value f id) ≡ true → is_some (matched_of f id) ≡ true
+is_matched f id has = by (matched_of f id) has
+  where
+    by : (o : Option MatchedArg) → is_some (option_and_then (λ (a : MatchedArg). option_map (λ (s : Bor (List ℕ)). s.now) (slice_get a.vals.items 0)) o) ≡ true → is_some o ≡ true
+    by None has = has
+    by (Some x) has = refl
+
 module _ (c : Command) (m : ArgMatches) (flat : IsFlat (app_of c)) (p : IsParsedFrom c m) where
   simple : IsSimple c
   simple = ready_simple c flat.ready (rw flat.leaf refl)
@@ -119,6 +129,40 @@ module _ (c : Command) (m : ArgMatches) (flat : IsFlat (app_of c)) (p : IsParsed
       record {
         text = read.0;
         found = sym (one_text-rows (found_of m) name) ∙ subst (λ (i : Text). one_text (found_of m) i ≡ Some read.0) id_is read.1;
+        digits = passed.0;
+        least = passed.2;
+        most = passed.3;
+      }
+
+  -- a positional number has a text that writes a number of its range
+  pub numeral_there :
+      (k : ℕ) (name : Text) (range : NumberRange) →
+      slice_get (app_of c).top.rules k ≡ Some (numeral_rule name range) →
+      HasSomeNumber (rows_of (found_of m)) name range
+  numeral_there k name range is =
+      let r = numeral_rule name range in
+      let d = some_arg k r is in
+      let low = inside k r is in
+      let same = same_rule k r is in
+      let a = slice_index_or (args_of c) k d in
+      let named = (own_parts a.id.now (owned k d low)).0 in
+      let has =
+      required_has_value c m p plain simple.globals flat.negates k d low
+      (ap (λ (x : Rule). x.required) same) (ap (λ (x : Rule). x.action) same)
+      (simple.args k d low).delimiter (takes_one k d r same refl) (unique k d low) named
+      (not_auto k d low) in
+      let read =
+      found_reads c m p plain simple.globals k d low (unique k d low) named (not_auto k d low)
+      (ap (λ (x : Rule). x.action) same) (simple.args k d low).delimiter
+      (takes_one k d r same refl) (is_matched (found_of m) a.id.now has)
+      (Unsigned range.least range.most) (ap (λ (x : Rule). x.parser) same) in
+      let id_is : a.id.now ≡ name = ap (λ (x : Rule). x.id) same in
+      let passed = read.2 in
+      record {
+        text = read.0;
+        found =
+            sym (one_text-rows (found_of m) name)
+            ∙ subst (λ (i : Text). one_text (found_of m) i ≡ Some read.0) id_is read.1;
         digits = passed.0;
         least = passed.2;
         most = passed.3;

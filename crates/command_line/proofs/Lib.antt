@@ -4,5 +4,5 @@ mod FlatApps
 mod ReadLemmas
 mod Refusals
 mod Askings
-pub mod OneTask
+pub mod OneRequest
 mod Examples

@@ -1,9 +1,9 @@
 -- The simple command of each command word, as `clap` sees it.
 use Rattle.std.specs.Prelude.{List, [], ◌∷◌, codes}
 use Rattle.clap.specs.Words.{App, Rule, new_app, with_rule}
-use Rattle.command_line.specs.declared.ranges.TheConstants.{DEPTHS, TRIES, STEPS, PLAIN, NODES}
+use Rattle.command_line.specs.declared.ranges.TheConstants.{DEPTHS, TRIES, STEPS, PLAIN, NODES, GOALS}
 use Rattle.command_line.specs.declared.ranges.TheConstants.{USUAL_DEPTH, USUAL_TRIES, USUAL_STEPS, USUAL_PLAIN, USUAL_NODES}
-use Rattle.command_line.specs.Rules.{word_rule, number_rule, flag_rule}
+use Rattle.command_line.specs.Rules.{word_rule, numeral_rule, number_rule, flag_rule}
 
 -- a command with these arguments
 abbrev pub with_rules : App → List Rule → App
@@ -49,3 +49,7 @@ check_app = with_rules (new_app (codes "check"))
 abbrev pub replay_app : App
 replay_app = with_rules (new_app (codes "replay"))
     (word_rule (codes "FILE") ∷ word_rule (codes "REPORT") ∷ [])
+
+-- `load N`
+abbrev pub load_app : App
+load_app = with_rules (new_app (codes "load")) (numeral_rule (codes "N") GOALS ∷ [])

@@ -1,8 +1,10 @@
--- The command that words ask for.
+-- What words ask for, as a value of the code.
 use Rattle.std.specs.Prelude.{ℕ, List, Option, Some, None}
 use Rattle.command_line.specs.declared.commands.Command.{Command}
 use Rattle.command_line.specs.declared.commands.Command.TheVariants.{Refute, Prove, Eval, Check, Replay}
-use Rattle.command_line.specs.Tasks.{Task, refuting, proving, evaluating, checking, replaying, Asks, AskNothing}
+use Rattle.command_line.specs.declared.commands.Request.{Request}
+use Rattle.command_line.specs.declared.commands.Request.TheVariants.{OnFile, Load}
+use Rattle.command_line.specs.Tasks.{Task, refuting, proving, evaluating, checking, replaying, Asks, AsksToLoad, AskNothing}
 
 abbrev pub file_of : Command → List ℕ
 file_of (Refute file bounds) = file.now
@@ -18,7 +20,8 @@ task_of (Eval file term steps) = evaluating term.now steps
 task_of (Check file print) = checking print
 task_of (Replay file report) = replaying report.now
 
--- the words ask for this command, or for none
-abbrev pub IsAsked : List (List ℕ) → Option Command → Type 0
-IsAsked words (Some command) = Asks words (file_of command) (task_of command)
+-- the words ask for this, or for nothing
+abbrev pub IsAsked : List (List ℕ) → Option Request → Type 0
+IsAsked words (Some (OnFile command)) = Asks words (file_of command) (task_of command)
+IsAsked words (Some (Load goals)) = AsksToLoad words goals
 IsAsked words None = AskNothing words

@@ -3,7 +3,8 @@ use Rattle.std.specs.Prelude.{List, [], ◌∷◌, true, false, codes}
 use Rattle.clap.specs.Words.{Text}
 use Rattle.command_line.specs.declared.bounds.SearchBounds.{SearchBounds}
 use Rattle.command_line.specs.declared.bounds.ProofBounds.{ProofBounds}
-use Rattle.command_line.specs.Tasks.{refuting, proving, evaluating, checking, replaying, Asks, AskNothing}
+use Rattle.command_line.specs.Tasks.{refuting, proving, evaluating, checking, replaying, Asks, AsksToLoad, AskNothing}
+use Rattle.command_line.specs.Usual.{usual_search, usual_bounds}
 
 abbrev pub refute : List Text → List Text
 refute words = codes "refute" ∷ words
@@ -20,28 +21,25 @@ check words = codes "check" ∷ words
 abbrev pub replay : List Text → List Text
 replay words = codes "replay" ∷ words
 
-abbrev pub usual : SearchBounds
-usual = record { depth = 3; tries = 10000; steps = 1000 }
+abbrev pub load : List Text → List Text
+load words = codes "load" ∷ words
 
 abbrev pub given : SearchBounds
 given = record { depth = 0; tries = 7; steps = 2000 }
 
-abbrev pub usual_proof : ProofBounds
-usual_proof = record { search = usual; plain = 500; nodes = 2000 }
-
 abbrev pub given_proof : ProofBounds
-given_proof = record { search = usual; plain = 1000; nodes = 0 }
+given_proof = record { search = usual_search; plain = 1000; nodes = 0 }
 
 -- words that ask for a task
 pub record Asking : Type 0 where
   -- the usual numbers where no word gives one
-  pub plain : Asks (refute (codes "a" ∷ [])) (codes "a") (refuting usual)
+  pub plain : Asks (refute (codes "a" ∷ [])) (codes "a") (refuting usual_search)
   -- numbers before and behind the file, with a plus, leading zeros and `=`
   pub numbers : Asks (refute (codes "--depth" ∷ codes "+0" ∷ codes "--tries=007" ∷ codes "a"
       ∷ codes "--steps" ∷ codes "2000" ∷ [])) (codes "a") (refuting given)
   -- behind `--` no word is an option
-  pub behind_dashes : Asks (refute (codes "--" ∷ codes "--help" ∷ [])) (codes "--help") (refuting usual)
-  pub proved : Asks (prove (codes "a" ∷ [])) (codes "a") (proving usual_proof)
+  pub behind_dashes : Asks (refute (codes "--" ∷ codes "--help" ∷ [])) (codes "--help") (refuting usual_search)
+  pub proved : Asks (prove (codes "a" ∷ [])) (codes "a") (proving usual_bounds)
   -- the greatest length and no nodes
   pub proof_numbers : Asks (prove (codes "a" ∷ codes "--nodes=0" ∷ codes "--plain" ∷ codes "1000" ∷ []))
       (codes "a") (proving given_proof)
@@ -53,6 +51,8 @@ pub record Asking : Type 0 where
   pub unprinted : Asks (check (codes "a" ∷ [])) (codes "a") (checking false)
   -- the report stands behind the file
   pub replayed : Asks (replay (codes "a" ∷ codes "b" ∷ [])) (codes "a") (replaying (codes "b"))
+  -- a plus and leading zeros, up to the greatest number
+  pub loaded : AsksToLoad (load (codes "+0200" ∷ [])) 200
 
 -- words that ask for nothing
 pub record Refused : Type 0 where
@@ -74,6 +74,11 @@ pub record Refused : Type 0 where
   pub no_term : AskNothing (eval (codes "a" ∷ []))
   pub flag_with_text : AskNothing (check (codes "a" ∷ codes "--print=x" ∷ []))
   pub no_report : AskNothing (replay (codes "a" ∷ []))
+  pub no_goals : AskNothing (load (codes "0" ∷ []))
+  pub too_many_goals : AskNothing (load (codes "201" ∷ []))
+  pub no_number_of_goals : AskNothing (load [])
+  pub two_numbers : AskNothing (load (codes "1" ∷ codes "2" ∷ []))
+  pub option_of_load : AskNothing (load (codes "4" ∷ codes "--steps" ∷ codes "5" ∷ []))
   pub two_reports : AskNothing (replay (codes "a" ∷ codes "b" ∷ codes "c" ∷ []))
 
 pub record WorkedExamples : Type 0 where

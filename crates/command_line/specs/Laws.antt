@@ -1,8 +1,12 @@
 -- What the definitions lead to.
 use Rattle.std.specs.Prelude.{◌≡◌, ℕ, List}
-use Rattle.command_line.specs.Tasks.{Task, Asks}
+use Rattle.command_line.specs.Tasks.{Task, Asks, AsksToLoad}
 
--- words ask for one task on one file at most
-abbrev pub OneTask : Type 0
-OneTask = (words : List (List ℕ)) (file other : List ℕ) (task another : Task)
-    → Asks words file task → Asks words other another → (file ≡ other) × (task ≡ another)
+-- words ask for one task on one file at most, or for one number of goals, and never for both
+pub record OneRequest : Type 0 where
+  pub one_task : (words : List (List ℕ)) (file other : List ℕ) (task another : Task)
+      → Asks words file task → Asks words other another → (file ≡ other) × (task ≡ another)
+  pub one_number : (words : List (List ℕ)) (goals others : ℕ)
+      → AsksToLoad words goals → AsksToLoad words others → goals ≡ others
+  pub not_both : (words : List (List ℕ)) (file : List ℕ) (task : Task) (goals : ℕ)
+      → Asks words file task → AsksToLoad words goals → ⊥

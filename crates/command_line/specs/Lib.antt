@@ -1,6 +1,7 @@
 -- What words ask for, in the order in which to read it.
 pub mod Rules
 pub mod Apps
+pub mod Usual
 pub mod Matches
 pub mod Tasks
 pub mod Commands

@@ -4,7 +4,7 @@ use Rattle.std.specs.Str.Parse.{IsNumeral, digits_value, without_leading_plus}
 use Rattle.clap.specs.Words.{App, Row, Text, first_of, matches_of, one_of}
 use Rattle.command_line.specs.declared.ranges.NumberRange.{NumberRange}
 use Rattle.command_line.specs.declared.ranges.TheConstants.{DEPTHS, TRIES, STEPS}
-use Rattle.command_line.specs.Rules.{number_rule, word_rule}
+use Rattle.command_line.specs.Rules.{number_rule, numeral_rule, word_rule}
 use Rattle.command_line.specs.Matches.{Takes}
 
 -- the matches have a positional word of this name
@@ -33,4 +33,7 @@ pub record AreMatches (app : App) (words : List Text) (rows : List Row) : Type 0
       → HasSomeWord rows name
   pub has_numbers : (k : ℕ) (name usual : Text) (range : NumberRange)
       → slice_get app.top.rules k ≡ Some (number_rule name range usual)
+      → HasSomeNumber rows name range
+  pub has_numerals : (k : ℕ) (name : Text) (range : NumberRange)
+      → slice_get app.top.rules k ≡ Some (numeral_rule name range)
       → HasSomeNumber rows name range

@@ -9,6 +9,14 @@ use Rattle.command_line.specs.declared.ranges.NumberRange.{NumberRange}
 abbrev pub word_rule : Text → Rule
 word_rule name = record (new_rule name) { required = true; action = Some Set }
 
+-- a positional number of the range, which has to be there
+abbrev pub numeral_rule : Text → NumberRange → Rule
+numeral_rule name range = record (new_rule name) {
+  required = true;
+  action = Some Set;
+  parser = Some (Unsigned range.least range.most);
+}
+
 -- an option with a number of the range, and the text that stands for it where no word gives one
 abbrev pub number_rule : Text → NumberRange → Text → Rule
 number_rule name range usual = record (new_rule name) {

@@ -1,10 +1,10 @@
--- The task that words ask for.
+-- What words ask for: a task on a file, or goals that are generated.
 use Rattle.std.specs.Prelude.{◌≡◌, ◌↔◌, IsTrue, ℕ, Bool, List, [], ◌∷◌, codes}
 use Rattle.clap.specs.Words.{App, Row, Text, matches_of}
 use Rattle.command_line.specs.declared.bounds.SearchBounds.{SearchBounds}
 use Rattle.command_line.specs.declared.bounds.ProofBounds.{ProofBounds}
-use Rattle.command_line.specs.declared.ranges.TheConstants.{DEPTHS, TRIES, STEPS, PLAIN, NODES}
-use Rattle.command_line.specs.Apps.{refute_app, prove_app, eval_app, check_app, replay_app}
+use Rattle.command_line.specs.declared.ranges.TheConstants.{DEPTHS, TRIES, STEPS, PLAIN, NODES, GOALS}
+use Rattle.command_line.specs.Apps.{refute_app, prove_app, eval_app, check_app, replay_app, load_app}
 use Rattle.command_line.specs.Matches.{HasNumber, HasWord, IsGiven, Takes}
 
 -- what is done with the specification of a file
@@ -56,6 +56,13 @@ pub record Asks (words : List (List ℕ)) (file : List ℕ) (task : Task) : Type
   pub file_is : HasWord (matches_of (app_for task) words) (codes "FILE") file
   pub task_is : Say (matches_of (app_for task) words) task
 
--- the words ask for no task
-abbrev pub AskNothing : List (List ℕ) → Type 0
-AskNothing words = (file : List ℕ) (task : Task) → Asks words file task → ⊥
+-- the words ask for so many goals, generated, proved and replayed
+pub record AsksToLoad (words : List (List ℕ)) (goals : ℕ) : Type 0 where
+  pub named : IsNamed load_app.top.name words
+  pub taken : Takes load_app words
+  pub goals_are : HasNumber (matches_of load_app words) (codes "N") GOALS goals
+
+-- the words ask for neither
+pub record AskNothing (words : List (List ℕ)) : Type 0 where
+  pub no_task : (file : List ℕ) (task : Task) → Asks words file task → ⊥
+  pub no_load : (goals : ℕ) → AsksToLoad words goals → ⊥

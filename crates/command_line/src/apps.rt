@@ -1,10 +1,10 @@
 ghost use Rattle.std.specs.Prelude.{◌≡◌, IfOk};
 ghost use Rattle.clap.specs.Words.{app_of};
-ghost use Rattle.command_line.specs.Apps.{check_app, eval_app, prove_app, refute_app, replay_app};
+ghost use Rattle.command_line.specs.Apps.{check_app, eval_app, load_app, prove_app, refute_app, replay_app};
 
-use crate::arguments::{flag, number, word};
+use crate::arguments::{flag, number, numeral, word};
 use crate::ranges::{
-    DEPTHS, NODES, PLAIN, STEPS, TRIES, USUAL_DEPTH, USUAL_NODES, USUAL_PLAIN, USUAL_STEPS,
+    DEPTHS, GOALS, NODES, PLAIN, STEPS, TRIES, USUAL_DEPTH, USUAL_NODES, USUAL_PLAIN, USUAL_STEPS,
     USUAL_TRIES,
 };
 use std::alloc::Global;
@@ -64,5 +64,13 @@ pub fn replay_app<'a>(alloc: Global) -> Result<clap::Command<'a>, OutOfMemory>
     let app = clap::Command::new(alloc, "replay")
         .arg(word(alloc, "FILE"))?
         .arg(word(alloc, "REPORT"))?;
+    Ok(app)
+}
+
+/// `load N`
+pub fn load_app<'a>(alloc: Global) -> Result<clap::Command<'a>, OutOfMemory>
+    ensures { IfOk result (λ app. app_of app ≡ load_app) }
+{
+    let app = clap::Command::new(alloc, "load").arg(numeral(alloc, "N", GOALS))?;
     Ok(app)
 }

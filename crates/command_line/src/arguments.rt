@@ -1,6 +1,6 @@
 ghost use Rattle.std.specs.Prelude.{◌≡◌, ◌↔◌, ◌<◌, ◌^◌, IsTrue, false};
 ghost use Rattle.clap.specs.Words.{found_of, rows_of, rule_of};
-ghost use Rattle.command_line.specs.Rules.{flag_rule, number_rule, word_rule};
+ghost use Rattle.command_line.specs.Rules.{flag_rule, number_rule, numeral_rule, word_rule};
 ghost use Rattle.command_line.specs.Matches.{HasNumber, HasWord, IsGiven};
 ghost use Rattle.command_line.specs.Readings.{HasSomeNumber, HasSomeWord};
 
@@ -15,6 +15,18 @@ pub fn word<'a>(alloc: Global, name: &'a str) -> Arg<'a>
     ensures local { result.global ≡ false }
 {
     Arg::new(alloc, name).required(true).action(ArgAction::Set)
+}
+
+/// A positional number.
+pub fn numeral<'a>(alloc: Global, name: &'a str, range: NumberRange) -> Arg<'a>
+    ensures rule { rule_of result ≡ numeral_rule name.entry.now range }
+    ensures local { result.global ≡ false }
+{
+    let NumberRange { least, most } = range;
+    Arg::new(alloc, name)
+        .required(true)
+        .action(ArgAction::Set)
+        .value_parser(ValueParser::Unsigned(least, most))
 }
 
 /// An option with a number, and the text that stands for it where no word gives one.
@@ -45,7 +57,7 @@ pub fn word_of<'a>(matches: &ArgMatches<'a>, name: &str) -> &'a str
     matches.get_str(name).unwrap_or("")
 }
 
-/// The number of the option of this name, which lies in this range.
+/// The number of this name, which lies in this range.
 pub fn number_of(matches: &ArgMatches<'_>, name: &str, range: NumberRange) -> u32
     requires small { range.most < 2 ^ 32 }
     requires there { HasSomeNumber (rows_of (found_of matches.now)) name.now range }

@@ -1,3 +1,6 @@
+ghost use Rattle.std.specs.Prelude.{◌≡◌};
+ghost use Rattle.command_line.specs.Usual.{usual_bounds};
+
 /// How far the search for counterexamples goes.
 #[derive(Clone, Copy, Debug, PartialEq, Eq)]
 pub struct SearchBounds {
@@ -18,4 +21,21 @@ pub struct ProofBounds {
     pub plain: u32,
     /// The greatest number of nodes of a routine proof.
     pub nodes: u32,
+}
+
+impl ProofBounds {
+    /// The numbers that stand where no word gives one.
+    pub fn usual() -> ProofBounds
+        ensures { result ≡ usual_bounds }
+    {
+        ProofBounds {
+            search: SearchBounds {
+                depth: 3,
+                tries: 10_000,
+                steps: 1000,
+            },
+            plain: 500,
+            nodes: 2000,
+        }
+    }
 }

@@ -4,16 +4,25 @@ ghost use Rattle.command_line.specs.Tasks.{AreBounds, IsNamed};
 ghost use Rattle.command_line.specs.Readings.{HasSomeBounds};
 ghost use Rattle.command_line.specs.Commands.{IsAsked, file_of};
 
-use crate::apps::{check_app, eval_app, prove_app, refute_app, replay_app};
+use crate::apps::{check_app, eval_app, load_app, prove_app, refute_app, replay_app};
 use crate::arguments::{is_given, number_of, word_of};
 use crate::bounds::{ProofBounds, SearchBounds};
 use crate::matching::matches_of;
-use crate::ranges::{DEPTHS, NODES, PLAIN, STEPS, TRIES};
+use crate::ranges::{DEPTHS, GOALS, NODES, PLAIN, STEPS, TRIES};
 use clap::ArgMatches;
 use std::alloc::Global;
 use term_core::{OutOfMemory, front};
 
 /// What the words of a call ask for.
+#[derive(Drop)]
+pub enum Request<'a> {
+    /// A command on a file.
+    OnFile(Command<'a>),
+    /// Generates so many goals, proves them and replays the report.
+    Load(u32),
+}
+
+/// A command on a file.
 #[derive(Drop)]
 pub enum Command<'a> {
     /// Looks for counterexamples of a file's goals.
@@ -59,12 +68,12 @@ impl<'a> Command<'a> {
     }
 }
 
-/// The command that the words ask for, of which the first is the command word. None where they ask
-/// for none: `clap` finds a fault in the others, help among them, or the first is no command word.
-pub fn command_of<'a>(
+/// What the words ask for, of which the first is the command word. None where they ask for nothing:
+/// `clap` finds a fault in the others, help among them, or the first is no command word.
+pub fn request_of<'a>(
     alloc: Global,
     words: &'a [String],
-) -> Result<Option<Command<'a>>, OutOfMemory>
+) -> Result<Option<Request<'a>>, OutOfMemory>
     ensures { IfOk result (IsAsked (map string_bytes words.now)) }
 {
     let Some((name, _)) = front(words) else {
@@ -85,6 +94,9 @@ pub fn command_of<'a>(
     if name.as_str() == "replay" {
         return replay_command(alloc, words);
     }
+    if name.as_str() == "load" {
+        return load_request(alloc, words);
+    }
     Ok(None)
 }
 
@@ -92,7 +104,7 @@ pub fn command_of<'a>(
 fn refute_command<'a>(
     alloc: Global,
     words: &'a [String],
-) -> Result<Option<Command<'a>>, OutOfMemory>
+) -> Result<Option<Request<'a>>, OutOfMemory>
     requires { IsNamed (codes "refute") (map string_bytes words.now) }
     ensures { IfOk result (IsAsked (map string_bytes words.now)) }
 {
@@ -100,14 +112,14 @@ fn refute_command<'a>(
     let Some(matches) = matches_of(app, words)? else {
         return Ok(None);
     };
-    Ok(Some(Command::Refute {
+    Ok(Some(Request::OnFile(Command::Refute {
         file: word_of(&matches, "FILE"),
         bounds: search_bounds_of(&matches),
-    }))
+    })))
 }
 
 /// The command of the words of `prove`.
-fn prove_command<'a>(alloc: Global, words: &'a [String]) -> Result<Option<Command<'a>>, OutOfMemory>
+fn prove_command<'a>(alloc: Global, words: &'a [String]) -> Result<Option<Request<'a>>, OutOfMemory>
     requires { IsNamed (codes "prove") (map string_bytes words.now) }
     ensures { IfOk result (IsAsked (map string_bytes words.now)) }
 {
@@ -120,10 +132,10 @@ fn prove_command<'a>(alloc: Global, words: &'a [String]) -> Result<Option<Comman
         plain: number_of(&matches, "plain", PLAIN),
         nodes: number_of(&matches, "nodes", NODES),
     };
-    Ok(Some(Command::Prove {
+    Ok(Some(Request::OnFile(Command::Prove {
         file: word_of(&matches, "FILE"),
         bounds,
-    }))
+    })))
 }
 
 /// How far the search for counterexamples goes.
@@ -139,7 +151,7 @@ fn search_bounds_of(matches: &ArgMatches<'_>) -> SearchBounds
 }
 
 /// The command of the words of `eval`.
-fn eval_command<'a>(alloc: Global, words: &'a [String]) -> Result<Option<Command<'a>>, OutOfMemory>
+fn eval_command<'a>(alloc: Global, words: &'a [String]) -> Result<Option<Request<'a>>, OutOfMemory>
     requires { IsNamed (codes "eval") (map string_bytes words.now) }
     ensures { IfOk result (IsAsked (map string_bytes words.now)) }
 {
@@ -147,15 +159,15 @@ fn eval_command<'a>(alloc: Global, words: &'a [String]) -> Result<Option<Command
     let Some(matches) = matches_of(app, words)? else {
         return Ok(None);
     };
-    Ok(Some(Command::Eval {
+    Ok(Some(Request::OnFile(Command::Eval {
         file: word_of(&matches, "FILE"),
         term: word_of(&matches, "TERM"),
         steps: number_of(&matches, "steps", STEPS),
-    }))
+    })))
 }
 
 /// The command of the words of `check`.
-fn check_command<'a>(alloc: Global, words: &'a [String]) -> Result<Option<Command<'a>>, OutOfMemory>
+fn check_command<'a>(alloc: Global, words: &'a [String]) -> Result<Option<Request<'a>>, OutOfMemory>
     requires { IsNamed (codes "check") (map string_bytes words.now) }
     ensures { IfOk result (IsAsked (map string_bytes words.now)) }
 {
@@ -163,17 +175,17 @@ fn check_command<'a>(alloc: Global, words: &'a [String]) -> Result<Option<Comman
     let Some(matches) = matches_of(app, words)? else {
         return Ok(None);
     };
-    Ok(Some(Command::Check {
+    Ok(Some(Request::OnFile(Command::Check {
         file: word_of(&matches, "FILE"),
         print: is_given(&matches, "print"),
-    }))
+    })))
 }
 
 /// The command of the words of `replay`.
 fn replay_command<'a>(
     alloc: Global,
     words: &'a [String],
-) -> Result<Option<Command<'a>>, OutOfMemory>
+) -> Result<Option<Request<'a>>, OutOfMemory>
     requires { IsNamed (codes "replay") (map string_bytes words.now) }
     ensures { IfOk result (IsAsked (map string_bytes words.now)) }
 {
@@ -181,8 +193,20 @@ fn replay_command<'a>(
     let Some(matches) = matches_of(app, words)? else {
         return Ok(None);
     };
-    Ok(Some(Command::Replay {
+    Ok(Some(Request::OnFile(Command::Replay {
         file: word_of(&matches, "FILE"),
         report: word_of(&matches, "REPORT"),
-    }))
+    })))
+}
+
+/// The request of the words of `load`.
+fn load_request<'a>(alloc: Global, words: &'a [String]) -> Result<Option<Request<'a>>, OutOfMemory>
+    requires { IsNamed (codes "load") (map string_bytes words.now) }
+    ensures { IfOk result (IsAsked (map string_bytes words.now)) }
+{
+    let app = load_app(alloc)?;
+    let Some(matches) = matches_of(app, words)? else {
+        return Ok(None);
+    };
+    Ok(Some(Request::Load(number_of(&matches, "N", GOALS))))
 }

@@ -1,9 +1,9 @@
 //! What the words of a call ask for: a command word, behind which the words are read by `clap`.
 //!
 //! It stands on term_core and on `clap`, of which each command word has one simple command
-//! (`specs/Apps.antt`). The layer above uses that [`command_of`] answers the one task that the
-//! words ask for (`specs/Tasks.antt`), or that they ask for none: so it is wherever `clap` finds a
-//! fault in the words or help is asked. No text of `clap` comes out of this crate.
+//! (`specs/Apps.antt`). The layer above uses that [`request_of`] answers the one thing that the
+//! words ask for (`specs/Tasks.antt`), or that they ask for nothing: so it is wherever `clap` finds
+//! a fault in the words or help is asked. No text of `clap` comes out of this crate.
 #![tactic(auto)]
 
 mod apps;
@@ -15,9 +15,9 @@ mod matching;
 mod ranges;
 
 pub use bounds::{ProofBounds, SearchBounds};
-pub use commands::{Command, command_of};
-pub use laws::{one_task, worked_examples};
+pub use commands::{Command, Request, request_of};
+pub use laws::{one_request, worked_examples};
 pub use ranges::{
-    DEPTHS, NODES, NumberRange, PLAIN, STEPS, TRIES, USUAL_DEPTH, USUAL_NODES, USUAL_PLAIN,
+    DEPTHS, GOALS, NODES, NumberRange, PLAIN, STEPS, TRIES, USUAL_DEPTH, USUAL_NODES, USUAL_PLAIN,
     USUAL_STEPS, USUAL_TRIES,
 };

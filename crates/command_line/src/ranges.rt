@@ -32,6 +32,12 @@ pub const NODES: NumberRange = NumberRange {
     most: 10_000,
 };
 
+/// How many goals are generated.
+pub const GOALS: NumberRange = NumberRange {
+    least: 1,
+    most: 200,
+};
+
 /// The depth where no word gives one.
 pub const USUAL_DEPTH: &str = "3";
 

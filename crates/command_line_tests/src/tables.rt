@@ -296,7 +296,7 @@ const NO_COMMAND: [(&str, &str); 26] = [
     ("Replay a b", "nothing"),
     ("replays a b", "nothing"),
     ("a replay b", "nothing"),
-    ("load 5", "nothing"),
+    ("loads 5", "nothing"),
     ("Refute a", "nothing"),
     ("refute= a", "nothing"),
     ("--refute a", "nothing"),
@@ -308,6 +308,33 @@ const NO_COMMAND: [(&str, &str); 26] = [
     ("eval", "nothing"),
     ("refute", "nothing"),
     ("replay", "nothing"),
+];
+
+const LOAD: [(&str, &str); 24] = [
+    ("load 1", "load 1"),
+    ("load 4", "load 4"),
+    ("load 200", "load 200"),
+    ("load +7", "load 7"),
+    ("load 007", "load 7"),
+    ("load -- 4", "load 4"),
+    ("load 4 --", "load 4"),
+    ("load", "nothing"),
+    ("load 0", "nothing"),
+    ("load 201", "nothing"),
+    ("load -1", "nothing"),
+    ("load -0", "nothing"),
+    ("load x", "nothing"),
+    ("load 4x", "nothing"),
+    ("load 4.0", "nothing"),
+    ("load ''", "nothing"),
+    ("load 1 2", "nothing"),
+    ("load 4 --steps 5", "nothing"),
+    ("load 4 --help", "nothing"),
+    ("load --help", "nothing"),
+    ("load -h", "nothing"),
+    ("load 18446744073709551617", "nothing"),
+    ("load -- -4", "nothing"),
+    ("Load 4", "nothing"),
 ];
 
 /// Asserts what the lines ask for.
@@ -327,10 +354,11 @@ fn words_ask_for_what_the_usage_says(rt: HostRuntime) -> Result<(), Fail> {
         &EVAL,
         &CHECK,
         &REPLAY,
+        &LOAD,
         &NO_COMMAND,
     ] {
         expect(&rt, alloc, lines)?;
     }
-    assert!(rt; command_line::command_of(alloc, &[])?.is_none());
+    assert!(rt; command_line::request_of(alloc, &[])?.is_none());
     Ok(())
 }

@@ -1,4 +1,4 @@
-use command_line::{Command, command_of};
+use command_line::{Command, Request, request_of};
 use std::alloc::{AllocError, Global};
 use std::test::Fail;
 
@@ -15,26 +15,27 @@ fn words_of(alloc: Global, line: &str) -> Result<Vec<String>, AllocError> {
 /// in the order of the usage; or `nothing`.
 pub fn asked(alloc: Global, line: &str) -> Result<String, Fail> {
     let words = words_of(alloc, line)?;
-    let told = match command_of(alloc, &words)? {
-        Some(Command::Refute { file, bounds }) => {
+    let told = match request_of(alloc, &words)? {
+        Some(Request::OnFile(Command::Refute { file, bounds })) => {
             let (depth, tries, steps) = (bounds.depth, bounds.tries, bounds.steps);
             format!(in alloc; "refute [{file}] {depth} {tries} {steps}")?
         }
-        Some(Command::Prove { file, bounds }) => {
+        Some(Request::OnFile(Command::Prove { file, bounds })) => {
             let search = bounds.search;
             let (depth, tries, steps) = (search.depth, search.tries, search.steps);
             let (plain, nodes) = (bounds.plain, bounds.nodes);
             format!(in alloc; "prove [{file}] {depth} {tries} {steps} {plain} {nodes}")?
         }
-        Some(Command::Eval { file, term, steps }) => {
+        Some(Request::OnFile(Command::Eval { file, term, steps })) => {
             format!(in alloc; "eval [{file}] [{term}] {steps}")?
         }
-        Some(Command::Check { file, print }) => {
+        Some(Request::OnFile(Command::Check { file, print })) => {
             format!(in alloc; "check [{file}] print {print}")?
         }
-        Some(Command::Replay { file, report }) => {
+        Some(Request::OnFile(Command::Replay { file, report })) => {
             format!(in alloc; "replay [{file}] [{report}]")?
         }
+        Some(Request::Load(goals)) => format!(in alloc; "load {goals}")?,
         None => "nothing".to_string(alloc)?,
     };
     Ok(told)

@@ -2,7 +2,7 @@ use Rattle.std.proofs.Common.{◌∙◌}
 use Rattle.std.proofs.Common.{map}
 use Rattle.std.specs.Prelude.{string_bytes}
 use Rattle.clap.specs.Words.{app_of}
-use Rattle.command_line.proofs.FlatApps.{is_simple_too, word_there, number_there}
+use Rattle.command_line.proofs.FlatApps.{is_simple_too, word_there, number_there, numeral_there}
 use Rattle.command_line.proofs.Refusals.{refused}
 use Rattle.command_line.proofs.matching.matches_of.Goals as goal
 
@@ -14,6 +14,7 @@ returns-in-Ok c =
       are = (c.in-Ok.ensures.matches (is_simple_too (app_of c.args.app) flat)).0;
       has_words = word_there c.args.app c.in-Ok.matches flat c.in-Ok.ensures.parsed;
       has_numbers = number_there c.args.app c.in-Ok.matches flat c.in-Ok.ensures.parsed;
+      has_numerals = numeral_there c.args.app c.in-Ok.matches flat c.in-Ok.ensures.parsed;
     }
 
 pub returns : goal.returns

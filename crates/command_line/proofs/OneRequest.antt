@@ -1,4 +1,4 @@
--- Words ask for one task on one file at most.
+-- Words ask for one task on one file at most, or for one number of goals.
 use Rattle.std.proofs.Common.{◌≡◌, ◌∙◌, ap, ap₂, sym, subst, ℕ, Bool, List, Some, Option, codes, refl}
 use Rattle.std.specs.Prelude.{◌↔◌, IsTrue, unwrap_or, true, false}
 use Rattle.std.specs.Str.Parse.{digits_value, without_leading_plus}
@@ -7,10 +7,9 @@ use Rattle.command_line.specs.declared.ranges.NumberRange.{NumberRange}
 use Rattle.command_line.specs.declared.bounds.SearchBounds.{SearchBounds}
 use Rattle.command_line.specs.declared.bounds.ProofBounds.{ProofBounds}
 use Rattle.command_line.specs.Matches.{HasNumber, HasWord}
-use Rattle.command_line.specs.Tasks.{Task, refuting, proving, evaluating, checking, replaying, app_for, Say, AreBounds, AreProofBounds}
-use Rattle.command_line.specs.Laws.{OneTask}
+use Rattle.command_line.specs.Tasks.{Task, refuting, proving, evaluating, checking, replaying, app_for, Say, AreBounds, AreProofBounds, Asks, AsksToLoad}
 use Rattle.command_line.proofs.OwnNames.{differs}
-use Rattle.command_line.proofs.Askings.{one_name}
+use Rattle.command_line.proofs.Askings.{no_task_loads, one_name}
 
 one_text : (o : Option Text) (s t : Text) → o ≡ Some s → o ≡ Some t → s ≡ t
 one_text o s t is is_too = ap (λ (x : Option Text). unwrap_or x s) (sym is ∙ is_too)
@@ -50,10 +49,24 @@ one_kind (checking a) (checking b) same = (refl, (λ rows is is_too. ap checking
 one_kind (replaying s) (replaying t) same = (refl, (λ rows is is_too. ap replaying (one_text _ s t is is_too)))
 one_kind task another same = absurd (differs (app_for task).top.name (app_for another).top.name refl same)
 
-pub one_task : OneTask
+pub one_task :
+    (words : List (List ℕ)) (file other : List ℕ) (task another : Task) → Asks words file task →
+    Asks words other another → (file ≡ other) × (task ≡ another)
 one_task words file other task another asks asks_too =
     let kind = one_kind task another (one_name words _ _ asks.named asks_too.named) in
     let back : matches_of (app_for another) words ≡ matches_of (app_for task) words = ap (λ (a : App). matches_of a words) (sym kind.0) in
     let file_too = subst (λ (r : List Row). HasWord r (codes "FILE") other) back asks_too.file_is in
     let task_too = subst (λ (r : List Row). Say r another) back asks_too.task_is in
     (one_text _ file other asks.file_is file_too, kind.1 _ asks.task_is task_too)
+
+pub one_load :
+    (words : List (List ℕ)) (goals others : ℕ) → AsksToLoad words goals →
+    AsksToLoad words others → goals ≡ others
+one_load words goals others asks asks_too =
+    one_number _ _ _ goals others asks.goals_are asks_too.goals_are
+
+pub not_both :
+    (words : List (List ℕ)) (file : List ℕ) (task : Task) (goals : ℕ) → Asks words file task →
+    AsksToLoad words goals → ⊥
+not_both words file task goals asks loads =
+    no_task_loads task (one_name words _ _ asks.named loads.named)

@@ -1,0 +1,5 @@
+use Rattle.command_line.proofs.OneRequest.{one_task, one_load, not_both}
+use Rattle.command_line.proofs.laws.one_request.Goals as goal
+
+pub returns : goal.returns
+returns c = record { one_task = one_task; one_number = one_load; not_both = not_both }
