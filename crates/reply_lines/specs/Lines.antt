@@ -35,6 +35,15 @@ yes_line claims =
     ++ codes ", refuted " ++ decimal (claim_count is_refuted claims)
     ++ codes ", open " ++ decimal (claim_count is_open claims) ++ codes "\n"
 
+-- `load N: proved P, refuted R, open O`, of the report of so many goals with these claims, and
+-- `replay: yes`
+abbrev pub load_lines : ℕ → List Claim → List ℕ
+load_lines goals claims =
+    codes "load " ++ decimal goals
+    ++ codes ": proved " ++ decimal (claim_count is_proved claims)
+    ++ codes ", refuted " ++ decimal (claim_count is_refuted claims)
+    ++ codes ", open " ++ decimal (claim_count is_open claims) ++ codes "\nreplay: yes\n"
+
 -- `no line L: WHY`
 abbrev pub no_line : ℕ → List ℕ → List ℕ
 no_line line why = codes "no line " ++ decimal line ++ codes ": " ++ why ++ codes "\n"

@@ -21,6 +21,22 @@ pub fn yes_line(alloc: Global, claims: &[Claim]) -> Result<Vec<u8>, OutOfMemory>
     Ok(text)
 }
 
+/// The lines of an accepted report of so many generated goals with these claims.
+pub fn load_lines(alloc: Global, goals: u32, claims: &[Claim]) -> Result<Vec<u8>, OutOfMemory>
+    ensures { IfOk result (λ text. text.items ≡ lines_of.load_lines goals claims.now) }
+{
+    let mut text = Vec::from_slice(alloc, b"load ")?;
+    append_count(alloc, goals as usize, &mut text)?;
+    text.extend_from_slice(b": proved ")?;
+    append_count(alloc, proved_count(claims), &mut text)?;
+    text.extend_from_slice(b", refuted ")?;
+    append_count(alloc, refuted_count(claims), &mut text)?;
+    text.extend_from_slice(b", open ")?;
+    append_count(alloc, open_count(claims), &mut text)?;
+    text.extend_from_slice(b"\nreplay: yes\n")?;
+    Ok(text)
+}
+
 /// The line of a report that isn't accepted, with the number of its first line that is at fault.
 pub fn no_line(alloc: Global, line: u64, why: &[u8]) -> Result<Vec<u8>, OutOfMemory>
     ensures { IfOk result (λ text. text.items ≡ lines_of.no_line line why.now) }

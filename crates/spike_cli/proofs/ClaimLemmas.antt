@@ -114,7 +114,7 @@ module _ (bounds : ProofBounds) (spec : Spec) where
   module _ (lemmas : List ℕ) (goal : Goal) (claim : Claim)
       (c : IsClaimOn bounds spec lemmas goal claim) where
     -- a claim is refuted exactly where its goal is refutable
-    refuted_refutable : IsRefuted claim.outcome → IsRefutable bounds spec goal
+    pub refuted_refutable : IsRefuted claim.outcome → IsRefutable bounds spec goal
     refuted_refutable r = by c.search claim.outcome c.exact c.outcome r
       where
         by :
@@ -128,7 +128,7 @@ module _ (bounds : ProofBounds) (spec : Spec) where
         by (NotFound tried skipped cut) (Refuted index values) f is r = absurd is
         by (NotFound tried skipped cut) (Open budget) f is r = absurd r
 
-    refutable_refuted : IsRefutable bounds spec goal → IsRefuted claim.outcome
+    pub refutable_refuted : IsRefutable bounds spec goal → IsRefuted claim.outcome
     refutable_refuted r = by c.search c.exact c.outcome
       where
         by :

@@ -13,7 +13,7 @@ use Rattle.spike_cli.specs.declared.stops.Stop.{Stop}
 use Rattle.spike_cli.specs.declared.stops.Stop.TheVariants.{ReadFault, WriteFault, OutOfMemory}
 use Rattle.clause_core.specs.declared.reports.Claim.{Claim}
 use Rattle.spike_cli.specs.Claims.{IsStatusOfClaims}
-use Rattle.command_line.specs.Tasks.{Task, checking, refuting, proving, evaluating, replaying, Asks}
+use Rattle.command_line.specs.Tasks.{Task, checking, refuting, proving, evaluating, replaying, Asks, AsksToLoad}
 use Rattle.spike_cli.specs.Evaluations.{IsEvaluation, valued, spent, refused}
 use Rattle.spike_cli.specs.Reads.{AreBytesOf}
 use Rattle.spike_cli.specs.Replays.{IsFileReplay, IsReplay, accepted as accepted_report, no_report, refused as refused_report, replayed, too_long_report}
@@ -23,9 +23,10 @@ use Rattle.spike_cli.specs.Refusals.{IsRefusalOf}
 use Rattle.spike_cli.specs.Tellings.{Tells, IsLineOf}
 use Rattle.spike_cli.specs.declared.refusals.Refusal.{Refusal}
 use Rattle.spike_cli.specs.declared.refusals.Refusal.TheVariants.{Line, OutOfMemory as NoMemory}
-use Rattle.spike_cli.specs.Runs.{IsEnd, MayWriteOn, MayWriteFor, refusal, on_spec, Ended, RefusedBytes, ReadsFile, MayWrite, for_file, Means}
+use Rattle.spike_cli.specs.Runs.{IsEnd, MayWriteOn, MayWriteFor, refusal, on_spec, Ended, RefusedBytes, ReadsFile, MayWrite, for_file, for_load, Means}
 use Rattle.spec_grammar.specs.declared.limits.TheConstants.{MAX_FILE_BYTES}
-use Rattle.spike_cli.specs.Stops.{FinishesReading, Refuses, MeansFor, status_ended, status_of_stop}
+use Rattle.spike_cli.specs.Stops.{Finishes, FinishesReading, Refuses, MeansFor, status_ended, status_of, status_of_stop}
+use Rattle.spike_cli.specs.Loads.{IsLoad}
 use Rattle.io_core.proofs.Counts.{Rose-after}
 use Rattle.spike_cli.proofs.Pieces.{part_of}
 
@@ -142,7 +143,7 @@ module _ (words : List (List ℕ)) (held : List ℕ → Option (List ℕ)) (read
     file_part p = part_of (MayWriteFor held task bytes) (MayWrite words held) old new (λ t m. for_file (with_file (λ k b. MayWriteFor held k b t) m)) p
 
     pub file_means : (s : Status) → MeansFor held task bytes middle reads' old new writes writes' s → Means words held reads reads' old new writes writes' s
-    file_means status.Done h = with_file (λ k b. Ended held k b old new status.Done) h
+    file_means status.Done h = inl (with_file (λ k b. Ended held k b old new status.Done) h)
     file_means status.Refuted h = with_file (λ k b. Ended held k b old new status.Refuted) h
     file_means status.Open h = with_file (λ k b. Ended held k b old new status.Open) h
     file_means status.Refused h = inr (with_file (λ k b. RefusedBytes held k b old new) h)
@@ -151,3 +152,30 @@ module _ (words : List (List ℕ)) (held : List ℕ → Option (List ℕ)) (read
     file_means status.WriteFault h = (h.0, file_part h.1)
     file_means status.Usage h = absurd h
     file_means status.OutOfMemory h = file_part h
+
+  -- generated goals, of which the lines were written, or a part of them
+  pub load_means :
+      (goals : ℕ) → AsksToLoad words goals → (result : Result Status Stop) →
+      Finishes old new writes writes' (λ text s. IsLoad goals text × (s ≡ status.Done))
+      (IsLoad goals) result →
+      (s : Status) → s ≡ status_of result →
+      Means words held reads reads' old new writes writes' s
+  load_means goals asks result h s is =
+      subst (Means words held reads reads' old new writes writes') (sym is) (by result h)
+    where
+      part :
+          AppendsPartOf (IsLoad goals) old new → AppendsPartOf (MayWrite words held) old new
+      part p =
+          part_of (IsLoad goals) (MayWrite words held) old new (λ t m. for_load goals asks m) p
+
+      by :
+          (result : Result Status Stop) →
+          Finishes old new writes writes' (λ text s. IsLoad goals text × (s ≡ status.Done))
+          (IsLoad goals) result →
+          Means words held reads reads' old new writes writes' (status_of result)
+      by (Ok s) h =
+          subst (Means words held reads reads' old new writes writes') (sym h.1.1)
+          (inr (goals, asks, h.0, h.1.0, h.2))
+      by (Err ReadFault) h = absurd h
+      by (Err WriteFault) h = (h.0, part h.1)
+      by (Err OutOfMemory) h = part h

@@ -15,6 +15,9 @@ pub mod OneEnding
 pub mod OneReplay
 pub mod FinishedReports
 pub mod Readings
+pub mod LoadLengths
+pub mod LoadedGoals
+pub mod OneLoad
 pub mod TasksWithin
 pub mod NamesOfTexts
 pub mod StandingNames

@@ -10,6 +10,7 @@ pub mod Evaluations
 pub mod Reads
 pub mod Replays
 pub mod FinishedReports
+pub mod Loads
 pub mod Parts
 pub mod Runs
 pub mod Outcomes

@@ -8,7 +8,7 @@ use Rattle.spike_cli.specs.declared.statuses.Status.{Status}
 use Rattle.spike_cli.specs.declared.statuses.Status.TheVariants.{Done, Refuted, Open, Refused, No, ReadFault, WriteFault, Usage, OutOfMemory}
 use Rattle.spec_grammar.specs.declared.limits.TheConstants.{MAX_FILE_BYTES}
 use Rattle.spike_cli.specs.Parts.{AppendsPartOf}
-use Rattle.command_line.specs.Tasks.{Task, checking, refuting, proving, evaluating, replaying, Asks, AskNothing}
+use Rattle.command_line.specs.Tasks.{Task, checking, refuting, proving, evaluating, replaying, Asks, AsksToLoad, AskNothing}
 use Rattle.spike_cli.specs.Reads.{AreBytesOf, IsLonger}
 use Rattle.spike_cli.specs.Meanings.{IsAcceptedAs}
 use Rattle.spike_cli.specs.Refusals.{too_long_line, IsRefusalOf}
@@ -16,6 +16,7 @@ use Rattle.spike_cli.specs.Checks.{check_text, IsCheck}
 use Rattle.spike_cli.specs.Reports.{BeginsReport, IsReport, search_alone}
 use Rattle.spike_cli.specs.Evaluations.{IsEvaluation, IsEvaluationText}
 use Rattle.spike_cli.specs.Replays.{IsFileReplay, IsFileReplayText}
+use Rattle.spike_cli.specs.Loads.{IsLoad}
 
 -- the line for words that are no command
 abbrev pub usage_line : List ℕ
@@ -90,6 +91,8 @@ module _ (words : List (List ℕ)) (held : List ℕ → Option (List ℕ)) where
   pub data MayWrite : List ℕ → Type 0 where
     usage : AskNothing words → MayWrite usage_line
     too_long : IsTooLong → MayWrite too_long_line
+    for_load : (goals : ℕ) {text : List ℕ} → AsksToLoad words goals → IsLoad goals text
+        → MayWrite text
     for_file : {text : List ℕ}
         → ReadsFile (λ task bytes. MayWriteFor held task bytes text) → MayWrite text
 
@@ -99,10 +102,16 @@ module _ (words : List (List ℕ)) (held : List ℕ → Option (List ℕ)) where
       (IsTooLong × Appended old new too_long_line)
       ⊎ ReadsFile (λ task bytes. RefusedBytes held task bytes old new)
 
+  -- the words ask for generated goals, and what is written of them was appended
+  abbrev pub Loaded : Option (List ℕ) → Option (List ℕ) → Type 0
+  Loaded old new =
+      (goals : ℕ) × AsksToLoad words goals
+      × (text : List ℕ) × IsLoad goals text × Appended old new text
+
   -- what was appended, and which count rose, by the status
   abbrev pub Means : ℕ → ℕ → Option (List ℕ) → Option (List ℕ) → ℕ → ℕ → Status → Type 0
   Means reads reads' old new writes writes' Done =
-      ReadsFile (λ task bytes. Ended held task bytes old new Done)
+      ReadsFile (λ task bytes. Ended held task bytes old new Done) ⊎ Loaded old new
   Means reads reads' old new writes writes' Refuted =
       ReadsFile (λ task bytes. Ended held task bytes old new Refuted)
   Means reads reads' old new writes writes' Open =

@@ -118,3 +118,8 @@ AsksFor names old new = (new ≡ old) ⊎ (new ≡ old ++ names)
 abbrev pub status_ended : Status → Result Unit WriteError → Status
 status_ended s (Ok u) = s
 status_ended s (Err e) = status_of_stop (stop_of e)
+
+-- the status of a command that ended, or stopped
+abbrev pub status_of : Result Status Stop → Status
+status_of (Ok s) = s
+status_of (Err stop) = status_of_stop stop

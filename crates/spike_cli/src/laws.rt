@@ -1,4 +1,5 @@
 ghost use Rattle.spike_cli.specs.FinishedReports.{FinishedReportsAreAccepted};
+ghost use Rattle.spike_cli.specs.Loads.{OneLoad};
 ghost use Rattle.spike_cli.specs.Outcomes.{OneEnding, OneReplay};
 ghost use Rattle.spike_cli.specs.SearchAlone.{SearchAlone};
 
@@ -39,3 +40,8 @@ pub fn finished_reports_are_accepted()
 {
     one_replay();
 }
+
+/// What `load` writes for so many goals is one text.
+pub fn one_load()
+    ensures { OneLoad }
+{}

@@ -8,7 +8,8 @@
 //! which it first isn't. `check FILE` says that the file is accepted, or with `--print` writes its
 //! printed form, and `eval FILE TERM` evaluates a term without variables within `--steps` rule uses.
 //! A file that isn't accepted, or a term that isn't one, gets a line of refusal, which says what its
-//! first fault is.
+//! first fault is. `load N` generates so many goals, proves them and replays the report, and writes
+//! how many are proved, refuted and left open.
 //!
 //! It stands on all the other crates. [`run`] is the whole program over a store of files and a
 //! sink, and its contract is what the program promises; `main` hands it the words after the
@@ -20,6 +21,7 @@ mod checking;
 mod claims;
 mod evaluating;
 mod laws;
+mod loading;
 mod reading;
 mod refusals;
 mod replaying;
@@ -30,7 +32,7 @@ mod stops;
 
 use io_core::{StdFiles, StdSink};
 pub use laws::{
-    finished_reports_are_accepted, one_ending, one_replay, search_alone_proves_nothing,
+    finished_reports_are_accepted, one_ending, one_load, one_replay, search_alone_proves_nothing,
 };
 pub use replaying::MAX_REPORT_BYTES;
 pub use running::run;

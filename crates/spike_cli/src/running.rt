@@ -1,6 +1,7 @@
 ghost use Rattle.std.specs.Prelude.{◌≡◌, ◌≤◌, ℕ, List, length, map, string_bytes};
 ghost use Rattle.spec_grammar.specs.KeepsLimits.{KeepsLimits};
-ghost use Rattle.command_line.specs.Commands.{task_of};
+ghost use Rattle.command_line.specs.Commands.{file_of, task_of};
+ghost use Rattle.command_line.specs.Tasks.{Asks};
 ghost use Rattle.spike_cli.specs.Runs.{Means, AskedPrefix, IsEnd, MayWriteOn, further_files};
 ghost use Rattle.spike_cli.specs.Stops.{AsksFor, FinishesReading, MeansFor, Refuses, status_ended};
 ghost use Rattle.spike_cli.specs.Tellings.{IsLineOf};
@@ -8,13 +9,14 @@ ghost use Rattle.spike_cli.specs.Within.{HasReports, TaskIsWithin};
 
 use crate::checking::check;
 use crate::evaluating::evaluate;
+use crate::loading::load;
 use crate::reading::{Accepted, specification};
 use crate::refusals::Refusal;
 use crate::replaying::replay_file;
 use crate::reporting::{search_alone, write_report};
 use crate::statuses::Status;
 use crate::stops::Stop;
-use command_line::{Command, command_of};
+use command_line::{Command, Request, request_of};
 use io_core::{Files, ReadError, Sink, WriteError, write_all};
 use spec_grammar::MAX_FILE_BYTES;
 use std::alloc::Global;
@@ -31,20 +33,45 @@ pub fn run<F: Files, S: Sink>(alloc: Global, words: &[String], files: &mut F, ou
     ensures reads { F.faults files.old ≤ F.faults files.new }
     ensures writes { S.faults out.old ≤ S.faults out.new }
 {
-    let command = match command_of(alloc, words) {
-        Ok(Some(command)) => command,
+    match request_of(alloc, words) {
+        Ok(Some(Request::OnFile(command))) => run_on_file(alloc, words, &command, files, out),
+        Ok(Some(Request::Load(goals))) => match load(alloc, goals, out) {
+            Ok(status) => status,
+            Err(stop) => stop.status(),
+        },
         Ok(None) => {
             let wrote = write_all(
                 out,
                 alloc,
                 b"usage: spike check|eval|prove|refute|replay|load\n",
             );
-            return ended(Status::Usage, wrote);
+            ended(Status::Usage, wrote)
         }
-        Err(_) => return Status::OutOfMemory,
-    };
+        Err(_) => Status::OutOfMemory,
+    }
+}
+
+/// Reads the file of the command that the words ask for, and carries it out.
+fn run_on_file<F: Files, S: Sink>(
+    alloc: Global,
+    words: &[String],
+    command: &Command,
+    files: &mut F,
+    out: &mut S,
+) -> Status
+    requires { Asks (map string_bytes words.now) (file_of command.now) (task_of command.now) }
+    ensures means { Means (map string_bytes words.now) (F.held files.old)
+        (F.faults files.old) (F.faults files.new) (S.written out.old) (S.written out.new)
+        (S.faults out.old) (S.faults out.new) result }
+    ensures asked { AskedPrefix (map string_bytes words.now)
+        (F.asked files.old) (F.asked files.new) }
+    ensures stays { (name : List ℕ) → F.held files.new name ≡ F.held files.old name }
+    ensures reads { F.faults files.old ≤ F.faults files.new }
+    ensures writes { S.faults out.old ≤ S.faults out.new }
+{
+    let _words = words;
     match files.read(alloc, command.file(), MAX_FILE_BYTES) {
-        Ok(bytes) => carry_out(alloc, &command, &bytes, files, out),
+        Ok(bytes) => carry_out(alloc, command, &bytes, files, out),
         Err(ReadError::TooLong) => ended(
             Status::Refused,
             write_all(out, alloc, b"refused length\n"),
