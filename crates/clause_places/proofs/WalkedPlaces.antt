@@ -1,4 +1,4 @@
--- The places that one more argument adds, and one more equation; and what is narrow in a narrow
+-- The spots that one more argument adds, and one more equation; and what is narrow in a narrow
 -- term.
 use Rattle.std.proofs.Common.{◌≡◌, ℕ, zero, suc, ◌+◌, ◌-◌, ◌<◌, ◌≤◌, List, [], ◌∷◌, ◌++◌, Bool, true, false, refl, ap, sym, ◌∙◌, subst, arith, length, map, take, get_or, append_assoc}
 use Rattle.std.specs.Prelude.{Result, Ok, Err, OnOk}
@@ -11,10 +11,9 @@ use Rattle.term_core.proofs.Items.{taken_next}
 use Rattle.term_core.proofs.Trees.{list_of-trees_of}
 use Rattle.spec_core.specs.declared.records.Equation.{Equation}
 use Rattle.clause_core.specs.Clauses.{sides_of}
-use Rattle.clause_core.specs.declared.steps.Place.{Place}
 use Rattle.clause_places.specs.Spots.{Spot, paths, argument_paths, side_spots, equation_spots}
 use Rattle.clause_places.specs.Numbers.{IsNarrow, AreNarrow}
-use Rattle.clause_places.specs.Walk.{places_of, place_at, places_below}
+use Rattle.clause_places.specs.Walk.{spot_at, spots_below}
 use Rattle.clause_places.specs.declared.walk.Side.{Side}
 
 -- a path with its term, as an argument of this number
@@ -37,38 +36,38 @@ argument_paths_more n (u ∷ ts) t =
     ∙ sym (append_assoc first rest (last (n + suc (length ts))))
 
 module _ (s : Side) where
-  abbrev at_path : List ℕ → List ℕ × Tree → Place
-  at_path base p = place_at s (base ++ p.0)
+  abbrev at_path : List ℕ → List ℕ × Tree → Spot
+  at_path base p = spot_at s (base ++ p.0) p.1
 
   below_whole :
-      (base : List ℕ) (t : Tree) → places_below s base (([], t) ∷ []) ≡ place_at s base ∷ []
-  below_whole base t = ap (λ path. place_at s path ∷ []) (append-nil base)
+      (base : List ℕ) (t : Tree) → spots_below s base (([], t) ∷ []) ≡ spot_at s base t ∷ []
+  below_whole base t = ap (λ path. spot_at s path t ∷ []) (append-nil base)
 
   -- the places of an argument, by the path to it
   below_argument :
       (base : List ℕ) (n : ℕ) (ps : List (List ℕ × Tree)) →
-      places_below s (base ++ n ∷ []) ps ≡ places_below s base (map (in_argument n) ps)
+      spots_below s (base ++ n ∷ []) ps ≡ spots_below s base (map (in_argument n) ps)
   below_argument base n [] = refl
   below_argument base n (p ∷ ps) =
       let e : (base ++ n ∷ []) ++ p.0 ≡ base ++ (n ∷ p.0) = append_assoc base (n ∷ []) p.0 in
       let h = below_argument base n ps in
-      λ i. place_at s (e i) ∷ h i
+      λ i. spot_at s (e i) p.1 ∷ h i
 
   -- one more argument
   pub arguments_next :
-      (base path : List ℕ) (k : ℕ) (ts : List Tree) (t : Tree) (old made more : List Place) →
+      (base path : List ℕ) (k : ℕ) (ts : List Tree) (t : Tree) (old made more : List Spot) →
       k < length ts → t ≡ get_or ts k t → path ≡ base ++ (k + 1) ∷ [] →
-      made ≡ old ++ places_below s base (argument_paths 1 (trees_of (take k ts))) →
-      more ≡ made ++ places_below s path (paths t) →
-      more ≡ old ++ places_below s base (argument_paths 1 (trees_of (take (k + 1) ts)))
+      made ≡ old ++ spots_below s base (argument_paths 1 (trees_of (take k ts))) →
+      more ≡ made ++ spots_below s path (paths t) →
+      more ≡ old ++ spots_below s base (argument_paths 1 (trees_of (take (k + 1) ts)))
   arguments_next base path k ts t old made more lt is there before next =
       let number : k + 1 ≡ 1 + length (take k ts) = omega (arith, length-take k ts) in
       let until = λ (us : List Tree). argument_paths 1 (trees_of us) in
-      let below = λ (ps : List (List ℕ × Tree)). places_below s base ps in
+      let below = λ (ps : List (List ℕ × Tree)). spots_below s base ps in
       let added : List (List ℕ × Tree) = map (in_argument (1 + length (take k ts))) (paths t) in
-      let done : List Place = below (until (take k ts)) in
-      let here : places_below s path (paths t) ≡ below added =
-      ap (λ q. places_below s q (paths t)) there
+      let done : List Spot = below (until (take k ts)) in
+      let here : spots_below s path (paths t) ≡ below added =
+      ap (λ q. spots_below s q (paths t)) there
       ∙ below_argument base (k + 1) (paths t)
       ∙ ap (λ m. below (map (in_argument m) (paths t))) number in
       let all : below (until (take (k + 1) ts)) ≡ done ++ below added =
@@ -83,24 +82,17 @@ module _ (s : Side) where
   -- the places of a side stand below the empty path
   below_side :
       (t : Tree) →
-      places_below s [] (paths t) ≡ places_of (side_spots s.conclusion s.number s.left t)
-  below_side t = go (paths t)
-    where
-      go :
-          (ps : List (List ℕ × Tree)) →
-          places_below s [] ps
-          ≡ places_of (map (λ p. record { place = place_at s p.0; term = p.1 }) ps)
-      go [] = refl
-      go (p ∷ ps) = ap (λ qs. place_at s p.0 ∷ qs) (go ps)
+      spots_below s [] (paths t) ≡ side_spots s.conclusion s.number s.left t
+  below_side t = refl
 
   -- where a walk along a side ends well, it has added the places of the side
   pub side_added :
-      {T E : Type 0} (r : Result T E) (path : List ℕ) (t : Tree) (old made : List Place) →
-      path ≡ [] → OnOk r (made ≡ old ++ places_below s path (paths t)) →
-      OnOk r (made ≡ old ++ places_of (side_spots s.conclusion s.number s.left t))
+      {T E : Type 0} (r : Result T E) (path : List ℕ) (t : Tree) (old made : List Spot) →
+      path ≡ [] → OnOk r (made ≡ old ++ spots_below s path (paths t)) →
+      OnOk r (made ≡ old ++ side_spots s.conclusion s.number s.left t)
   side_added (Ok x) path t old made e h =
       h
-      ∙ ap (λ q. old ++ places_below s q (paths t)) e
+      ∙ ap (λ q. old ++ spots_below s q (paths t)) e
       ∙ ap (λ ps. old ++ ps) (below_side t)
   side_added (Err x) path t old made e h = tt
 
@@ -131,29 +123,25 @@ module _ (conclusion : Bool) where
 
   -- one more equation
   pub equations_next :
-      (k : ℕ) (es : List Equation) (e : Equation) (old made first more : List Place) →
+      (k : ℕ) (es : List Equation) (e : Equation) (old made first more : List Spot) →
       k < length es → e ≡ get_or es k e →
-      made ≡ old ++ places_of (equation_spots conclusion 1 (take k es)) →
-      first ≡ made ++ places_of (side_spots conclusion (k + 1) true e.left) →
-      more ≡ first ++ places_of (side_spots conclusion (k + 1) false e.right) →
-      more ≡ old ++ places_of (equation_spots conclusion 1 (take (k + 1) es))
+      made ≡ old ++ equation_spots conclusion 1 (take k es) →
+      first ≡ made ++ side_spots conclusion (k + 1) true e.left →
+      more ≡ first ++ side_spots conclusion (k + 1) false e.right →
+      more ≡ old ++ equation_spots conclusion 1 (take (k + 1) es)
   equations_next k es e old made first more lt is before left right =
       let n : ℕ = 1 + length (take k es) in
       let number : k + 1 ≡ n = omega (arith, length-take k es) in
-      let place = λ (s : Spot). s.place in
       let until = λ (ds : List Equation). equation_spots conclusion 1 ds in
       let one = λ (m : ℕ). side_spots conclusion m true e.left in
       let other = λ (m : ℕ). side_spots conclusion m false e.right in
-      let done : List Place = places_of (until (take k es)) in
-      let added = λ (m : ℕ). places_of (one m) ++ places_of (other m) in
-      let all : places_of (until (take (k + 1) es)) ≡ done ++ added n =
-      ap (λ ds. places_of (until ds)) (taken_next es k e lt is)
-      ∙ ap places_of (equation_spots_more 1 (take k es) e)
-      ∙ map-append place (until (take k es)) (one n ++ other n)
-      ∙ ap (λ (ps : List Place). done ++ ps) (map-append place (one n) (other n)) in
+      let done : List Spot = until (take k es) in
+      let added = λ (m : ℕ). one m ++ other m in
+      let all : until (take (k + 1) es) ≡ done ++ added n =
+      ap until (taken_next es k e lt is) ∙ equation_spots_more 1 (take k es) e in
       right
-      ∙ ap (λ ps. ps ++ places_of (other (k + 1))) left
-      ∙ append_assoc made (places_of (one (k + 1))) (places_of (other (k + 1)))
+      ∙ ap (λ ps. ps ++ other (k + 1)) left
+      ∙ append_assoc made (one (k + 1)) (other (k + 1))
       ∙ (λ i. before i ++ added (number i))
       ∙ append_assoc old done (added n)
       ∙ ap (λ ps. old ++ ps) (sym all)

@@ -1,9 +1,10 @@
 -- Lemmas: which variables tests find, questions with at most one answer, the variables of sorted
--- clauses, what matching answers, and which equation leads.
+-- clauses, the entries of a match, what matching answers, and which equation leads.
 pub mod AllItems
 pub mod VariableTests
 pub mod Determined
 pub mod Variables
+mod BoundEntries
 mod TermLists
 mod LeadingEquations
 mod SampleLists

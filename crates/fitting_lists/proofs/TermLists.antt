@@ -1,116 +1,120 @@
--- What a match of a pattern finds answers the question for the pattern, and nothing else does.
-use Rattle.std.proofs.Common.{◌≡◌, ℕ, zero, suc, ◌<◌, List, [], ◌∷◌, Option, Some, None, inl, inr, map, length, unwrap_or, refl, ap, sym, ◌∙◌, subst, arith, ◌⊎◌}
-use Rattle.std.specs.Prelude.{◌↔◌, flat_map, option_to_list}
+-- What a match finds from no entries on answers the question for its patterns, and nothing else
+-- does.
+use Rattle.std.proofs.Common.{◌≡◌, ℕ, ◌<◌, List, [], ◌∷◌, Option, Some, None, Bool, true, false, inl, inr, map, length, refl, ap, sym, ◌∙◌, arith}
+use Rattle.std.specs.Prelude.{◌⊎◌, Ok, replicate}
 use Rattle.std.specs.Option.{IsSome}
-use Rattle.term_core.specs.Tree.{Tree, var, instance}
-use Rattle.term_core.specs.Variables.{Occurs}
-use Rattle.substitutions.specs.Substitution.{entry}
-use Rattle.substitutions.proofs.Instances.{apply_same, apply_values}
-use Rattle.unifier.specs.Matching.{IsMatch, HasNoMatch}
+use Rattle.term_core.specs.Tree.{Tree, some, none, trees_of, instance}
+use Rattle.term_core.specs.Variables.{Occurs, OccursAny}
+use Rattle.term_core.proofs.Trees.{trees_of-inj}
+use Rattle.substitutions.specs.Substitution.{entry, apply, apply_all}
+use Rattle.substitutions.proofs.Instances.{apply_all_values}
+use Rattle.unifier.specs.Extending.{Agrees, Binds, BindsAll}
+use Rattle.unifier.proofs.Bindings.{binds_rest}
 use Rattle.fitting_lists.specs.Questions.{Question, Answers}
 use Rattle.fitting_lists.specs.Answering.{AreVariables, IsOnlyAnswer}
-use Rattle.fitting_lists.proofs.Determined.{IsDetermined, one_list}
+use Rattle.fitting_lists.specs.Bindings.{present}
+use Rattle.fitting_lists.proofs.BoundEntries.{no_entry, filled, all_there, filled_length}
+use Rattle.fitting_lists.proofs.Determined.{IsDetermined, one_list, instances-trees_of}
 
--- the entries that are there
-abbrev pub present : List (Option Tree) → List Tree
-present entries = flat_map option_to_list entries
+-- a first pattern that fails fails the list, and one pattern is a list
+module _ (old new : List (Option Tree)) (p v : Tree) where
+  first_of :
+      (s : List (Option Tree)) (ps vs : List Tree) →
+      apply_all s (trees_of (p ∷ ps)) ≡ trees_of (v ∷ vs) → apply s p ≡ v
+  first_of s ps vs e =
+      let q : some (apply s p) (apply_all s (trees_of ps)) ≡ some v (trees_of vs) = e in cc
 
--- the terms as entries of the first variables
-abbrev entries_of : List Tree → List (Option Tree)
-entries_of terms = map (λ (t : Tree). Some t) terms
+  pub first_fails :
+      (ps vs : List Tree) (r : Bool) → r ≡ false → Binds old p v new r →
+      BindsAll old (p ∷ ps) (v ∷ vs) new false
+  first_fails ps vs r is b s agrees e =
+      let fails : Binds old p v new false = rw is at b in fails s agrees (first_of s ps vs e)
 
--- the list has the entries of all variables
-record Listed (s : List (Option Tree)) (count : ℕ) (ts : List Tree) : Type 0 where
-  long : length ts ≡ count
-  entries : (n : ℕ) → entry (entries_of ts) n ≡ entry s n
+  pub one_pattern :
+      (r : Bool) → Binds old p v new r → BindsAll old (p ∷ []) (v ∷ []) new r
+  one_pattern false b = first_fails [] [] false refl b
+  one_pattern true b = record {
+    made = ap (λ u. some u none) b.made;
+    keeps = b.keeps;
+    bound = λ n. (λ i. there n ((b.bound n).0 i), λ h. (b.bound n).1 (back n h));
+    only = λ s agrees e. b.only s agrees (first_of s [] [] e);
+  }
+    where
+      there :
+          (n : ℕ) → IsSome (entry old n) ⊎ Occurs n p →
+          IsSome (entry old n) ⊎ OccursAny n (trees_of (p ∷ []))
+      there n (inl i) = inl i
+      there n (inr o) = inr (inl o)
 
-nothing : (s : List (Option Tree)) → ((n : ℕ) → IsSome (entry s n) → ⊥) → present s ≡ []
-nothing [] h = refl
-nothing (Some t ∷ s) h = absurd (h 0 refl)
-nothing (None ∷ s) h = nothing s (λ n i. h (suc n) i)
+      back :
+          (n : ℕ) → IsSome (entry old n) ⊎ OccursAny n (trees_of (p ∷ [])) →
+          IsSome (entry old n) ⊎ Occurs n p
+      back n (inl i) = inl i
+      back n (inr (inl o)) = inr o
+      back n (inr (inr o)) = absurd o
 
-no_entry : (o : Option Tree) → (IsSome o → ⊥) → o ≡ None
-no_entry None h = refl
-no_entry (Some t) h = absurd (h refl)
+-- two patterns, the one after the other
+pub two_patterns :
+    (old mid new : List (Option Tree)) (p q v w : Tree) (r s : Bool) → r ≡ true →
+    Binds old p v mid r → Binds mid q w new s →
+    BindsAll old (p ∷ q ∷ []) (v ∷ w ∷ []) new s
+two_patterns old mid new p q v w r s is b c =
+    binds_rest old mid new (p ∷ q ∷ []) (v ∷ w ∷ []) p v (q ∷ []) (w ∷ []) r (Ok s) refl refl is b
+    (one_pattern mid new q w s c)
 
-more_entries :
-    (t : Tree) (ts : List Tree) (s : List (Option Tree)) →
-    ((n : ℕ) → entry (entries_of ts) n ≡ entry s n) → (n : ℕ) →
-    entry (entries_of (t ∷ ts)) n ≡ entry (Some t ∷ s) n
-more_entries t ts s h zero = refl
-more_entries t ts s h (suc n) = h n
+module _ (count : ℕ) (patterns terms : List Tree) where
+  -- which list makes the patterns the terms?
+  abbrev asked : Question
+  asked = record { variables = count; patterns = patterns; terms = terms }
 
-none_below :
-    (s : List (Option Tree)) → ((n : ℕ) → IsSome (entry s n) ↔ (n < 0)) → (n : ℕ) →
-    IsSome (entry s n) → ⊥
-none_below s h n i = let lt : n < 0 = (h n).0 i in omega arith
+  -- no variable has an entry yet
+  abbrev IsEmpty : List (Option Tree) → Type 0
+  IsEmpty old = old ≡ replicate count None
 
-listed :
-    (s : List (Option Tree)) (count : ℕ) → ((n : ℕ) → IsSome (entry s n) ↔ (n < count)) →
-    Listed s count (present s)
-listed [] zero h = record { long = refl; entries = λ n. refl }
-listed [] (suc k) h = absurd (let e : IsSome (entry [] 0) = (h 0).1 (omega arith) in cc)
-listed (Some t ∷ s) zero h = absurd (let lt : 0 < 0 = (h 0).0 refl in omega arith)
-listed (Some t ∷ s) (suc k) h =
-    let r = listed s k (λ n. (
-      λ i. let lt : suc n < suc k = (h (suc n)).0 i in omega arith,
-      λ lt. (h (suc n)).1 (omega arith),
-    )) in
-    record { long = omega (arith, r.long); entries = more_entries t (present s) s r.entries }
-listed (None ∷ s) zero h =
-    let none_there = none_below (None ∷ s) h in
-    let e : present s ≡ [] = nothing (None ∷ s) none_there in
-    record {
-      long = ap (λ us. length us) e;
-      entries = λ n.
-          ap (λ us. entry (entries_of us) n) e ∙ sym (no_entry (entry (None ∷ s) n) (none_there n));
-    }
-listed (None ∷ s) (suc k) h =
-    absurd (let e : IsSome (entry (None ∷ s) 0) = (h 0).1 (omega arith) in cc)
+  empty : (old : List (Option Tree)) → IsEmpty old → (n : ℕ) → entry old n ≡ None
+  empty old is n = ap (λ es. entry es n) is ∙ no_entry count n
 
--- which list makes the pattern the term?
-abbrev pub matching : ℕ → Tree → Tree → Question
-matching count pattern term =
-    record { variables = count; patterns = pattern ∷ []; terms = term ∷ [] }
+  all_agree : (old s : List (Option Tree)) → IsEmpty old → Agrees old s
+  all_agree old s is n t e =
+      absurd (let q : None ≡ Some t = sym (empty old is n) ∙ e in cc)
 
-only_one : (x y : Tree) → (x ∷ []) ≡ (y ∷ []) → x ≡ y
-only_one x y e = cc
+  made_by :
+      (list : List Tree) →
+      apply_all (filled list) (trees_of patterns) ≡ trees_of (map (instance list) patterns)
+  made_by list = apply_all_values list (trees_of patterns) ∙ instances-trees_of list patterns
 
-module _ (count : ℕ) (pattern term : Tree) where
-  pub no_list : HasNoMatch pattern term → IsOnlyAnswer (matching count pattern term) None
-  no_list h list a =
-      h (entries_of list) (apply_values list pattern ∙ only_one (instance list pattern) term a.1)
+  pub no_list :
+      (old new : List (Option Tree)) → IsEmpty old → BindsAll old patterns terms new false →
+      IsOnlyAnswer asked None
+  no_list old new is fails list a =
+      fails (filled list) (all_agree old (filled list) is) (made_by list ∙ ap trees_of a.1)
 
-  module _ (are : AreVariables count (pattern ∷ [])) where
-    determined : IsDetermined (matching count pattern term)
+  module _ (are : AreVariables count patterns) where
+    determined : IsDetermined asked
     determined n lt = (are n).1 lt
 
-    has_entry :
-        (s : List (Option Tree)) → IsMatch pattern term s → (n : ℕ) →
-        IsSome (entry s n) ↔ (n < count)
-    has_entry s m n = (λ i. (are n).0 (inl ((m.1 n).0 i)), λ lt. (m.1 n).1 (occurs ((are n).1 lt)))
-      where
-        occurs : Occurs n pattern ⊎ ⊥ → Occurs n pattern
-        occurs (inl o) = o
-        occurs (inr o) = absurd o
+    answers :
+        (new : List (Option Tree)) (list : List Tree) → length new ≡ count → new ≡ filled list →
+        apply_all new (trees_of patterns) ≡ trees_of terms → Answers asked list
+    answers new list long is made = (
+      filled_length new list is ∙ long,
+      trees_of-inj (map (instance list) patterns) terms
+          (sym (made_by list) ∙ ap (λ s. apply_all s (trees_of patterns)) (sym is) ∙ made),
+    )
 
-    makes : (s : List (Option Tree)) → IsMatch pattern term s → instance (present s) pattern ≡ term
-    makes s m =
-        let r = listed s count (has_entry s m) in
-        sym (apply_values (present s) pattern)
-        ∙ apply_same pattern (entries_of (present s)) s
-        (λ n o. ap (λ x. unwrap_or x (var n)) (r.entries n))
-        ∙ m.0
-
-    matched :
-        (s : List (Option Tree)) → IsMatch pattern term s →
-        Answers (matching count pattern term) (present s)
-    matched s m = ((listed s count (has_entry s m)).long, λ i. makes s m i ∷ [])
+    all_bound :
+        (old new : List (Option Tree)) → length new ≡ count → BindsAll old patterns terms new true →
+        (n : ℕ) → n < length new → IsSome (entry new n)
+    all_bound old new long found n lt =
+        (found.bound n).1 (inr ((are n).1 (omega (arith, lt, long))))
 
     pub only_list :
-        (s : List (Option Tree)) → IsMatch pattern term s → (list : List Tree) → list ≡ present s →
-        IsOnlyAnswer (matching count pattern term) (Some list)
-    only_list s m list is =
-        let q = matching count pattern term in
-        let a : Answers q list = subst (λ ts. Answers q ts) (sym is) (matched s m) in
-        (a, λ other b. one_list q other list determined b a)
+        (old new : List (Option Tree)) (r : Bool) (list : List Tree) → length new ≡ count →
+        r ≡ true → BindsAll old patterns terms new r → list ≡ present new →
+        IsOnlyAnswer asked (Some list)
+    only_list old new r list long matches binds is =
+        let found : BindsAll old patterns terms new true = rw matches at binds in
+        let bound = all_bound old new long found in
+        let full : new ≡ filled list = all_there new bound ∙ ap filled (sym is) in
+        let a : Answers asked list = answers new list long full found.made in
+        (a, λ other b. one_list asked other list determined b a)

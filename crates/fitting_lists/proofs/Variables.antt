@@ -1,9 +1,8 @@
 -- The variables of a sorted clause are those of its leading equation, and those of each side that
 -- may be rewritten.
-use Rattle.std.proofs.Common.{◌≡◌, ℕ, suc, ◌<◌, List, [], ◌∷◌, ◌++◌, Bool, true, false, Option, Some, None, inl, inr, refl, subst, length}
+use Rattle.std.proofs.Common.{◌≡◌, suc, List, [], ◌∷◌, ◌++◌, Bool, true, false, Option, Some, None, inl, inr, refl, subst, length}
 use Rattle.std.specs.List.{AllByRecursion}
-use Rattle.term_core.specs.Tree.{Tree, trees_of}
-use Rattle.term_core.specs.Variables.{OccursAny}
+use Rattle.term_core.specs.Tree.{Tree}
 use Rattle.term_core.specs.declared.ids.SortId.{SortId}
 use Rattle.term_core.proofs.Items.{all_append}
 use Rattle.spec_core.specs.declared.records.Equation.{Equation}
@@ -15,6 +14,7 @@ use Rattle.clause_core.specs.declared.clauses.Clause.{Clause}
 use Rattle.clause_core.specs.Clauses.{ClauseIsSorted}
 use Rattle.fitting_lists.specs.Fitting.{Located, both_sides, has_all, located, leading, sides_of, rewritable}
 use Rattle.fitting_lists.specs.Answering.{AreVariables, sides_given}
+use Rattle.fitting_lists.specs.Bindings.{AreWithin}
 use Rattle.fitting_lists.proofs.AllItems.{all_taken, all_kept}
 use Rattle.fitting_lists.proofs.VariableTests.{all_occur}
 
@@ -23,32 +23,29 @@ module _ (sig : Sig) (ctx : List SortId) where
   abbrev IsSorted : Equation → Type 0
   IsSorted e = (s : SortId) × Sorted sig ctx e.left s × Sorted sig ctx e.right s
 
-  -- the terms have no other variables than those with a sort
-  abbrev AreWithin : List Tree → Type 0
-  AreWithin ts = (n : ℕ) → OccursAny n (trees_of ts) → n < length ctx
-
-  left_within : (e : Equation) → IsSorted e → AreWithin (e.left ∷ [])
+  left_within : (e : Equation) → IsSorted e → AreWithin (length ctx) (e.left ∷ [])
   left_within e h n (inl o) = occurs_within sig ctx e.left h.0 h.1 n o
   left_within e h n (inr o) = absurd o
 
-  right_within : (e : Equation) → IsSorted e → AreWithin (e.right ∷ [])
+  right_within : (e : Equation) → IsSorted e → AreWithin (length ctx) (e.right ∷ [])
   right_within e h n (inl o) = occurs_within sig ctx e.right h.0 h.2 n o
   right_within e h n (inr o) = absurd o
 
-  sides_within : (e : Equation) → IsSorted e → AreWithin (both_sides e)
+  sides_within : (e : Equation) → IsSorted e → AreWithin (length ctx) (both_sides e)
   sides_within e h n (inl o) = occurs_within sig ctx e.left h.0 h.1 n o
   sides_within e h n (inr o) = right_within e h n o
 
   located_within :
       (k : Bool) (es : List Equation) → EquationsAreSorted sig ctx es →
-      AllByRecursion (λ (e : Located). AreWithin (both_sides e.equation)) (located k es)
+      AllByRecursion (λ (e : Located). AreWithin (length ctx) (both_sides e.equation))
+      (located k es)
   located_within k [] h = tt
   located_within k (e ∷ es) h =
       (sides_within e (h 0 e refl), located_within k es (λ n d at. h (suc n) d at))
 
   sides_of_within :
       (es : List Equation) → EquationsAreSorted sig ctx es →
-      AllByRecursion (λ (s : Bool × Tree). AreWithin (s.1 ∷ [])) (sides_of es)
+      AllByRecursion (λ (s : Bool × Tree). AreWithin (length ctx) (s.1 ∷ [])) (sides_of es)
   sides_of_within [] h = tt
   sides_of_within (e ∷ []) h =
       (left_within e (h 0 e refl), (right_within e (h 0 e refl), tt))
@@ -59,7 +56,7 @@ module _ (sig : Sig) (c : Clause) (sorted : ClauseIsSorted sig c) where
   abbrev HaveAll : List Tree → Type 0
   HaveAll ts = AreVariables (length c.ctx) ts
 
-  have_all : (ts : List Tree) → AreWithin sig c.ctx ts → has_all c ts ≡ true → HaveAll ts
+  have_all : (ts : List Tree) → AreWithin (length c.ctx) ts → has_all c ts ≡ true → HaveAll ts
   have_all ts within all n = (within n, all_occur c ts all n)
 
   abbrev LeadersHaveAll : List Located → Type 0
@@ -68,7 +65,7 @@ module _ (sig : Sig) (c : Clause) (sorted : ClauseIsSorted sig c) where
   -- the variables of the clause are those of the leading equation
   pub all_leading : LeadersHaveAll (leading c)
   all_leading =
-      let Within : Located → Type 0 = λ e. AreWithin sig c.ctx (both_sides e.equation) in
+      let Within : Located → Type 0 = λ e. AreWithin (length c.ctx) (both_sides e.equation) in
       let conclusions = located true c.conclusions in
       let premises = located false c.premises in
       all_taken _ 1 _ (
@@ -88,7 +85,7 @@ module _ (sig : Sig) (c : Clause) (sorted : ClauseIsSorted sig c) where
   -- and those of each side that may be rewritten
   pub all_rewritable : SidesHaveAll (rewritable c)
   all_rewritable =
-      all_kept (λ (s : Bool × Tree). AreWithin sig c.ctx (s.1 ∷ [])) _
+      all_kept (λ (s : Bool × Tree). AreWithin (length c.ctx) (s.1 ∷ [])) _
       (λ s. has_all c (s.1 ∷ [])) (sides_of c.conclusions)
       (λ s within all. have_all (s.1 ∷ []) within all)
       (sides_of_within sig c.ctx c.conclusions sorted.conclusions)

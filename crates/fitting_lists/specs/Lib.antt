@@ -4,3 +4,4 @@ pub mod Questions
 pub mod Fitting
 pub mod Answering
 pub mod Examples
+pub mod Bindings

@@ -1,16 +1,72 @@
-ghost use Rattle.std.specs.Prelude.{◌≡◌, List, [], ◌∷◌, IfOk, IsTrue, flat_map, option_to_list};
-ghost use Rattle.term_core.specs.Tree.{Tree, app as application, some, none, trees_of, instance, instances};
+ghost use Rattle.std.specs.Prelude.{◌≡◌, [], ◌∷◌, IfOk};
 ghost use Rattle.fitting_lists.specs.Answering.{AreVariables, IsOnlyAnswer};
 ghost use Rattle.fitting_lists.specs.Fitting.{both_sides};
 
+use crate::becoming::roots_agree;
+use crate::bindings::Bindings;
+use crate::matching::bind;
 use spec_core::Equation;
 use std::alloc::Global;
-use substitutions::Subst;
-use term_core::{Node, OutOfMemory, Seq, SymId, Term, Terms, front};
-use unifier::matches;
+use term_core::{OutOfMemory, Seq, Term, TermRefs};
 
 /// The terms for the variables of the equation, of which there are so many, by which its sides
-/// become these two. Where some symbol differs, nothing is copied.
+/// become these two, where they stand. Nothing is copied, and where a side has another symbol at
+/// its root nothing is allocated.
+pub fn fitting_match<'a>(
+    alloc: Global,
+    count: usize,
+    equation: &Equation,
+    left: &'a Term,
+    right: &'a Term,
+) -> Result<Option<TermRefs<'a>>, OutOfMemory>
+    requires { AreVariables count (both_sides equation.now) }
+    ensures { IfOk result (IsOnlyAnswer (record {
+      variables = count;
+      patterns = both_sides equation.now;
+      terms = left.now ∷ right.now ∷ [];
+    })) }
+{
+    if !roots_agree(&equation.left, left) || !roots_agree(&equation.right, right) {
+        return Ok(None);
+    }
+    let mut bindings = Bindings::of_count(alloc, count)?;
+    if !bind(&equation.left, left, &mut bindings) {
+        return Ok(None);
+    }
+    if !bind(&equation.right, right, &mut bindings) {
+        return Ok(None);
+    }
+    Ok(Some(bindings.terms(alloc)?))
+}
+
+/// The terms for the variables of the side, of which there are so many, by which it becomes the
+/// term, where they stand. Nothing is copied, and where the side has another symbol at its root
+/// nothing is allocated.
+pub fn rewriting_match<'a>(
+    alloc: Global,
+    count: usize,
+    side: &Term,
+    term: &'a Term,
+) -> Result<Option<TermRefs<'a>>, OutOfMemory>
+    requires { AreVariables count (side.now ∷ []) }
+    ensures { IfOk result (IsOnlyAnswer (record {
+      variables = count;
+      patterns = side.now ∷ [];
+      terms = term.now ∷ [];
+    })) }
+{
+    if !roots_agree(side, term) {
+        return Ok(None);
+    }
+    let mut bindings = Bindings::of_count(alloc, count)?;
+    if !bind(side, term, &mut bindings) {
+        return Ok(None);
+    }
+    Ok(Some(bindings.terms(alloc)?))
+}
+
+/// The terms for the variables of the equation, of which there are so many, by which its sides
+/// become these two. Where there are none, nothing is copied.
 pub fn fitting_terms(
     alloc: Global,
     count: usize,
@@ -25,16 +81,14 @@ pub fn fitting_terms(
       terms = left.now ∷ right.now ∷ [];
     })) }
 {
-    if !may_become(&equation.left, left) || !may_become(&equation.right, right) {
-        return Ok(None);
+    match fitting_match(alloc, count, equation, left, right)? {
+        None => Ok(None),
+        Some(found) => Ok(Some(copies(alloc, &found)?)),
     }
-    let pattern = pair(alloc, &equation.left, &equation.right)?;
-    let term = pair(alloc, left, right)?;
-    matched_terms(alloc, count, &pattern, &term)
 }
 
 /// The terms for the variables of the side, of which there are so many, by which it becomes the
-/// term. Where some symbol differs, nothing is copied.
+/// term. Where there are none, nothing is copied.
 pub fn rewriting_terms(
     alloc: Global,
     count: usize,
@@ -48,81 +102,20 @@ pub fn rewriting_terms(
       terms = term.now ∷ [];
     })) }
 {
-    if !may_become(side, term) {
-        return Ok(None);
-    }
-    matched_terms(alloc, count, side, term)
-}
-
-/// The same, where the term is matched.
-fn matched_terms(
-    alloc: Global,
-    count: usize,
-    pattern: &Term,
-    term: &Term,
-) -> Result<Option<Seq<Term>>, OutOfMemory>
-    requires { AreVariables count (pattern.now ∷ []) }
-    ensures { IfOk result (IsOnlyAnswer (record {
-      variables = count;
-      patterns = pattern.now ∷ [];
-      terms = term.now ∷ [];
-    })) }
-{
-    match matches(alloc, pattern, term)? {
+    match rewriting_match(alloc, count, side, term)? {
         None => Ok(None),
-        Some(entries) => Ok(Some(Seq::from_vec(terms_of(alloc, entries)?))),
+        Some(found) => Ok(Some(copies(alloc, &found)?)),
     }
 }
 
-/// Both terms as the arguments of one symbol.
-fn pair(alloc: Global, left: &Term, right: &Term) -> Result<Term, OutOfMemory>
-    ensures { IfOk result (λ made. made ≡ application 0 (some left.now (some right.now none))) }
+/// Copies of the terms, in their order.
+pub fn copies(alloc: Global, terms: &TermRefs) -> Result<Seq<Term>, OutOfMemory>
+    ensures { IfOk result (λ made. made ≡ terms.now) }
 {
-    let mut args = Terms::with_capacity(alloc, 2)?;
-    args.push(left.copy(alloc)?)?;
-    args.push(right.copy(alloc)?)?;
-    Ok(Term::app(SymId(0), args))
-}
-
-/// The entries that are there, by the numbers of their variables.
-fn terms_of(alloc: Global, entries: Subst) -> Result<Vec<Term>, OutOfMemory>
-    ensures { IfOk result (λ made. made.items ≡ flat_map option_to_list entries.terms) }
-{
-    let mut made = Vec::with_capacity(alloc, entries.terms.len())?;
-    for entry in entries.terms.into_vec() {
-        if let Some(term) = entry {
-            made.push(term)?;
-        }
+    let refs = terms.as_slice();
+    let mut made = Vec::with_capacity(alloc, refs.len())?;
+    for term in refs {
+        made.push(term.copy(alloc)?)?;
     }
-    Ok(made)
-}
-
-/// Whether the symbols of the pattern stand in the term too. Where they don't, no list makes the
-/// pattern the term.
-#[cycle(may_become)]
-fn may_become(pattern: &Term, term: &Term) -> bool
-    ensures { (list : List Tree) → instance list pattern.now ≡ term.now → IsTrue result }
-{
-    match (&pattern.node, &term.node) {
-        (Node::Var(_), _) => true,
-        (Node::App(sym, patterns), Node::App(other, terms)) => {
-            sym == other && may_become_all(patterns.as_slice(), terms.as_slice())
-        }
-        _ => false,
-    }
-}
-
-/// The same of patterns and terms, in their order.
-#[cycle(may_become)]
-fn may_become_all(patterns: &[Term], terms: &[Term]) -> bool
-    ensures { (list : List Tree) →
-        instances list (trees_of patterns.now) ≡ trees_of terms.now → IsTrue result }
-{
-    match (front(patterns), front(terms)) {
-        (None, None) => true,
-        (Some((pattern, patterns)), Some((term, terms))) => {
-            may_become(pattern, term) && may_become_all(patterns, terms)
-        }
-        _ => false,
-    }
+    Ok(Seq::from_vec(made))
 }

@@ -1,6 +1,7 @@
 use Rattle.std.proofs.Common.{◌≡◌, ◌+◌, ap, sym, ◌∙◌, arith}
 use Rattle.term_core.specs.Tree.{app, trees_of}
 use Rattle.term_core.specs.View.{tree_of}
+use Rattle.clause_places.specs.Walk.{spots_of}
 use Rattle.clause_places.proofs.WalkedPlaces.{arguments_next, narrow_arguments, lighter_arguments, pushed, popped}
 use Rattle.clause_places.proofs.walk.+walk.Goals as goal
 
@@ -30,7 +31,8 @@ add_arguments-loop-index-preserved t c =
           (sym c.add_term.new.path.ok.0) there c.in_ok-add_term.ensures.path c.pop.ensures.rest;
       made =
           arguments_next c.args.side c.args.path.now.items c.push.new.self.items
-          c.loop-index.index c.args.terms.now c.index-terms-index.result c.args.made.now.items
-          c.loop-index.made.items c.add_term.new.made.items c.loop-index-test.true
+          c.loop-index.index c.args.terms.now c.index-terms-index.result (spots_of c.args.made.now.items)
+          (spots_of c.loop-index.made.items) (spots_of c.add_term.new.made.items)
+          c.loop-index-test.true
           c.index-terms-index.is there c.loop-index.invariant.made c.in_ok-add_term.ensures.made;
     }

@@ -2,7 +2,7 @@ use Rattle.std.proofs.Common.{◌≡◌, ◌++◌, take}
 use Rattle.term_core.specs.Tree.{trees_of}
 use Rattle.term_core.specs.Measure.{weight, list_weight}
 use Rattle.clause_places.specs.Spots.{argument_paths}
-use Rattle.clause_places.specs.Walk.{places_below}
+use Rattle.clause_places.specs.Walk.{spots_of, spots_below}
 use Rattle.clause_places.proofs.walk.+walk.Given as goal
 
 abbrev pub decreases-add_term : goal.decreases-add_term
@@ -15,7 +15,7 @@ abbrev pub invariant-add_arguments-loop-index : goal.invariant-add_arguments-loo
 invariant-add_arguments-loop-index l = record {
   path : l.path.items ≡ l.fn.path.items;
   made :
-      l.made.items
-      ≡ l.fn.made.items
-      ++ places_below l.side l.fn.path.items (argument_paths 1 (trees_of (take l.index l.terms)));
+      spots_of l.made.items
+      ≡ spots_of l.fn.made.items
+      ++ spots_below l.side l.fn.path.items (argument_paths 1 (trees_of (take l.index l.terms)));
 }

@@ -1,3 +1,4 @@
+use Rattle.clause_places.specs.Walk.{spots_of}
 use Rattle.clause_places.proofs.WalkedPlaces.{narrow_sides_at, equations_next}
 use Rattle.clause_places.proofs.walk.add_equations.Goals as goal
 
@@ -18,7 +19,8 @@ add_side-requires-in-loop-index c =
 pub loop-index-preserved : goal.loop-index-preserved
 loop-index-preserved c =
     equations_next c.args.conclusion c.loop-index.index c.args.equations.now
-    c.index-equations-index.result c.args.made.now.items c.loop-index.made.items
-    c.add_side.new.made.items c.add_side-in-loop-index.new.made.items c.loop-index-test.true
+    c.index-equations-index.result (spots_of c.args.made.now.items) (spots_of c.loop-index.made.items)
+    (spots_of c.add_side.new.made.items) (spots_of c.add_side-in-loop-index.new.made.items)
+    c.loop-index-test.true
     c.index-equations-index.is c.loop-index.invariant c.in_ok-add_side.ensures
     c.in_ok-add_side-2.ensures

@@ -1,6 +1,6 @@
 -- Patterns fall by weight.
 use Rattle.term_core.specs.Measure.{weight, list_weight}
-use Rattle.fitting_lists.proofs.term_lists.+may_become.Given as goal
+use Rattle.fitting_lists.proofs.becoming.+may_become.Given as goal
 
 abbrev pub decreases-may_become : goal.decreases-may_become
 decreases-may_become l = weight l.pattern.now

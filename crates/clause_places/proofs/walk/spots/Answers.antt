@@ -4,7 +4,7 @@ use Rattle.spec_core.specs.declared.records.Equation.{Equation}
 use Rattle.clause_core.specs.Clauses.{sides_of}
 use Rattle.clause_places.specs.Numbers.{IsNarrow}
 use Rattle.clause_places.proofs.WalkedPlaces.{narrow_parts}
-use Rattle.clause_places.proofs.walk.places.Goals as goal
+use Rattle.clause_places.proofs.walk.spots.Goals as goal
 
 pub add_equations-requires-2-clause-narrow : goal.add_equations-requires-2-clause-narrow
 add_equations-requires-2-clause-narrow c =

@@ -1,0 +1,46 @@
+ghost use Rattle.std.specs.Prelude.{◌≡◌, List, IsTrue};
+ghost use Rattle.term_core.specs.Tree.{Tree, trees_of, instance, instances};
+
+use term_core::{Node, Term, front};
+
+/// Whether the symbols of the pattern stand in the term too. Where they don't, no list makes the
+/// pattern the term. Repeated variables are not compared.
+#[cycle(may_become)]
+pub fn may_become(pattern: &Term, term: &Term) -> bool
+    ensures { (list : List Tree) → instance list pattern.now ≡ term.now → IsTrue result }
+{
+    match (&pattern.node, &term.node) {
+        (Node::Var(_), _) => true,
+        (Node::App(sym, patterns), Node::App(other, terms)) => {
+            sym == other && may_become_all(patterns.as_slice(), terms.as_slice())
+        }
+        _ => false,
+    }
+}
+
+/// The same of patterns and terms, in their order.
+#[cycle(may_become)]
+fn may_become_all(patterns: &[Term], terms: &[Term]) -> bool
+    ensures { (list : List Tree) →
+        instances list (trees_of patterns.now) ≡ trees_of terms.now → IsTrue result }
+{
+    match (front(patterns), front(terms)) {
+        (None, None) => true,
+        (Some((pattern, patterns)), Some((term, terms))) => {
+            may_become(pattern, term) && may_become_all(patterns, terms)
+        }
+        _ => false,
+    }
+}
+
+/// Whether the root of the pattern is a variable or the symbol at the root of the term. Where it is
+/// neither, no list makes the pattern the term.
+pub(crate) fn roots_agree(pattern: &Term, term: &Term) -> bool
+    ensures { (list : List Tree) → instance list pattern.now ≡ term.now → IsTrue result }
+{
+    match (&pattern.node, &term.node) {
+        (Node::Var(_), _) => true,
+        (Node::App(sym, _), Node::App(other, _)) => sym == other,
+        _ => false,
+    }
+}
