@@ -7,7 +7,8 @@ ghost use Rattle.cond_rewrite.specs.Applied.{applied_guard, applied_case, IsChil
 
 use crate::guards::boolean;
 use crate::instances::small_instance;
-use clause_core::{Clause, Place, tidy, within};
+use crate::numbering::is_tidied;
+use clause_core::{Clause, Place, tidy, tidying_laws, within};
 use spec_core::{Equation, Guard, Rule};
 use std::alloc::Global;
 use substitutions::Subst;
@@ -58,7 +59,7 @@ pub(crate) fn case_child(
         premises,
         conclusions: made.conclusions,
     };
-    tidied_within(alloc, &split)
+    tidied_within(alloc, split)
 }
 
 /// Each guard's instance, equated to the constant that it wants, or None where one of these alone
@@ -93,12 +94,17 @@ fn joined(first: Seq<Equation>, second: Seq<Equation>) -> Result<Seq<Equation>, 
     Ok(Seq::from_vec(made))
 }
 
-/// The clause, tidied, or None where it passes the limits of clauses.
-pub(crate) fn tidied_within(alloc: Global, clause: &Clause) -> Result<Option<Clause>, OutOfMemory>
-    ensures { IfOk result (IsChildWithin clause.now) }
+/// The clause, tidied, or None where it passes the limits of clauses. It isn't copied where it is
+/// tidied already.
+pub(crate) fn tidied_within(alloc: Global, clause: Clause) -> Result<Option<Clause>, OutOfMemory>
+    ensures { IfOk result (IsChildWithin clause) }
 {
-    if !within(clause) {
+    tidying_laws();
+    if !within(&clause) {
         return Ok(None);
     }
-    Ok(Some(tidy(alloc, clause)?))
+    if is_tidied(&clause) {
+        return Ok(Some(clause));
+    }
+    Ok(Some(tidy(alloc, &clause)?))
 }

@@ -13,6 +13,7 @@ mod children;
 mod guards;
 mod instances;
 mod laws;
+mod numbering;
 mod rewriting;
 mod rules;
 

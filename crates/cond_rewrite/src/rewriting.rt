@@ -45,7 +45,7 @@ pub fn rewrite_at(
     let Some(made) = rewritten(alloc, clause, place, &theta, &by_rule.right)? else {
         return Err(RewriteError::Limit);
     };
-    let Some(child) = tidied_within(alloc, &made)? else {
+    let Some(child) = tidied_within(alloc, made)? else {
         return Err(RewriteError::Limit);
     };
     Ok(child)

@@ -17,5 +17,6 @@ mod ReferredInstances
 mod ReferredRows
 mod TestableSides
 mod ReplacedTerms
+mod HeldChildren
 mod Parts
 mod Generalized

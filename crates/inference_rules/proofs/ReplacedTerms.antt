@@ -1,12 +1,12 @@
 -- A term at a place that is exchanged by an equation: what the rows say of it.
-use Rattle.std.proofs.Common.{◌≡◌, ℕ, ◌≤◌, length, arith, List, [], ◌∷◌, Bool, not, inl, inr, refl, ap, sym, ◌∙◌, subst}
-use Rattle.term_core.specs.Tree.{Tree, tree_size}
+use Rattle.std.proofs.Common.{◌≡◌, ℕ, length, arith, List, [], ◌∷◌, Bool, not, inl, inr, refl, ap, sym, ◌∙◌, subst}
+use Rattle.term_core.specs.Tree.{Tree}
 use Rattle.spec_core.specs.declared.records.Equation.{Equation}
 use Rattle.spec_core.specs.declared.records.Spec.{Spec}
 use Rattle.clause_core.specs.declared.clauses.Clause.{Clause}
 use Rattle.clause_core.specs.declared.steps.Place.{Place}
 use Rattle.clause_core.specs.declared.answers.Why.TheVariants.{DoesNotFit, NoSuchPlace}
-use Rattle.clause_core.specs.Comparing.{SidesAreTestable}
+use Rattle.clause_core.specs.Comparing.{IsTestable}
 use Rattle.clause_core.specs.Limits.{IsWithin}
 use Rattle.clause_core.specs.NumberedEquations.{EquationAt}
 use Rattle.clause_core.specs.Places.{TermAt, side, holding}
@@ -14,21 +14,17 @@ use Rattle.clause_core.specs.Referred.{PremisesAreThere}
 use Rattle.clause_core.specs.Replacing.{Rewrites, context_row, replaced_by}
 use Rattle.clause_core.specs.Rows.{compared_child}
 use Rattle.inference_rules.specs.Conditions.{Refuses, Makes}
-use Rattle.inference_rules.proofs.TestableSides.{holding_testable, premise_side, conclusion_side}
+use Rattle.inference_rules.proofs.TestableSides.{premise_side, conclusion_side}
 
-module _ (c : Clause) (place : Place) (left : Bool) (at : TermAt c place) (w : IsWithin c) (e : Equation) (new : Tree) (other : new ≡ side (not left) e) (d : Clause) (held : d ≡ holding at new) where
-  -- the other side of an equation of a clause within the limits makes a clause that can be compared
-  held_testable : tree_size (side (not left) e) ≤ 4000 → SidesAreTestable d
-  held_testable small =
-      subst SidesAreTestable (sym held) (holding_testable c place at new w (subst (λ z. tree_size z ≤ 4000) (sym other) small))
+module _ (left : Bool) (e : Equation) (new : Tree) (other : new ≡ side (not left) e) where
+  -- the other side of an equation of a clause within the limits can be compared
+  pub context_testable : (c : Clause) → IsWithin c → (number : ℕ) (own : EquationAt c.premises number) → own.equation ≡ e → IsTestable new
+  context_testable c w number own is =
+      subst IsTestable (sym other) (subst (λ z. IsTestable (side (not left) z)) is (premise_side c number own (not left) w))
 
-  pub context_testable : (number : ℕ) (own : EquationAt c.premises number) → own.equation ≡ e → SidesAreTestable d
-  context_testable number own is =
-      held_testable (subst (λ z. tree_size (side (not left) z) ≤ 4000) is (premise_side c number own (not left) w))
-
-  pub replaced_testable : (x : Clause) (t : Tree) (r : Rewrites c x t left) → r.equation ≡ e → IsWithin x → SidesAreTestable d
-  replaced_testable x t r is v =
-      held_testable (subst (λ z. tree_size (side (not left) z) ≤ 4000) is (conclusion_side x r.equation (not left) r.alone v))
+  pub replaced_testable : (c x : Clause) (t : Tree) (r : Rewrites c x t left) → r.equation ≡ e → IsWithin x → IsTestable new
+  replaced_testable c x t r is v =
+      subst IsTestable (sym other) (subst (λ z. IsTestable (side (not left) z)) is (conclusion_side x r.equation (not left) r.alone v))
 
 module _ (spec : Spec) (c : Clause) (place : Place) (left : Bool) where
   -- `context`: the term at the place and the premise are t and e
@@ -37,11 +33,11 @@ module _ (spec : Spec) (c : Clause) (place : Place) (left : Bool) where
     not_context n = inl ((at, own), inr ((λ q. n (ap (λ z. side left z) (sym is) ∙ q ∙ term)), refl))
 
     pub context_made :
-        side left e ≡ t → (new : Tree) → new ≡ side (not left) e → (d : Clause) → d ≡ holding at new →
-        Makes (context_row spec c place number left) (compared_child d ∷ []) []
-    context_made q new other d held =
+        side left e ≡ t → (new : Tree) → new ≡ side (not left) e →
+        Makes (context_row spec c place number left) (compared_child (holding at new) ∷ []) []
+    context_made q new other =
         let same : side left own.equation ≡ at.term = ap (λ z. side left z) is ∙ q ∙ sym term in
-        let child : holding at (side (not left) own.equation) ≡ d = ap (λ z. holding at z) (ap (λ z. side (not left) z) is ∙ sym other) ∙ sym held in
+        let child : holding at (side (not left) own.equation) ≡ holding at new = ap (λ z. holding at z) (ap (λ z. side (not left) z) is ∙ sym other) in
         ((at, own), (same, ((λ i. compared_child (child i) ∷ []), refl)))
 
   -- `hyp` and `lemma`: x is the instance
@@ -53,10 +49,10 @@ module _ (spec : Spec) (c : Clause) (place : Place) (left : Bool) where
       pub not_rewritten : (Rewrites c x t left → ⊥) → Refuses (replaced_by spec c x place left refs) DoesNotFit
       not_rewritten n = inl (at, inr ((λ r. n (record { equation = r.equation; alone = r.alone; premises = r.premises; is = r.is ∙ term })), refl))
 
-      module _ (r : Rewrites c x t left) (e : Equation) (is : r.equation ≡ e) (new : Tree) (other : new ≡ side (not left) e) (d : Clause) (held : d ≡ holding at new) where
-        pub replaced : Makes (replaced_by spec c x place left refs) (compared_child d ∷ []) refs
+      module _ (r : Rewrites c x t left) (e : Equation) (is : r.equation ≡ e) (new : Tree) (other : new ≡ side (not left) e) where
+        pub replaced : Makes (replaced_by spec c x place left refs) (compared_child (holding at new) ∷ []) refs
         replaced =
-            let child : holding at (side (not left) r.equation) ≡ d = ap (λ z. holding at z) (ap (λ z. side (not left) z) is ∙ sym other) ∙ sym held in
+            let child : holding at (side (not left) r.equation) ≡ holding at new = ap (λ z. holding at z) (ap (λ z. side (not left) z) is ∙ sym other) in
             (at, (record { equation = r.equation; alone = r.alone; premises = r.premises; is = r.is ∙ sym term }, ((λ i. compared_child (child i) ∷ []), refl)))
 
 pub no_items : {X : Type 0} (xs : List X) → length xs ≡ 0 → xs ≡ []

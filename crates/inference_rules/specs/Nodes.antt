@@ -1,5 +1,5 @@
 -- The clauses of nodes.
-use Rattle.std.specs.Prelude.{◌≡◌, ℕ, List, [], Some, map, slice_get}
+use Rattle.std.specs.Prelude.{◌≡◌, ℕ, List, [], ◌∷◌, Option, Some, None, map, slice_get}
 use Rattle.spec_core.specs.Sig.{Sig}
 use Rattle.clause_core.specs.declared.clauses.Clause.{Clause}
 use Rattle.clause_core.specs.declared.clauses.Relation.{Relation}
@@ -19,3 +19,8 @@ clauses_made made = map (λ (d : Child). d.clause) made.clauses
 abbrev pub children_with : Relation → List Clause → Children
 children_with relation ds =
     record { clauses = map (λ (d : Clause). record { clause = d; relation = relation }) ds; refs = [] }
+
+-- the reference that a step makes to a node by an instance of it, where it makes one
+abbrev pub referred_to : Option ℕ → Clause → List (ℕ × Clause)
+referred_to (Some node) instance = (node, instance) ∷ []
+referred_to None instance = []

@@ -1,10 +1,11 @@
-ghost use Rattle.std.specs.Prelude.{◌≡◌, ◌↔◌, ℕ, List, Ok, [], IfOk, IsTrue, length, map};
+ghost use Rattle.std.specs.Prelude.{◌≡◌, ◌↔◌, ℕ, List, Ok, [], ◌∷◌, IfOk, IsTrue, length, map};
 ghost use Rattle.std.specs.List.{AllByRecursion};
 ghost use Rattle.term_core.specs.Tree.{Tree};
 ghost use Rattle.clause_core.specs.declared.clauses.Clause.{Clause as ClauseOf};
 ghost use Rattle.clause_core.specs.declared.answers.Child.{Child as ChildOf};
 ghost use Rattle.clause_core.specs.Limits.{IsWithin};
-ghost use Rattle.clause_core.specs.Comparing.{SidesAreTestable};
+ghost use Rattle.clause_core.specs.Comparing.{IsTestable, SidesAreTestable};
+ghost use Rattle.clause_core.specs.Places.{TermAt, holding};
 ghost use Rattle.clause_core.specs.Rows.{child, compared_child, makes};
 ghost use Rattle.clause_core.specs.Says.{Pairwise, IsChild, IsReference, Says};
 ghost use Rattle.inference_rules.specs.Answers.{Answered, AnsweredAlone, IsLimited};
@@ -12,10 +13,13 @@ ghost use Rattle.inference_rules.specs.Counting.{IsCounted};
 ghost use Rattle.inference_rules.specs.Nodes.{children_with};
 
 use crate::nodes::StepError;
-use clause_core::{Child, Children, Clause, Reference, Relation, Why, compare, tidy, within};
+use clause_core::{
+    Child, Children, Clause, Place, Reference, Relation, Why, compare, tidy, within,
+};
 use path_order::TermOrder;
+use place_comparison::{relation_at, within_at};
 use std::alloc::Global;
-use term_core::{OutOfMemory, Seq};
+use term_core::{OutOfMemory, Seq, Term};
 
 /// The most nodes of a block.
 const MOST_NODES: usize = 10_000;
@@ -79,22 +83,35 @@ pub(crate) fn with_relation(
     })
 }
 
-/// A child, tidied, that is compared with the node's clause as it is before that.
-pub(crate) fn compared<O: TermOrder>(
+/// The child whose place holds the new term instead of the old one, tidied, with these references.
+/// It is compared with the node's clause as it is before that, by the two terms alone. A child that
+/// passes the limits isn't built.
+pub(crate) fn child_holding<O: TermOrder>(
     alloc: Global,
     order: &O,
-    clause: &Clause,
-    other: &Clause,
-) -> Result<Child, OutOfMemory>
-    requires node { SidesAreTestable clause.now }
-    requires child { SidesAreTestable other.now }
-    ensures { IfOk result (λ made.
-        IsChild (O.above order.now) clause.now (compared_child other.now) made) }
+    here: &Clause,
+    place: &Place,
+    old: &Term,
+    new: &Term,
+    refs: Seq<Reference>,
+) -> Result<Children, StepError>
+    requires here { IsWithin here.now }
+    requires there { (at : TermAt here.now place.now) × (at.term ≡ old.now) }
+    requires new { IsTestable new.now }
+    ensures { (at : TermAt here.now place.now) (referred : List (ℕ × ClauseOf)) →
+        Pairwise (IsReference (O.above order.now) here.now) referred refs →
+        Answered (O.above order.now) here.now []
+        (makes (compared_child (holding at new.now) ∷ []) referred) result }
 {
-    Ok(Child {
-        clause: tidy(alloc, other)?,
-        relation: compare(alloc, order, clause, other)?,
-    })
+    let relation = relation_at(order, old, new);
+    if !within_at(here, place, old, new) {
+        return Err(StepError::Why(Why::Limit));
+    }
+    let child = here.holding(alloc, place, new)?;
+    let clause = tidy(alloc, &child)?;
+    let mut clauses = Seq::new(alloc);
+    clauses.push(Child { clause, relation })?;
+    Ok(Children { clauses, refs })
 }
 
 /// A reference to the node of this number, with whose instance the node's clause is compared.

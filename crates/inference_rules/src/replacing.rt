@@ -1,22 +1,20 @@
-ghost use Rattle.std.specs.Prelude.{◌≡◌, ℕ, List, [], ◌∷◌, IfOk, MatchOption, MatchResult, Contains};
+ghost use Rattle.std.specs.Prelude.{◌≡◌, [], IfOk, MatchOption, Contains};
 ghost use Rattle.spec_core.specs.declared.records.Spec.{Spec as SpecOf};
-ghost use Rattle.clause_core.specs.declared.clauses.Clause.{Clause as ClauseOf};
-ghost use Rattle.clause_core.specs.Comparing.{SidesAreTestable};
 ghost use Rattle.clause_core.specs.Limits.{IsWithin};
 ghost use Rattle.clause_core.specs.Replacing.{Rewrites, context_row, hyp_row, lemma_row, rewritten_by};
-ghost use Rattle.clause_core.specs.Rows.{compared_child};
 ghost use Rattle.clause_core.specs.Places.{side as side_of};
+ghost use Rattle.clause_core.specs.Says.{Pairwise, IsReference};
 ghost use Rattle.inference_rules.specs.Answers.{Answered, clauses_of};
-ghost use Rattle.inference_rules.specs.Conditions.{Makes, RefusesWith};
+ghost use Rattle.inference_rules.specs.Nodes.{referred_to};
 
-use crate::making::{compared, limited, reference};
+use crate::making::{child_holding, reference};
 use crate::nodes::{Node, StepError};
 use crate::referring::{instance_here, node_at, premises_are_there, usable_goal};
-use clause_core::{Children, Clause, Place, Why, of_goal};
+use clause_core::{Children, Clause, Place, Reference, Why, of_goal};
 use path_order::TermOrder;
 use spec_core::{Equation, Spec};
 use std::alloc::Global;
-use term_core::{Name, Seq, Term, front};
+use term_core::{Name, OutOfMemory, Seq, Term, front};
 
 /// How an equation that is referred to rewrites: by the instance with these terms for its
 /// variables, the term at this place, from left to right where `left` is true.
@@ -47,10 +45,8 @@ pub(crate) fn context<O: TermOrder>(
     if !side(premise, left).same(term) {
         return Err(StepError::Why(Why::DoesNotFit));
     }
-    let child = here.holding(alloc, place, side(premise, !left))?;
-    let mut clauses = Seq::new(alloc);
-    clauses.push(compared(alloc, order, here, &child)?)?;
-    limited(clauses, Seq::new(alloc))
+    let refs = Seq::new(alloc);
+    child_holding(alloc, order, here, place, term, side(premise, !left), refs)
 }
 
 /// `hyp`: the term at the place is a side of the one conclusion of an instance of the node of this
@@ -72,12 +68,7 @@ pub(crate) fn hyp<O: TermOrder>(
     let Some(node) = node_at(nodes, number) else {
         return Err(StepError::Why(Why::NoSuchNode));
     };
-    let made = rewrite(alloc, spec, here, &node.clause, how)?;
-    let mut refs = Seq::new(alloc);
-    refs.push(reference(alloc, order, here, number, &made.instance)?)?;
-    let mut clauses = Seq::new(alloc);
-    clauses.push(compared(alloc, order, here, &made.child)?)?;
-    limited(clauses, refs)
+    rewrite(alloc, spec, order, here, &node.clause, Some(number), how)
 }
 
 /// `lemma`: the same with an instance of the goal of this name, of those that may be used.
@@ -99,35 +90,24 @@ pub(crate) fn lemma<O: TermOrder>(
         return Err(StepError::Why(Why::NotProvedBefore));
     };
     let lemma = of_goal(alloc, goal)?;
-    let made = rewrite(alloc, spec, here, &lemma, how)?;
-    let mut clauses = Seq::new(alloc);
-    clauses.push(compared(alloc, order, here, &made.child)?)?;
-    limited(clauses, Seq::new(alloc))
+    rewrite(alloc, spec, order, here, &lemma, None, how)
 }
 
-/// An instance of a clause, and what its conclusion makes of the clause here.
-#[derive(Drop)]
-struct Rewritten {
-    instance: Clause,
-    child: Clause,
-}
-
-/// The clause here with the other side of an instance's conclusion at the place.
-fn rewrite(
+/// The clause here with the other side of an instance's conclusion at the place, and a reference
+/// to the instance if it is one of a node.
+fn rewrite<O: TermOrder>(
     alloc: Global,
     spec: &Spec,
+    order: &O,
     here: &Clause,
     clause: &Clause,
+    node: Option<u32>,
     how: &Rewriting,
-) -> Result<Rewritten, StepError>
+) -> Result<Children, StepError>
     requires { IsWithin here.now }
-    ensures within { IfOk result (λ made. IsWithin made.instance × SidesAreTestable made.child) }
-    ensures row { (refs : ClauseOf → List (ℕ × ClauseOf)) → MatchResult result
-        (λ made. Makes (rewritten_by spec.now here.now clause.now
-        how.now.terms.now how.now.place.now how.now.left refs)
-        (compared_child made.child ∷ []) (refs made.instance))
-        (λ error. RefusesWith (rewritten_by spec.now here.now clause.now
-        how.now.terms.now how.now.place.now how.now.left refs) error) }
+    ensures { Answered (O.above order.now) here.now []
+        (rewritten_by spec.now here.now clause.now
+        how.now.terms.now how.now.place.now how.now.left (referred_to node)) result }
 {
     let instance = instance_here(alloc, spec, here, clause, how.terms)?;
     let Some(term) = here.term_at(how.place) else {
@@ -136,8 +116,36 @@ fn rewrite(
     let Some(equation) = usable_conclusion(here, &instance, term, how.left) else {
         return Err(StepError::Why(Why::DoesNotFit));
     };
-    let child = here.holding(alloc, how.place, side(equation, !how.left))?;
-    Ok(Rewritten { instance, child })
+    let refs = references(alloc, order, here, node, &instance)?;
+    child_holding(
+        alloc,
+        order,
+        here,
+        how.place,
+        term,
+        side(equation, !how.left),
+        refs,
+    )
+}
+
+/// A reference to the node of this number, if there is one, with its instance.
+fn references<O: TermOrder>(
+    alloc: Global,
+    order: &O,
+    here: &Clause,
+    node: Option<u32>,
+    instance: &Clause,
+) -> Result<Seq<Reference>, OutOfMemory>
+    requires here { IsWithin here.now }
+    requires instance { IsWithin instance.now }
+    ensures { IfOk result (Pairwise (IsReference (O.above order.now) here.now)
+        (referred_to node instance.now)) }
+{
+    let mut refs = Seq::new(alloc);
+    if let Some(number) = node {
+        refs.push(reference(alloc, order, here, number, instance)?)?;
+    }
+    Ok(refs)
 }
 
 /// The one conclusion of the instance, if this side of it is the term and the premises of the

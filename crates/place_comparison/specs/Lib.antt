@@ -1,0 +1,2 @@
+-- How terms compare, and that a place decides how clauses do.
+pub mod AtPlaces

@@ -1,0 +1,47 @@
+ghost use Rattle.std.specs.Prelude.{◌≡◌, ◌↔◌, IsTrue, min};
+ghost use Rattle.term_core.specs.Tree.{trees_of, sizes};
+ghost use Rattle.clause_core.specs.Clauses.{sides_of};
+ghost use Rattle.clause_core.specs.Limits.{IsWithin};
+ghost use Rattle.clause_core.specs.Places.{TermAt, holding};
+
+use clause_core::{Clause, Place};
+use spec_core::Equation;
+use term_core::Term;
+
+/// The greatest depth of a clause in a proof.
+const MOST_LEVELS: u32 = 100;
+
+/// The greatest size of a clause in a proof.
+const MOST_SYMBOLS: u32 = 4000;
+
+/// Whether the clause stays within the limits of a clause in a proof where the place holds the new
+/// term instead of the old one. The clause that holds it isn't built, and of the new term no more
+/// is walked than there is room for.
+pub fn within_at(clause: &Clause, place: &Place, old: &Term, new: &Term) -> bool
+    requires within { IsWithin clause.now }
+    requires there { (at : TermAt clause.now place.now) × (at.term ≡ old.now) }
+    ensures { (at : TermAt clause.now place.now) →
+        IsTrue result ↔ IsWithin (holding at new.now) }
+{
+    let premises = size(clause.premises.as_slice(), MOST_SYMBOLS);
+    let conclusions = size(clause.conclusions.as_slice(), MOST_SYMBOLS);
+    let kept = premises + conclusions - old.size(MOST_SYMBOLS);
+    let room = MOST_SYMBOLS - kept;
+    if new.size(room + 1) > room {
+        return false;
+    }
+    let levels = MOST_LEVELS - place.path.len() as u32;
+    new.depth(levels + 1) <= levels
+}
+
+/// The sum of the sizes of the sides, or `cap` where that is less.
+fn size(equations: &[Equation], cap: u32) -> u32
+    ensures { result ≡ min (sizes (trees_of (sides_of equations.now))) cap }
+{
+    let mut size: u32 = 0;
+    for equation in equations {
+        size += equation.left.size(cap - size);
+        size += equation.right.size(cap - size);
+    }
+    size
+}
