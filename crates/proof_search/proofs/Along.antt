@@ -25,8 +25,17 @@ module _ (says : Table) (candidates : ℕ → List Node → Node → List Candid
   abbrev pub IsBlockOf : Clause → List Step → Type 0
   IsBlockOf goal steps = Runs says candidates (root goal ∷ []) 0 steps
 
+  -- the first of the steps is chosen at the node of the clause, and without steps this is the only
+  -- node
+  abbrev pub BegunAt : Clause → List Step → List Node → Type 0
+  BegunAt goal [] nodes = nodes ≡ root goal ∷ []
+  BegunAt goal (step ∷ steps) nodes =
+      (move : Move) × (move.step ≡ step)
+      × IsChosen says candidates (root goal ∷ []) 0 (root goal) move
+
   -- every block of the clause begins with the steps, and goes on from the nodes
   pub record Along (goal : Clause) (steps : List Step) (nodes : List Node) : Type 0 where
+    pub begun : BegunAt goal steps nodes
     pub onward :
         (rest : List Step) → Runs says candidates nodes (length steps) rest →
         IsBlockOf goal (steps ++ rest)
@@ -36,7 +45,7 @@ module _ (says : Table) (candidates : ℕ → List Node → Node → List Candid
         × Runs says candidates nodes (length steps) rest
 
   pub along_first : (goal : Clause) → Along goal [] (root goal ∷ [])
-  along_first goal = record { onward = λ rest r. r; back = λ all r. (all, refl, r) }
+  along_first goal = record { begun = refl; onward = λ rest r. r; back = λ all r. (all, refl, r) }
 
   -- a block has a step for each of the nodes
   run_length :
@@ -109,6 +118,21 @@ module _ (says : Table) (candidates : ℕ → List Node → Node → List Candid
             (λ i. (same i, moves i, step i)) r.5 in
             (xs, ap (λ y. y ∷ xs) step, on)
 
+        begun_more :
+            (ss : List Step) (more : List Node) → BegunAt goal ss nodes →
+            slice_get nodes (length ss) ≡ Some node →
+            IsChosen says candidates nodes (length ss) node move →
+            BegunAt goal (ss ++ move.step ∷ []) more
+        begun_more [] more only at chosen =
+            let first = subst (λ (ns : List Node). slice_get ns 0 ≡ Some node) only at in
+            let same : root goal ≡ node = same_Some (root goal) node first in (
+              move,
+              refl,
+              subst (λ (p : List Node × Node). IsChosen says candidates p.0 0 p.1 move)
+                  (λ i. (only i, sym same i)) chosen,
+            )
+        begun_more (s ∷ ss) more begun at chosen = begun
+
         pub along_more :
             slice_get nodes (length steps) ≡ Some node →
             IsChosen says candidates nodes (length steps) node move →
@@ -118,6 +142,7 @@ module _ (says : Table) (candidates : ℕ → List Node → Node → List Candid
             let long : length (steps ++ move.step ∷ []) ≡ suc k = length_one steps move.step in
             let joined = λ (rest : List Step). append_assoc steps (move.step ∷ []) rest in
             record {
+              begun = begun_more steps (after k) along.begun at chosen;
               onward = λ rest r.
                   let on = subst (λ n. Runs says candidates (after k) n rest) long r in
                   subst (IsBlockOf goal) (sym (joined rest))

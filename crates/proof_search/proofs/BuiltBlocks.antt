@@ -1,6 +1,6 @@
 -- What the building of a block keeps from step to step, and what it says at its ends.
 use Rattle.std.proofs.Common.{◌≡◌, ℕ, zero, suc, ◌+◌, ◌<◌, ◌≤◌, List, [], ◌∷◌, ◌++◌, Some, None, Ok, map, refl, ap, sym, ◌∙◌, subst, arith, length, length-append}
-use Rattle.std.specs.Prelude.{slice_get, flat_map, Contains}
+use Rattle.std.specs.Prelude.{Option, slice_get, flat_map, Contains}
 use Rattle.std.proofs.lemmas.Grind.{flat_map-append}
 use Rattle.std.proofs.lemmas.List.{append-nil, length-map, map-append}
 use Rattle.std.proofs.lemmas.Option.{none-some, same_Some}
@@ -31,8 +31,9 @@ use Rattle.routine_proof.proofs.Blocks.{chosen_says}
 use Rattle.routine_proof.proofs.Built.{clauses_at}
 use Rattle.proof_search.specs.declared.building.Building.{Building}
 use Rattle.proof_search.specs.Building.{nodes_in, IsWhole, Begins, Takes, child_nodes}
-use Rattle.proof_search.specs.Starting.{IsNext, IsBlock}
-use Rattle.proof_search.proofs.Along.{OneChosen, Along, along_first, along_long, along_end, along_none, along_more}
+use Rattle.proof_search.specs.declared.starting.Built.TheVariants.{Block, Not}
+use Rattle.proof_search.specs.Starting.{IsNext, AreLonger, BeginsWith, IsBlock}
+use Rattle.proof_search.proofs.Along.{OneChosen, BegunAt, Along, along_first, along_long, along_end, along_none, along_more}
 use Rattle.proof_search.proofs.BuiltNodes.{there, length_one, nodes_clauses, nodes_length, begins_whole, begins_nodes, takes_whole, takes_nodes}
 
 -- nodes of both lists
@@ -112,15 +113,33 @@ module _ (above : Tree → Tree → Type 0) (spec : Spec) (lemmas : List ℕ) (s
       long : length (nodes_in b) ≡ length b.nodes.items
       long = nodes_length b part.whole
 
+      -- the first step that was taken
+      begins :
+          (steps : List Step) → BegunAt table list goal steps (nodes_in b) →
+          BeginsWith above spec lemmas start goal (slice_get steps 0)
+      begins [] begun = tt
+      begins (s ∷ steps) begun = begun
+
+      no_block :
+          (first : Option Step) → first ≡ slice_get b.steps.items 0 →
+          AreLonger above spec lemmas start goal most →
+          IsBlock above spec lemmas start goal most (Not first)
+      no_block first is longer =
+          let told = begins b.steps.items part.along.begun in
+          (longer, subst (BeginsWith above spec lemmas start goal) (sym is) told)
+
       pub part_long :
-          most < length b.nodes.items → IsBlock above spec lemmas start goal most None
-      part_long more =
-          along_long table list goal b.steps.items (nodes_in b) part.along most
-          (omega (arith, more, long))
+          most < length b.nodes.items →
+          (first : Option Step) → first ≡ slice_get b.steps.items 0 →
+          IsBlock above spec lemmas start goal most (Not first)
+      part_long more first is =
+          no_block first is
+          (along_long table list goal b.steps.items (nodes_in b) part.along most
+          (omega (arith, more, long)))
 
       pub part_ends :
           length b.nodes.items ≤ length b.steps.items →
-          IsBlock above spec lemmas start goal most (Some b)
+          IsBlock above spec lemmas start goal most (Block b)
       part_ends le =
           let same : length (nodes_in b) ≡ length b.steps.items =
           omega (arith, long, le, part.reached) in
@@ -140,11 +159,15 @@ module _ (above : Tree → Tree → Type 0) (spec : Spec) (lemmas : List ℕ) (s
         here = there (nodes_in b) (length b.steps.items) (omega (arith, lt, long))
 
         pub part_stops :
-            IsNext above spec lemmas start b None → IsBlock above spec lemmas start goal most None
-        part_stops next all r =
+            IsNext above spec lemmas start b None →
+            (first : Option Step) → first ≡ slice_get b.steps.items 0 →
+            IsBlock above spec lemmas start goal most (Not first)
+        part_stops next first is =
+            no_block first is
+            (λ all r.
             absurd
             (along_none table list goal b.steps.items (nodes_in b) part.along here.0 here.1
-            (next here.0 here.1) all r)
+            (next here.0 here.1) all r))
 
         -- the next node takes its step
         module _

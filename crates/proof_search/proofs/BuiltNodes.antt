@@ -257,6 +257,7 @@ begins_whole clause b h = record {
   paired = ap length h.parents ∙ sym (ap length h.nodes);
   parents =
       λ k p at. absurd (none-some p (subst (λ ps. slice_get ps (suc k) ≡ Some p) h.parents at));
+  leadings = h.leadings;
 }
 
 pub begins_nodes :
@@ -303,6 +304,7 @@ module _ (old new : Building) (move : Move) (taken : Takes old new move) (whole 
           | inl h ↦ let low = whole.parents k p h in (low.0, omega (arith, low.1, long))
           | inr h ↦ (omega (arith, h.0, h.1, whole.paired, lt), omega (arith, h.1, long))
         ];
+    leadings = taken.leadings whole.leadings;
   }
 
   pub takes_nodes :

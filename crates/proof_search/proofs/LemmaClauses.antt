@@ -64,3 +64,24 @@ lemma_sorted s laws is k m at =
     (range_with_len 0 (length s.spec.now.goals)))))
     k m
     (subst (λ (ms : List LemmaGoal). slice_get ms k ≡ Some m) is.goals at)
+
+-- each is the clause of a goal of its name
+pub record IsListedGoal (spec : Spec) (m : LemmaGoal) : Type 0 where
+  pub number : ℕ
+  pub goal : Goal
+  pub is : slice_get spec.goals number ≡ Some goal
+  pub made : m ≡ lemma_goal goal
+
+pub lemma_listed : (s : Setting) → IsSetting s → (k : ℕ) (m : LemmaGoal) →
+    slice_get s.goals.items k ≡ Some m → IsListedGoal s.spec.now m
+unfolding each
+lemma_listed s is k m at =
+    all_at (IsListedGoal s.spec.now)
+    (map lemma_goal (lemma_goals s.spec.now s.lemmas.now))
+    (all_mapped (IsListedGoal s.spec.now) lemma_goal (lemma_goals s.spec.now s.lemmas.now)
+    (of_numbers (λ (g : Goal). IsListedGoal s.spec.now (lemma_goal g)) s.spec.now.goals
+    (λ j g e. record { number = j; goal = g; is = e; made = refl })
+    (filter (λ k. list_any (λ n. n == k) s.lemmas.now)
+    (range_with_len 0 (length s.spec.now.goals)))))
+    k m
+    (subst (λ (ms : List LemmaGoal). slice_get ms k ≡ Some m) is.goals at)

@@ -11,7 +11,11 @@ mod OtherRules
 mod ListedNodes
 mod LemmaClauses
 mod FittingSteps
+mod LeadingPlaces
+mod LessSteps
 mod RewritingSteps
+mod PartsBelow
+mod RisingSides
 mod CoverSteps
 mod ListedEntries
 -- Blocks that are built: their nodes, and how they go on.

@@ -1,9 +1,8 @@
 -- The entries by what is at hand at a node are those of the list.
-use Rattle.std.proofs.Common.{◌≡◌, ℕ, zero, suc, List, [], ◌∷◌, ◌++◌, Option, Some, None, refl, ap, sym, ◌∙◌, subst, map}
+use Rattle.std.proofs.Common.{◌≡◌, ℕ, zero, suc, List, [], ◌∷◌, ◌++◌, Option, Some, None, refl, ap, sym, ◌∙◌, subst}
 use Rattle.std.specs.Prelude.{slice_get, option_to_list}
 use Rattle.std.specs.List.{flat_map}
 use Rattle.std.proofs.lemmas.List.{append-nil}
-use Rattle.std.proofs.lemmas.List.Folds.{flat_map-map}
 use Rattle.term_core.specs.Tree.{Tree}
 use Rattle.spec_core.specs.declared.records.Goal.{Goal}
 use Rattle.spec_core.specs.declared.records.Spec.{Spec}
@@ -21,10 +20,15 @@ use Rattle.routine_proof.specs.Ways.{Node, ancestors}
 use Rattle.routine_proof.proofs.Built.{clauses_at}
 use Rattle.proof_search.specs.declared.at.At.{At}
 use Rattle.proof_search.specs.declared.setting.LemmaGoal.{LemmaGoal}
-use Rattle.proof_search.specs.Chosen.{clause_of, subsumptions_by, lemma_instances_by, lemma_uses_by, candidates_of, all_entries}
+use Rattle.proof_search.specs.Building.{nodes_in}
+use Rattle.proof_search.specs.Chosen.{ancestors_at, clause_of, subsumptions_by, lemma_instances_by, lemma_uses_by, candidates_of, all_entries}
 use Rattle.proof_search.specs.Referring.{node, closings, rewritings, rewritings_at}
 use Rattle.proof_search.specs.Settings.{lemma_goal}
+use Rattle.proof_search.specs.Starting.{IsListed}
 use Rattle.proof_search.specs.Taking.{IsAt, SaysAt}
+use Rattle.proof_search.proofs.BuiltNodes.{nodes_clauses}
+use Rattle.proof_search.proofs.ListedNodes.{ancestors_are}
+use Rattle.proof_search.proofs.Walking.{each_mapped}
 
 clause_at_number : (made : List Node) (j : ℕ) →
     clause_at made j ≡ option_to_list (slice_get (clauses made) j)
@@ -49,11 +53,6 @@ exchanged : {X Y Z : Type 0} (f : Z → X → List Y) (xs : List X) (o : Option 
 unfolding each
 exchanged f xs None = no_candidates xs
 exchanged f xs (Some z) = with_nothing (f z) xs ∙ sym (append-nil (flat_map (f z) xs))
-
-each_mapped : {X Y Z : Type 0} (h : Y → List Z) (v : X → Y) (xs : List X) →
-    each (map v xs) h ≡ each xs (λ x. h (v x))
-unfolding each
-each_mapped h v xs = flat_map-map h v xs
 
 module _
     (above : Tree → Tree → Type 0) (at : At) (is : IsAt at) (made : List Node) (here : Node)
@@ -98,10 +97,10 @@ module _
       ∙ exchanged (λ (d : Clause) (s : Spot). rewritings_at (node 0) d s) (spots at.here.now)
       (slice_get (clauses_of at.nodes.now) 0)
 
-  module _ (ancestors_are : ancestors here.way ≡ at.ancestors.now) where
-    subsumptions_are : subsumptions made here ≡ each at.ancestors.now (subsumptions_by at)
+  module _ (numbers_are : ancestors here.way ≡ ancestors_at at) where
+    subsumptions_are : subsumptions made here ≡ each (ancestors_at at) (subsumptions_by at)
     subsumptions_are = λ i.
-        each (ancestors_are i) (λ (j : ℕ).
+        each (numbers_are i) (λ (j : ℕ).
         each (clauses_are j i) (λ (d : Clause). closings (clause_is i) (node j) d))
 
     entries_are : entries spec goals made here ≡ each all_entries (candidates_of at)
@@ -123,7 +122,7 @@ module _
         ++ (demanded_covers spec (clause_is i) ++ [])))))))))))))
 
     -- the chosen step by what is at hand is that of the list
-    pub chosen_here :
+    chosen_here :
         (found : Option Move) →
         IsFirst (Gives (SaysAt above at)) (each all_entries (candidates_of at)) found →
         IsFirst
@@ -134,3 +133,14 @@ module _
         (λ (x : List Clause × Clause × List Candidate).
         IsFirst (Gives (makes above spec at.setting.now.lemmas.now x.0 x.1)) x.2 found)
         (λ i. (sym nodes_are i, sym clause_is i, sym entries_are i)) first
+
+-- the chosen step is that of the block's list
+pub chosen_listed :
+    (above : Tree → Tree → Type 0) (at : At) → IsAt at → (found : Option Move) →
+    IsFirst (Gives (SaysAt above at)) (each all_entries (candidates_of at)) found →
+    IsListed above at.setting.now.spec.now at.setting.now.lemmas.now at.building.now at.number found
+chosen_listed above at is found first = λ here listed.
+    let b = at.building.now in
+    let same = nodes_clauses b is.whole ∙ ap clauses_of (sym is.own) in
+    chosen_here above at is (nodes_in b) here same listed (sym (ancestors_are at is here listed))
+    found first

@@ -80,11 +80,6 @@ module _ (above : Tree → Tree → Type 0) (at : At) (is : IsAt at) (entry : By
   no_steps [] none = tt
   no_steps (n ∷ ns) none = ((no_step n (none n)).0, no_steps ns none)
 
-  -- where no term is at the place
-  pub none_nowhere : (ns : List ℕ) → (TermAt at.here.now place → ⊥) →
-      NoneIs (Gives (SaysAt above at)) (rulings_by entry place ns)
-  none_nowhere ns none = no_steps ns (λ n f. none f.there)
-
   module _ (there : TermAt at.here.now place) where
     instance_there : {n : ℕ} (f : Fitting at place n) →
         instance f.fits.terms f.by_number.rule.left ≡ there.term
@@ -93,6 +88,18 @@ module _ (above : Tree → Tree → Type 0) (at : At) (is : IsAt at) (entry : By
     left_there : {n : ℕ} (f : Fitting at place n) →
         IsLeft at.setting.now.spec.now.sig f.by_number.rule.left
     left_there f = (is.setting.fine.rules f.by_number.place f.by_number.rule f.by_number.is).left
+
+    -- a rule whose left side doesn't fit
+    pub none_unfit :
+        (n : ℕ) →
+        ((by : RuleAt at.setting.now.spec.now n) → IsInstance by.rule there.term → ⊥) →
+        NoneIs (Gives (SaysAt above at)) (Steps n)
+    none_unfit n unfit = no_step n (λ f.
+        unfit f.by_number (record {
+          terms = f.fits.terms;
+          long = f.fits.long;
+          is = instance_there f;
+        }))
 
     -- where it is a variable
     pub none_at_variable : (ns : List ℕ) (m : ℕ) → var m ≡ there.term →

@@ -1,6 +1,6 @@
 -- The steps that rewrite a term by a clause, by the sides that may rewrite.
-use Rattle.std.proofs.Common.{◌≡◌, ℕ, ◌<◌, ◌≤◌, List, [], ◌∷◌, ◌++◌, Option, Some, None, Bool, true, false, refl, ap, sym, ◌∙◌, subst, arith, map, length, get_or}
-use Rattle.std.specs.Prelude.{option_to_list, option_map, slice_get}
+use Rattle.std.proofs.Common.{◌≡◌, List, [], ◌∷◌, ◌++◌, Option, Some, None, Bool, true, false, refl, ap, sym, ◌∙◌, subst, map, length}
+use Rattle.std.specs.Prelude.{option_to_list}
 use Rattle.std.specs.Option.{IfSome}
 use Rattle.std.proofs.lemmas.List.{map-append}
 use Rattle.term_core.specs.Tree.{Tree}
@@ -10,17 +10,14 @@ use Rattle.clause_core.specs.declared.answers.Children.{Children}
 use Rattle.clause_core.specs.declared.steps.Place.{Place}
 use Rattle.clause_core.specs.declared.steps.Step.{Step}
 use Rattle.clause_core.specs.Clauses.{ClauseIsSorted}
-use Rattle.clause_core.specs.Places.{TermAt}
 use Rattle.fitting_lists.proofs.Variables.{left_variables, right_variables}
 use Rattle.fitting_lists.specs.Answering.{AreVariables, sides_given}
 use Rattle.fitting_lists.specs.Fitting.{rewritable, rewriting}
-use Rattle.clause_places.specs.Laws.{PlaceLaws}
-use Rattle.clause_places.specs.Spots.{Spot, spots, places}
+use Rattle.clause_places.specs.Spots.{Spot}
 use Rattle.routine_proof.specs.declared.moves.Move.{Move}
 use Rattle.routine_proof.specs.Candidates.{Candidate, Gives, all_less}
 use Rattle.routine_proof.specs.Entries.{by_rewriting}
 use Rattle.routine_proof.specs.First.{IsFirst}
-use Rattle.proof_search.proofs.Walking.{item_at, past_all}
 use Rattle.proof_search.specs.Referring.{Target, rewriting_step, rewritings_at, rewritings_by}
 
 module _ (target : Target) (d : Clause) (s : Spot) where
@@ -69,44 +66,6 @@ rewritings_here says target d s place term left right found p t is first =
     (λ i. rewritings_both target d (sym p i) (sym t i) left right)
     ∙ sym (by_sides target d s left right is) in
     subst (λ (cs : List Candidate). IsFirst (Gives says) cs found) there first
-
--- Spots, by the list of places.
-module _ (laws : PlaceLaws) (c : Clause) where
-  -- the spot of a place
-  pub spot_at :
-      (items : List Place) (k : ℕ) (place : Place) → items ≡ places c → k < length items →
-      place ≡ get_or items k place →
-      (s : Spot) × ((slice_get (spots c) k ≡ Some s) × (s.place ≡ place))
-  spot_at items k place e lt is = by (slice_get (spots c) k) refl
-    where
-      same :
-          (o : Option Spot) → slice_get (spots c) k ≡ o →
-          Some place ≡ option_map (λ (s : Spot). s.place) o
-      same o at =
-          sym (item_at items (places c) k place e lt is)
-          ∙ laws.of_spot c k
-          ∙ ap (λ (o : Option Spot). option_map (λ (s : Spot). s.place) o) at
-
-      by : (o : Option Spot) → slice_get (spots c) k ≡ o →
-          (s : Spot) × ((slice_get (spots c) k ≡ Some s) × (s.place ≡ place))
-      by None at =
-          let q : Some place ≡ None = same None at in
-          absurd (cc)
-      by (Some s) at =
-          let q : Some place ≡ Some s.place = same (Some s) at in
-          (s, (at, let h : s.place ≡ place = cc in h))
-
-  -- its term is the term that is there
-  pub spot_term :
-      (k : ℕ) (s : Spot) → slice_get (spots c) k ≡ Some s → (place : Place) → s.place ≡ place →
-      (p : TermAt c place) → s.term ≡ p.term
-  spot_term k s at place e p =
-      subst (λ (q : Place). (p : TermAt c q) → s.term ≡ p.term) e
-      (λ p. sym (laws.one_term c k s at p)) p
-
-  pub all_spots : (items : List Place) (k : ℕ) → items ≡ places c → length items ≤ k →
-      length (spots c) ≤ k
-  all_spots items k e past = omega (arith, laws.as_many c, past_all items (places c) k e past)
 
 -- the variables of the sides that are given
 module _ (sig : Sig) (c : Clause) (sorted : ClauseIsSorted sig c) where

@@ -1,7 +1,8 @@
 -- Whether the block of a start is a proof.
-use Rattle.std.proofs.Common.{◌≡◌, ℕ, ◌<◌, ◌≤◌, List, [], ◌∷◌, Some, None, length, ap, sym, ◌∙◌, subst, arith}
-use Rattle.std.specs.Prelude.{Contains, Option, Result, Ok, Err, IfOk}
+use Rattle.std.proofs.Common.{◌≡◌, ℕ, ◌<◌, ◌≤◌, List, [], ◌∷◌, length, ap, sym, ◌∙◌, subst, arith}
+use Rattle.std.specs.Prelude.{Contains, Option, Result, Ok, Err, IfOk, slice_get}
 use Rattle.std.specs.List.{AllByRecursion}
+use Rattle.std.proofs.lemmas.Option.{same_Some}
 use Rattle.term_core.specs.Tree.{Tree}
 use Rattle.term_core.specs.declared.memory.OutOfMemory.{OutOfMemory}
 use Rattle.spec_core.specs.declared.records.Goal.{Goal}
@@ -9,6 +10,7 @@ use Rattle.spec_core.specs.declared.records.Spec.{Spec}
 use Rattle.spec_core.specs.declared.records.VarInfo.{VarInfo}
 use Rattle.spec_core.specs.Sig.{IsSort}
 use Rattle.spec_core.specs.WellSorted.{IsWellSorted, GoalIsSorted, sorts_of}
+use Rattle.clause_core.specs.declared.clauses.Clause.{Clause}
 use Rattle.clause_core.specs.declared.steps.Block.{Block}
 use Rattle.clause_core.specs.declared.steps.Step.{Step}
 use Rattle.clause_core.specs.ClauseLaws.{OneRelation, TidyingLaws}
@@ -23,13 +25,19 @@ use Rattle.acceptance.specs.Strict.{NodeIsAllowed, AllAreAllowed}
 use Rattle.acceptance.specs.declared.answers.Allowed.TheVariants.{All, Not}
 use Rattle.acceptance.proofs.WholeBlocks.{whole_block}
 use Rattle.proof_script.specs.Ranges.{ClaimIsInRange}
+use Rattle.routine_proof.specs.Blocks.{IsChosen, root}
+use Rattle.routine_proof.specs.Entries.{lemma_goals}
 use Rattle.routine_proof.specs.First.{HasNone}
-use Rattle.routine_proof.specs.Routine.{Start, IsProof, claim_bytes}
+use Rattle.routine_proof.specs.Routine.{Start, candidates, makes, IsRoutine, IsProof, claim_bytes}
+use Rattle.routine_proof.specs.Ways.{Node}
 use Rattle.routine_proof.proofs.Built.{IsBuilt, proves_by_relations}
 use Rattle.routine_proof.proofs.OneProofs.{routine_one}
 use Rattle.proof_search.specs.declared.building.Building.{Building}
-use Rattle.proof_search.specs.Proving.{proved_by, IsShortBlock, IsProofFrom}
-use Rattle.proof_search.specs.Starting.{IsDone}
+use Rattle.proof_search.specs.declared.proving.Tried.{Tried}
+use Rattle.proof_search.specs.declared.proving.Tried.TheVariants.{Proof, Not as NoProof}
+use Rattle.proof_search.specs.declared.starting.Built.TheVariants.{Not as NotBuilt}
+use Rattle.proof_search.specs.Proving.{proved_by, IsShortBlock, IsTried}
+use Rattle.proof_search.specs.Starting.{BeginsWith, IsBlock, IsDone}
 use Rattle.block_links.proofs.LinksAlone.{allowed_by_links, links_allowed, whole_links}
 use Rattle.proof_search.proofs.StepsInRange.{claim_in_range}
 
@@ -56,6 +64,22 @@ goal_node laws spec fine goal sorted within =
     sorts_are [] h = tt
     sorts_are (v ∷ vars) h = (h.0, sorts_are vars h.1)
 
+-- the first step of a routine block is chosen at the node of the clause
+routine_begins :
+    (above : Tree → Tree → Type 0) (spec : Spec) (lemmas : List ℕ) (start : Start) (goal : Clause)
+    (steps : List Step) → IsRoutine above spec lemmas goal start steps →
+    BeginsWith above spec lemmas start goal (slice_get steps 0)
+routine_begins above spec lemmas start goal [] r = tt
+routine_begins above spec lemmas start goal (x ∷ steps) r =
+    let list = candidates spec (lemma_goals spec lemmas) start in
+    let same : root goal ≡ r.0 = same_Some (root goal) r.0 r.2 in (
+      r.1,
+      r.4,
+      subst
+          (λ (n : Node). IsChosen (makes above spec lemmas) list (root goal ∷ []) 0 n r.1)
+          (sym same) r.3,
+    )
+
 module _
     (above : Tree → Tree → Type 0) (spec : Spec) (lemmas : List ℕ) (goal : Goal) (most : ℕ)
   where
@@ -66,9 +90,30 @@ module _
       abbrev HasNo : Type 0
       HasNo = HasNone (IsProof above spec lemmas goal most) start
 
+      -- a start whose blocks are too long has no proof
+      pub none_built :
+          (first : Option Step) →
+          IsBlock above spec lemmas start (goal_clause goal) most (NotBuilt first) →
+          IsTried above spec lemmas goal most start (NoProof first)
+      none_built first none = (none_few, none.1)
+        where
+          none_few : HasNo
+          none_few steps p =
+              let more = none.0 steps p.routine in
+              let few = p.few in
+              omega (arith, more, few)
+
       module _
           (b : Building) (done : IsDone above spec lemmas start (goal_clause goal) most b)
         where
+          abbrev Begins : Option Step → Type 0
+          Begins first = BeginsWith above spec lemmas start (goal_clause goal) first
+
+          begins : (first : Option Step) → first ≡ slice_get b.steps.items 0 → Begins first
+          begins first is =
+              subst Begins (sym is)
+              (routine_begins above spec lemmas start (goal_clause goal) b.steps.items done.routine)
+
           pub links_whole : IsWholeBlock b.links.items
           links_whole =
               let whole =
@@ -98,8 +143,8 @@ module _
                   routine_one above one spec fine lemmas (goal_clause goal) start b.steps.items
                   steps done.routine p.routine
 
-              pub not_allowed : (k : ℕ) → TellsAllowed b.links.items (Not k) → HasNo
-              not_allowed k tells steps p =
+              none_allowed : (k : ℕ) → TellsAllowed b.links.items (Not k) → HasNo
+              none_allowed k tells steps p =
                   let proves =
                   subst (λ ss. Proves above spec (Contains lemmas) (goal_clause goal) ss)
                   (sym (same_steps steps p)) p.proves in
@@ -110,6 +155,12 @@ module _
                   tells.0
                   (subst (λ ls. NodeIsAllowed ls k) (sym done.links)
                   (links_allowed done.made k (allowed k)))
+
+              pub not_allowed :
+                  (k : ℕ) → TellsAllowed b.links.items (Not k) → (first : Option Step) →
+                  first ≡ slice_get b.steps.items 0 →
+                  IsTried above spec lemmas goal most start (NoProof first)
+              not_allowed k tells first is = (none_allowed k tells, begins first is)
 
               module _
                   (within : IsWithin (goal_clause goal)) (tells : TellsAllowed b.links.items All)
@@ -130,9 +181,9 @@ module _
                   IsShort steps = length (claim_bytes spec goal steps) ≤ 300000
 
                   short_is_proof :
-                      (found : Option Block) → IsShortBlock spec goal block found →
-                      IsProofFrom above spec lemmas goal most start found
-                  short_is_proof (Some answer) short =
+                      (found : Tried) → IsShortBlock spec goal block found →
+                      IsTried above spec lemmas goal most start found
+                  short_is_proof (Proof answer) short =
                       let is : IsOne start b.steps.items =
                       record {
                         routine = done.routine;
@@ -142,16 +193,19 @@ module _
                       } in
                       subst (IsOne start) (sym (ap (λ (x : Block). x.steps) short.0))
                       (subst (IsOne start) (sym e) is)
-                  short_is_proof None long = λ steps p.
-                      let same : block.steps ≡ steps = e ∙ same_steps steps p in
-                      let short : length (claim_bytes spec goal block.steps) ≤ 300000 =
-                      subst IsShort (sym same) p.short in
-                      let more : 300000 < length (claim_bytes spec goal block.steps) = long in
-                      omega arith
+                  short_is_proof (NoProof first) long =
+                      (too_long long.0, begins first (long.1 ∙ ap (λ l. slice_get l 0) e))
+                    where
+                      too_long : 300000 < length (claim_bytes spec goal block.steps) → HasNo
+                      too_long more steps p =
+                          let same : block.steps ≡ steps = e ∙ same_steps steps p in
+                          let short : length (claim_bytes spec goal block.steps) ≤ 300000 =
+                          subst IsShort (sym same) p.short in
+                          omega (arith, more, short)
 
                   pub short_result :
-                      (r : Result (Option Block) OutOfMemory) →
+                      (r : Result Tried OutOfMemory) →
                       IfOk r (IsShortBlock spec goal block) →
-                      IfOk r (IsProofFrom above spec lemmas goal most start)
+                      IfOk r (IsTried above spec lemmas goal most start)
                   short_result (Ok found) short = short_is_proof found short
                   short_result (Err error) short = tt

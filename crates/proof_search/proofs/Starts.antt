@@ -1,5 +1,4 @@
--- What is said of the clauses of nodes, said of a block that is built: the move of the list of
--- entries, and that of a split.
+-- What is said of the clauses of nodes, said of a block that is built: the move of a split.
 use Rattle.std.proofs.Common.{◌≡◌, ℕ, List, Some, Result, Ok, Err, ap, sym, ◌∙◌, subst, length}
 use Rattle.std.specs.Prelude.{slice_get, Option, IfOk}
 use Rattle.term_core.specs.Tree.{Tree}
@@ -10,13 +9,13 @@ use Rattle.inference_rules.specs.Answers.{clauses_of}
 use Rattle.routine_proof.specs.declared.moves.Move.{Move}
 use Rattle.routine_proof.specs.Blocks.{clauses}
 use Rattle.routine_proof.specs.Candidates.{Candidate, Gives}
-use Rattle.routine_proof.specs.Entries.{cover, entries, lemma_goals}
+use Rattle.routine_proof.specs.Entries.{cover, lemma_goals}
 use Rattle.routine_proof.specs.First.{IsFirst}
 use Rattle.routine_proof.specs.Routine.{Start, split, candidates, makes}
-use Rattle.routine_proof.specs.Ways.{Node, ancestors}
+use Rattle.routine_proof.specs.Ways.{Node}
 use Rattle.proof_search.specs.declared.building.Building.{Building}
 use Rattle.proof_search.specs.Building.{nodes_in, IsWhole}
-use Rattle.proof_search.specs.Starting.{IsListed, IsNext}
+use Rattle.proof_search.specs.Starting.{IsNext}
 use Rattle.proof_search.proofs.BuiltNodes.{nodes_clauses}
 
 module _ (above : Tree → Tree → Type 0) (spec : Spec) (lemmas : List ℕ) where
@@ -24,12 +23,6 @@ module _ (above : Tree → Tree → Type 0) (spec : Spec) (lemmas : List ℕ) wh
   abbrev pub Gets : List Node → Node → List Candidate → Option Move → Type 0
   Gets made here list found =
       IsFirst (Gives (makes above spec lemmas (clauses made) here.clause)) list found
-
-  abbrev pub ListedAt : List ClauseNode → List ℕ → ℕ → Option Move → Type 0
-  ListedAt nodes numbers k found =
-      (made : List Node) (here : Node) → clauses made ≡ clauses_of nodes →
-      slice_get made k ≡ Some here → ancestors here.way ≡ numbers →
-      Gets made here (entries spec (lemma_goals spec lemmas) made here) found
 
   abbrev pub CoveredAt : List ClauseNode → ℕ → ℕ → Option Move → Type 0
   CoveredAt nodes k v found =
@@ -41,15 +34,6 @@ module _ (above : Tree → Tree → Type 0) (spec : Spec) (lemmas : List ℕ) wh
     where
       clauses_same : clauses (nodes_in b) ≡ clauses_of nodes
       clauses_same = nodes_clauses b whole ∙ ap clauses_of (sym same)
-
-      pub listed_result :
-          (numbers : List ℕ) (k : ℕ) →
-          ((here : Node) → slice_get (nodes_in b) k ≡ Some here → numbers ≡ ancestors here.way) →
-          (r : Result (Option Move) OutOfMemory) → IfOk r (ListedAt nodes numbers k) →
-          IfOk r (IsListed above spec lemmas b k)
-      listed_result numbers k climbed (Ok found) listed = λ here at.
-          listed (nodes_in b) here clauses_same at (sym (climbed here at))
-      listed_result numbers k climbed (Err e) listed = tt
 
       module _ (k : ℕ) (next : k ≡ length b.steps.items) where
         at_next : (here : Node) → slice_get (nodes_in b) (length b.steps.items) ≡ Some here →

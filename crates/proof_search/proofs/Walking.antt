@@ -1,8 +1,10 @@
 -- Going through a list of items, each with candidates of its own, for the first that has a result.
-use Rattle.std.proofs.Common.{◌≡◌, ℕ, zero, suc, ◌+◌, ◌<◌, ◌≤◌, List, ◌++◌, true, false, Some, None, Option, refl, ap, ◌∙◌, subst, arith, length, drop, get_or}
-use Rattle.std.specs.Prelude.{slice_get, is_some}
+use Rattle.std.proofs.Common.{◌≡◌, ℕ, zero, suc, ◌+◌, ◌<◌, ◌≤◌, List, ◌++◌, true, false, Some, None, Option, refl, ap, sym, ◌∙◌, subst, arith, length, map, drop, get_or}
+use Rattle.std.specs.Prelude.{slice_get, option_map, is_some}
 use Rattle.std.specs.List.{range_with_len}
-use Rattle.std.proofs.lemmas.Option.{slice_get_read}
+use Rattle.std.proofs.lemmas.Option.{slice_get_read, slice_get-map}
+use Rattle.std.proofs.lemmas.List.{length-map}
+use Rattle.std.proofs.lemmas.List.Folds.{flat_map-map}
 use Rattle.term_core.proofs.Items.{drop_here, drop_past}
 use Rattle.routine_proof.specs.Candidates.{each}
 use Rattle.routine_proof.specs.First.{NoneIs, IsFirst}
@@ -33,6 +35,30 @@ item_at {X} xs ys k x e h is =
 pub past_all : {X : Type 0} (xs ys : List X) (k : ℕ) → xs ≡ ys → length xs ≤ k → length ys ≤ k
 past_all {X} xs ys k e h = subst (λ (l : List X). length l ≤ k) e h
 
+-- the same where the items stand for those of the other list
+pub item_of : {X Y : Type 0} (f : X → Y) (xs : List X) (ys : List Y) (k : ℕ) (x : X) →
+    map f xs ≡ ys → k < length xs → x ≡ get_or xs k x → slice_get ys k ≡ Some (f x)
+item_of f xs ys k x e h is =
+    ap (λ l. slice_get l k) (sym e)
+    ∙ slice_get-map f xs k
+    ∙ ap (λ o. option_map f o) (slice_get_read xs (length xs) k x refl h is)
+
+pub past_items : {X Y : Type 0} (f : X → Y) (xs : List X) (ys : List Y) (k : ℕ) → map f xs ≡ ys →
+    length xs ≤ k → length ys ≤ k
+past_items {X} {Y} f xs ys k e h =
+    let n : length xs ≡ length ys = sym (length-map xs f) ∙ ap (λ (l : List Y). length l) e in
+    omega (arith, n, h)
+
+pub all_items : {X Y : Type 0} (f : X → Y) (read items : List X) (ys : List Y) → read ≡ items →
+    map f items ≡ ys → map f read ≡ ys
+all_items f read items ys e is = ap (λ l. map f l) e ∙ is
+
+-- the candidates of items that stand for others
+pub each_mapped : {X Y Z : Type 0} (h : Y → List Z) (v : X → Y) (xs : List X) →
+    each (map v xs) h ≡ each xs (λ x. h (v x))
+unfolding each
+each_mapped h v xs = flat_map-map h v xs
+
 module _ {A B R : Type 0} (is : B → R → Type 0) (xs : List A) (f : A → List B) where
   -- no item before this index has a result
   pub record Passed (k : ℕ) : Type 0 where
@@ -55,6 +81,10 @@ module _ {A B R : Type 0} (is : B → R → Type 0) (xs : List A) (f : A → Lis
   passed_at k x (Some r) e p there first = absurd (let q : true ≡ false = there in cc)
   passed_at k x None e p there first =
       record { left = left_list is (each xs f) (f x) _ (next k x e p) first }
+
+  pub skipped_at : (k : ℕ) (x : A) → slice_get xs k ≡ Some x → Passed k → NoneIs is (f x) →
+      Passed (k + 1)
+  skipped_at k x e p none = passed_at k x None e p refl none
 
   pub none_found : (k : ℕ) → length xs ≤ k → Passed k → NoneIs is (each xs f)
   unfolding each

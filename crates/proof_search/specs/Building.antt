@@ -9,6 +9,7 @@ use Rattle.inference_rules.specs.declared.nodes.Node.{Node as ClauseNode}
 use Rattle.routine_proof.specs.declared.moves.Move.{Move}
 use Rattle.routine_proof.specs.Ways.{Way, Node}
 use Rattle.proof_search.specs.declared.building.Building.{Building}
+use Rattle.proof_search.specs.Leading.{ArePlaces}
 
 -- the way to a child of the node of this number, where the node and its step are there
 abbrev pub way_below : ℕ → Option Node → Option Step → Way
@@ -33,12 +34,14 @@ grown steps nodes (made ∷ more) =
 abbrev pub nodes_in : Building → List Node
 nodes_in b = grown b.steps.items [] (zip b.nodes.items b.parents.items)
 
--- each node but the first is a child of an earlier node with a step
+-- each node but the first is a child of an earlier node with a step, and the places of their
+-- leading equations are kept
 pub record IsWhole (b : Building) : Type 0 where
   pub paired : length b.parents.items ≡ length b.nodes.items
   pub parents :
       (k p : ℕ) → slice_get b.parents.items (suc k) ≡ Some p →
       (p ≤ k) × (p < length b.steps.items)
+  pub leadings : ArePlaces b.nodes.items b.leadings.items
 
 -- the node of the clause alone, without a step
 pub record Begins (clause : Clause) (b : Building) : Type 0 where
@@ -46,6 +49,7 @@ pub record Begins (clause : Clause) (b : Building) : Type 0 where
   pub parents : b.parents.items ≡ 0 ∷ []
   pub steps : b.steps.items ≡ []
   pub links : b.links.items ≡ []
+  pub leadings : ArePlaces b.nodes.items b.leadings.items
 
 -- the nodes of children, and for each of them the number of the parent
 abbrev pub child_nodes : List Child → List ClauseNode
@@ -62,3 +66,5 @@ pub record Takes (old new : Building) (move : Move) : Type 0 where
       ≡ old.parents.items ++ child_parents (length old.steps.items) move.made.clauses
   pub steps : new.steps.items ≡ old.steps.items ++ move.step ∷ []
   pub links : new.links.items ≡ old.links.items ++ links_of move.made ∷ []
+  pub leadings :
+      ArePlaces old.nodes.items old.leadings.items → ArePlaces new.nodes.items new.leadings.items

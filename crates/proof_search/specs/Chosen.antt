@@ -4,15 +4,23 @@ use Rattle.clause_core.specs.declared.clauses.Clause.{Clause}
 use Rattle.inference_rules.specs.Answers.{clauses_of}
 use Rattle.routine_proof.specs.Candidates.{Candidate, each}
 use Rattle.routine_proof.specs.Entries.{trivials, matches, absurds, premise_decompositions, clashes, solutions, rule_uses, conclusion_decompositions, case_splits, demanded_covers}
+use Rattle.routine_proof.specs.Ways.{Node, ancestors}
 use Rattle.proof_search.specs.declared.at.At.{At}
 use Rattle.proof_search.specs.declared.choosing.Entry.{Entry}
 use Rattle.proof_search.specs.declared.choosing.Entry.TheVariants.{Trivials, Matches, Absurds, PremiseDecompositions, Clashes, Solutions, RuleUses, ConclusionDecompositions, Subsumptions, LemmaInstances, HypothesisUses, LemmaUses, CaseSplits, DemandedCovers}
 use Rattle.proof_search.specs.declared.setting.LemmaGoal.{LemmaGoal}
+use Rattle.proof_search.specs.Building.{nodes_in}
 use Rattle.proof_search.specs.Referring.{node, goal, closings, rewritings}
 
 -- the clause of the node of this number
 abbrev pub clause_of : At → ℕ → List Clause
 clause_of at j = option_to_list (slice_get (clauses_of at.nodes.now) j)
+
+-- the ancestors of the node from which some step on the way to it isn't a cover
+abbrev pub ancestors_at : At → List ℕ
+ancestors_at at =
+    each (option_to_list (slice_get (nodes_in at.building.now) at.number))
+    (λ (n : Node). ancestors n.way)
 
 abbrev pub subsumptions_by : At → ℕ → List Candidate
 subsumptions_by at j = each (clause_of at j) (λ d. closings at.here.now (node j) d)
@@ -33,7 +41,7 @@ candidates_of at Clashes = clashes at.here.now
 candidates_of at Solutions = solutions at.here.now
 candidates_of at RuleUses = rule_uses at.setting.now.spec.now at.here.now
 candidates_of at ConclusionDecompositions = conclusion_decompositions at.here.now
-candidates_of at Subsumptions = each at.ancestors.now (subsumptions_by at)
+candidates_of at Subsumptions = each (ancestors_at at) (subsumptions_by at)
 candidates_of at LemmaInstances = each at.setting.now.goals.items (lemma_instances_by at)
 candidates_of at HypothesisUses =
     each (clause_of at 0) (λ d. rewritings at.here.now (node 0) d)

@@ -1,13 +1,16 @@
 -- What the search answers.
 pub mod Guided
--- What only this crate's own contracts speak of: the step that a node takes.
+-- What only this crate's own contracts speak of: a block that is being built, and the step that a
+-- node of it takes.
 pub mod Settings
+pub mod Leading
+pub mod Building
 pub mod Taking
 pub mod Numbers
 pub mod Ruling
 pub mod Referring
+pub mod Falling
 pub mod Chosen
 -- Blocks that are built from a start, and which of them are proofs.
-pub mod Building
 pub mod Starting
 pub mod Proving

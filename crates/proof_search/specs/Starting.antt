@@ -8,13 +8,15 @@ use Rattle.clause_core.specs.declared.steps.Step.{Step}
 use Rattle.acceptance.specs.Blocks.{nodes_of, StepsMake}
 use Rattle.block_links.specs.Links.{links_of}
 use Rattle.routine_proof.specs.declared.moves.Move.{Move}
-use Rattle.routine_proof.specs.Blocks.{clauses}
+use Rattle.routine_proof.specs.Blocks.{clauses, IsChosen, root}
 use Rattle.routine_proof.specs.Candidates.{Gives}
 use Rattle.routine_proof.specs.Entries.{entries, lemma_goals}
 use Rattle.routine_proof.specs.First.{IsFirst}
 use Rattle.routine_proof.specs.Routine.{Start, no_split, split, candidates, makes, IsRoutine}
 use Rattle.routine_proof.specs.Ways.{Node}
 use Rattle.proof_search.specs.declared.building.Building.{Building}
+use Rattle.proof_search.specs.declared.starting.Built.{Built}
+use Rattle.proof_search.specs.declared.starting.Built.TheVariants.{Block, Not}
 use Rattle.proof_search.specs.declared.starting.Start.{Start as TriedStart}
 use Rattle.proof_search.specs.declared.starting.Start.TheVariants.{NoSplit, Split}
 use Rattle.proof_search.specs.Building.{nodes_in}
@@ -44,6 +46,14 @@ module _ (above : Tree → Tree → Type 0) (spec : Spec) (lemmas : List ℕ) (s
       (candidates spec (lemma_goals spec lemmas) start (length b.steps.items) (nodes_in b) here)
       found
 
+  -- the step is chosen at the node of the clause, where a step is told
+  abbrev pub BeginsWith : Clause → Option Step → Type 0
+  BeginsWith goal (Some step) =
+      (move : Move) × (move.step ≡ step)
+      × IsChosen (makes above spec lemmas) (candidates spec (lemma_goals spec lemmas) start)
+      (root goal ∷ []) 0 (root goal) move
+  BeginsWith goal None = Unit {0}
+
   module _ (goal : Clause) (most : ℕ) where
     -- the steps are the routine block, with at most this many nodes, and the links are those of
     -- what they make
@@ -55,8 +65,12 @@ module _ (above : Tree → Tree → Type 0) (spec : Spec) (lemmas : List ℕ) (s
       pub finished : length (nodes_of goal made) ≡ length b.steps.items
       pub links : b.links.items ≡ map links_of made
 
-    -- the routine block of the clause, or that it has more nodes or isn't there
-    abbrev pub IsBlock : Option Building → Type 0
-    IsBlock (Some b) = IsDone b
-    IsBlock None = (steps : List Step) → IsRoutine above spec lemmas goal start steps →
+    -- each routine block has more nodes than that
+    abbrev pub AreLonger : Type 0
+    AreLonger = (steps : List Step) → IsRoutine above spec lemmas goal start steps →
         most < length steps
+
+    -- the routine block of the clause, or that it has more nodes or isn't there
+    abbrev pub IsBlock : Built → Type 0
+    IsBlock (Block b) = IsDone b
+    IsBlock (Not first) = AreLonger × BeginsWith goal first

@@ -1,5 +1,5 @@
 -- What a step makes at a node over the nodes so far, with what is asked of its relations.
-use Rattle.std.specs.Prelude.{◌≡◌, ◌⊎◌, List, Option, Some, None, slice_get}
+use Rattle.std.specs.Prelude.{◌≡◌, ◌⊎◌, ◌<◌, List, Option, Some, None, length, slice_get}
 use Rattle.term_core.specs.Tree.{Tree}
 use Rattle.clause_core.specs.declared.answers.Children.{Children}
 use Rattle.clause_core.specs.declared.answers.Reference.{Reference}
@@ -8,7 +8,11 @@ use Rattle.clause_core.specs.declared.steps.Step.{Step}
 use Rattle.descent.specs.SortedChildren.{IsNode}
 use Rattle.inference_rules.specs.Answers.{clauses_of}
 use Rattle.inference_rules.specs.Nodes.{AreNodes}
-use Rattle.clause_places.specs.Spots.{places}
+use Rattle.clause_places.specs.Spots.{spots}
+use Rattle.clause_places.specs.Walk.{spots_of}
+use Rattle.clause_places.specs.declared.walk.SpotRef.{SpotRef}
+use Rattle.clause_core.specs.Places.{TermAt}
+use Rattle.clause_core.specs.declared.clauses.Clause.{Clause}
 use Rattle.routine_proof.specs.declared.moves.Move.{Move}
 use Rattle.routine_proof.specs.Candidates.{Asks, nothing, reference_not_neither, all_less, Meets, Candidate, Gives}
 use Rattle.routine_proof.specs.First.{IsFirst}
@@ -16,6 +20,7 @@ use Rattle.routine_proof.specs.Routine.{makes}
 use Rattle.proof_search.specs.declared.at.Asked.{Asked}
 use Rattle.proof_search.specs.declared.at.Asked.TheVariants.{Nothing, ReferenceNotNeither, AllLess}
 use Rattle.proof_search.specs.declared.at.At.{At}
+use Rattle.proof_search.specs.Building.{IsWhole}
 use Rattle.proof_search.specs.Settings.{IsSetting}
 
 abbrev pub asks_of : Asked → Asks
@@ -28,10 +33,17 @@ IsNotNeither r = (r.relation ≡ Less) ⊎ (r.relation ≡ Same)
 
 pub record IsAt (at : At) : Type 0 where
   pub setting : IsSetting at.setting.now
+  pub whole : IsWhole at.building.now
+  pub in_range : at.number < length at.building.now.nodes.items
+  pub own : at.nodes.now ≡ at.building.now.nodes.items
   pub nodes : AreNodes at.setting.now.spec.now.sig (clauses_of at.nodes.now)
   pub here : slice_get (clauses_of at.nodes.now) at.number ≡ Some at.here.now
   pub node : IsNode at.setting.now.spec.now.sig at.here.now
-  pub places : at.places.items ≡ places at.here.now
+  pub spots : spots_of at.spots.items ≡ spots at.here.now
+
+-- the place is there, with this term
+abbrev pub IsThere : Clause → SpotRef → Type 0
+IsThere c spot = (p : TermAt c spot.place) × (p.term ≡ spot.term.now)
 
 -- what the table says at the node
 abbrev pub SaysAt : (Tree → Tree → Type 0) → At → Step → Children → Type 0

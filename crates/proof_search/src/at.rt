@@ -6,12 +6,14 @@ ghost use Rattle.clause_core.specs.declared.clauses.Relation.TheVariants.{Less};
 ghost use Rattle.inference_rules.specs.Answers.{clauses_of};
 ghost use Rattle.inference_rules.specs.Nodes.{AreNodes};
 ghost use Rattle.routine_proof.specs.Candidates.{Meets};
+ghost use Rattle.proof_search.specs.Building.{IsWhole};
 ghost use Rattle.proof_search.specs.Settings.{IsSetting};
 ghost use Rattle.proof_search.specs.Taking.{IsAt, IsTaken, SaysAt, asks_of, IsNotNeither};
 
+use crate::building::Building;
 use crate::setting::Setting;
-use clause_core::{Child, Children, Clause, Place, Reference, Relation, Step, one_answer};
-use clause_places::{places, places_are_there};
+use clause_core::{Child, Children, Clause, Reference, Relation, Step, one_answer};
+use clause_places::{SpotRef, places_are_there, spots};
 use inference_rules::{Node, StepError, children};
 use path_order::TermOrder;
 use routine_proof::Move;
@@ -19,44 +21,44 @@ use std::alloc::Global;
 use term_core::OutOfMemory;
 
 /// A node whose step is sought: its number and its clause, with the places there, over the nodes so
-/// far, and its ancestors from which some step isn't a cover.
+/// far, which are those of the block that is being built.
 #[derive(Drop)]
 pub(crate) struct At<'a> {
     pub(crate) setting: &'a Setting<'a>,
     pub(crate) nodes: &'a [Node],
-    pub(crate) ancestors: &'a [u32],
+    pub(crate) building: &'a Building,
     pub(crate) number: u32,
     pub(crate) here: &'a Clause,
-    pub(crate) places: Vec<Place>,
+    pub(crate) spots: Vec<SpotRef<'a>>,
 }
 
 impl<'a> At<'a> {
-    /// The node of this number. Its places are listed once, for all entries.
+    /// The node of this number. Its places are listed once, with their terms, for all entries.
     pub(crate) fn new(
         alloc: Global,
         setting: &'a Setting<'a>,
-        nodes: &'a [Node],
-        ancestors: &'a [u32],
+        building: &'a Building,
         number: u32,
     ) -> Result<At<'a>, OutOfMemory>
         requires setting { IsSetting setting.now }
-        requires in_range { number < length nodes.now }
-        requires nodes { AreNodes setting.now.spec.now.sig (clauses_of nodes.now) }
+        requires whole { IsWhole building.now }
+        requires in_range { number < length building.now.nodes.items }
+        requires nodes { AreNodes setting.now.spec.now.sig (clauses_of building.now.nodes.items) }
         ensures is { IfOk result IsAt }
         ensures same { IfOk result (λ at. (at.setting.now ≡ setting.now)
-            × (at.nodes.now ≡ nodes.now) × (at.ancestors.now ≡ ancestors.now)
-            × (at.number ≡ number)) }
+            × (at.building.now ≡ building.now) × (at.number ≡ number)) }
     {
         places_are_there();
+        let nodes = building.nodes.as_slice();
         let here = &nodes[number as usize].clause;
-        let places = places(alloc, here)?;
+        let spots = spots(alloc, here)?;
         Ok(At {
             setting,
             nodes,
-            ancestors,
+            building,
             number,
             here,
-            places,
+            spots,
         })
     }
 }

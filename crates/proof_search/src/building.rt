@@ -2,6 +2,7 @@ ghost use Rattle.std.specs.Prelude.{◌≡◌, ◌<◌, ◌^◌, Some, IfOk, OnO
 ghost use Rattle.routine_proof.specs.Ways.{Node as WayNode, ancestors as ancestors_of, is_cover as is_cover_of};
 ghost use Rattle.proof_search.specs.Building.{IsWhole, nodes_in, Begins, Takes};
 
+use crate::leading_places::{LeadingPlace, leading_place};
 use block_links::apart;
 use clause_core::{Children, Clause, Step};
 use inference_rules::Node;
@@ -18,6 +19,8 @@ pub(crate) struct Building {
     pub steps: Vec<Step>,
     /// For each step what it makes, without the clauses of children, which stand in `nodes`.
     pub links: Vec<Children>,
+    /// For each node the place of its leading equation, where it has one.
+    pub leadings: Vec<Option<LeadingPlace>>,
 }
 
 impl Building {
@@ -25,6 +28,8 @@ impl Building {
     pub fn new(alloc: Global, clause: Clause) -> Result<Building, OutOfMemory>
         ensures { IfOk result (Begins clause) }
     {
+        let mut leadings = Vec::new(alloc);
+        leadings.push(leading_place(&clause))?;
         let mut nodes = Vec::new(alloc);
         nodes.push(Node { clause })?;
         let mut parents = Vec::new(alloc);
@@ -34,6 +39,7 @@ impl Building {
             parents,
             steps: Vec::new(alloc),
             links: Vec::new(alloc),
+            leadings,
         })
     }
 
@@ -48,10 +54,18 @@ impl Building {
         self.steps.push(step)?;
         self.links.push(links)?;
         for clause in clauses {
+            self.leadings.push(leading_place(&clause))?;
             self.nodes.push(Node { clause })?;
             self.parents.push(parent)?;
         }
         Ok(())
+    }
+
+    /// The first step, where there is one.
+    pub fn first_step(self) -> Option<Step>
+        ensures { result ≡ slice_get self.steps.items 0 }
+    {
+        first_of(self.steps)
     }
 
     /// The ancestors of a node from which some step on the way to it isn't a cover, from node 0 on.
@@ -74,6 +88,17 @@ impl Building {
         found.reverse();
         Ok(found)
     }
+}
+
+/// The first of the steps, where there is one.
+pub(crate) fn first_of(steps: Vec<Step>) -> Option<Step>
+    ensures { result ≡ slice_get steps.items 0 }
+{
+    let mut rest = steps;
+    if rest.is_empty() {
+        return None;
+    }
+    Some(rest.swap_remove(0))
 }
 
 fn is_cover(step: &Step) -> bool

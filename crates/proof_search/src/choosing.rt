@@ -3,22 +3,24 @@ ghost use Rattle.inference_rules.specs.Answers.{clauses_of};
 ghost use Rattle.inference_rules.specs.Nodes.{AreNodes};
 ghost use Rattle.routine_proof.specs.Blocks.{clauses};
 ghost use Rattle.routine_proof.specs.Candidates.{Gives, each};
-ghost use Rattle.routine_proof.specs.Entries.{entries, cover, lemma_goals};
+ghost use Rattle.routine_proof.specs.Entries.{cover};
 ghost use Rattle.routine_proof.specs.First.{IsFirst};
 ghost use Rattle.routine_proof.specs.Routine.{makes};
-ghost use Rattle.routine_proof.specs.Ways.{Node as WayNode, ancestors as ancestors_on};
+ghost use Rattle.routine_proof.specs.Ways.{Node as WayNode};
+ghost use Rattle.proof_search.specs.Building.{IsWhole};
 ghost use Rattle.proof_search.specs.Chosen.{all_entries, candidates_of};
 ghost use Rattle.proof_search.specs.Settings.{IsSetting};
+ghost use Rattle.proof_search.specs.Starting.{IsListed};
 ghost use Rattle.proof_search.specs.Taking.{IsAt, IsFound};
 
 use crate::at::At;
+use crate::building::Building;
 use crate::covering::{cover_of, demanded_cover};
 use crate::numbered::{Numbered, first_match, first_numbered};
 use crate::referring::{first_lemma_instance, first_subsumption};
 use crate::rewriting::{first_hypothesis_use, first_lemma_use};
 use crate::ruling::{ByRule, first_ruling};
 use crate::setting::Setting;
-use inference_rules::Node;
 use path_order::TermOrder;
 use routine_proof::Move;
 use std::alloc::Global;
@@ -96,29 +98,22 @@ impl Entry {
 }
 
 /// The chosen step of a node with what it makes there, or None where no entry of the list gives
-/// one. The nodes are those so far, and the ancestors are those of this node from which some step
-/// isn't a cover.
+/// one.
 pub(crate) fn chosen<'a, O: TermOrder>(
     alloc: Global,
     order: &O,
     setting: &'a Setting<'a>,
-    nodes: &'a [Node],
-    ancestors: &'a [u32],
+    building: &'a Building,
     node: u32,
 ) -> Result<Option<Move>, OutOfMemory>
     requires setting { IsSetting setting.now }
-    requires in_range { node < length nodes.now }
-    requires nodes { AreNodes setting.now.spec.now.sig (clauses_of nodes.now) }
-    ensures { IfOk result (λ found. (made : List WayNode) (here : WayNode) →
-        clauses made ≡ clauses_of nodes.now → slice_get made node ≡ Some here →
-        ancestors_on here.way ≡ ancestors.now →
-        let spec = setting.now.spec.now in
-        let lemmas = setting.now.lemmas.now in
-        IsFirst
-        (Gives (makes (O.above order.now) spec lemmas (clauses made) here.clause))
-        (entries spec (lemma_goals spec lemmas) made here) found) }
+    requires whole { IsWhole building.now }
+    requires in_range { node < length building.now.nodes.items }
+    requires nodes { AreNodes setting.now.spec.now.sig (clauses_of building.now.nodes.items) }
+    ensures { IfOk result (IsListed (O.above order.now) setting.now.spec.now setting.now.lemmas.now
+        building.now node) }
 {
-    let at = At::new(alloc, setting, nodes, ancestors, node)?;
+    let at = At::new(alloc, setting, building, node)?;
     first_entry(alloc, order, &at)
 }
 
@@ -127,22 +122,23 @@ pub(crate) fn covered<'a, O: TermOrder>(
     alloc: Global,
     order: &O,
     setting: &'a Setting<'a>,
-    nodes: &'a [Node],
+    building: &'a Building,
     node: u32,
     variable: VarId,
 ) -> Result<Option<Move>, OutOfMemory>
     requires setting { IsSetting setting.now }
-    requires in_range { node < length nodes.now }
-    requires nodes { AreNodes setting.now.spec.now.sig (clauses_of nodes.now) }
+    requires whole { IsWhole building.now }
+    requires in_range { node < length building.now.nodes.items }
+    requires nodes { AreNodes setting.now.spec.now.sig (clauses_of building.now.nodes.items) }
     ensures { IfOk result (λ found. (made : List WayNode) (here : WayNode) →
-        clauses made ≡ clauses_of nodes.now → slice_get made node ≡ Some here →
+        clauses made ≡ clauses_of building.now.nodes.items → slice_get made node ≡ Some here →
         let spec = setting.now.spec.now in
         let lemmas = setting.now.lemmas.now in
         IsFirst
         (Gives (makes (O.above order.now) spec lemmas (clauses made) here.clause))
         (cover spec here.clause variable.0) found) }
 {
-    let at = At::new(alloc, setting, nodes, &[], node)?;
+    let at = At::new(alloc, setting, building, node)?;
     cover_of(alloc, order, &at, variable)
 }
 

@@ -1,17 +1,20 @@
-ghost use Rattle.std.specs.Prelude.{IfOk};
+ghost use Rattle.std.specs.Prelude.{◌≡◌, ◌↔◌, IsTrue, IfOk};
+ghost use Rattle.std.specs.Option.{IfSome};
 ghost use Rattle.spec_core.specs.WellSorted.{IsWellSorted, GoalIsSorted};
 ghost use Rattle.routine_proof.specs.Routine.{IsFirstProof};
 ghost use Rattle.proof_search.specs.Guided.{steps_in};
+ghost use Rattle.proof_search.specs.Proving.{IsCoverOf};
 
 use crate::answers::Guided;
-use crate::proving::proof_from;
+use crate::proving::{Tried, proof_from};
 use crate::setting::Setting;
 use crate::starting::Start;
-use clause_core::{of_goal, within};
+use clause_core::{Clause, Step, of_goal, within};
 use path_order::TermOrder;
 use spec_core::{Goal, Spec};
 use std::alloc::Global;
-use term_core::{OutOfMemory, VarId};
+use term_core::{OutOfMemory, Term, VarId};
+use test_sets::test_set;
 
 /// The first routine proof of the goal with at most `nodes` nodes, over the goals of these numbers
 /// as lemmas.
@@ -28,22 +31,61 @@ pub fn guided<O: TermOrder>(
     ensures { IfOk result (λ found. IsFirstProof (O.above order.now) spec.now lemmas.now goal.now
         nodes (steps_in found)) }
 {
+    clause_core::one_answer(order);
     clause_core::tidying_laws();
     let clause = of_goal(alloc, goal)?;
     if !within(&clause) {
         return Ok(Guided::Unfinished);
     }
     let setting = Setting::new(alloc, spec, lemmas)?;
-    let found = proof_from(alloc, order, &setting, goal, Start::NoSplit, nodes)?;
-    if let Some(block) = found {
-        return Ok(Guided::Block(block));
-    }
+    let first = match proof_from(alloc, order, &setting, goal, Start::NoSplit, nodes)? {
+        Tried::Proof(block) => return Ok(Guided::Block(block)),
+        Tried::Not { first } => first,
+    };
+    let same = same_split(alloc, spec, &clause, first)?;
     for number in 0..clause.ctx.len() as u32 {
-        let start = Start::Split(VarId(number));
-        let found = proof_from(alloc, order, &setting, goal, start, nodes)?;
-        if let Some(block) = found {
+        let variable = VarId(number);
+        if same == Some(variable) {
+            continue;
+        }
+        let start = Start::Split(variable);
+        if let Tried::Proof(block) = proof_from(alloc, order, &setting, goal, start, nodes)? {
             return Ok(Guided::Block(block));
         }
     }
     Ok(Guided::Unfinished)
+}
+
+/// The variable whose split is the same start as one that begins with this step: the step is its
+/// cover by the test set of its sort.
+fn same_split(
+    alloc: Global,
+    spec: &Spec,
+    clause: &Clause,
+    first: Option<Step>,
+) -> Result<Option<VarId>, OutOfMemory>
+    requires { IsWellSorted spec.now }
+    ensures { IfOk result (λ found. IfSome found (IsCoverOf spec.now clause.now first)) }
+{
+    let Some(Step::Cover(variable, patterns)) = first else {
+        return Ok(None);
+    };
+    let Some(sort) = clause.ctx.as_slice().get(variable.0 as usize) else {
+        return Ok(None);
+    };
+    let set = test_set(alloc, &spec.sig, *sort)?;
+    if are_same(patterns.as_slice(), &set) {
+        return Ok(Some(variable));
+    }
+    Ok(None)
+}
+
+fn are_same(terms: &[Term], others: &[Term]) -> bool
+    ensures { IsTrue result ↔ (terms.now ≡ others.now) }
+{
+    match (terms, others) {
+        ([], []) => true,
+        ([term, terms @ ..], [other, others @ ..]) => term.same(other) && are_same(terms, others),
+        _ => false,
+    }
 }

@@ -1,5 +1,6 @@
 //! Routine proofs, found: for each start of a goal the one block that can be routine, and of these
-//! the first that is a proof.
+//! the first that is a proof. Where the block without a split begins with the cover of a variable,
+//! the split at this variable is the same start, and is passed over.
 //!
 //! It stands on routine_proof, which says what routine blocks and proofs are, on inference_rules,
 //! whose `children` takes steps, on acceptance, which says when steps prove a clause, and on
@@ -8,7 +9,9 @@
 //!
 //! `choosing` finds the step that a node takes: it goes through the entries of the list in their
 //! order, of which each kind has a file. What cannot fit is passed over before the table of steps is
-//! asked: rules of another function, and clauses whose symbols differ.
+//! asked: rules of another function, clauses whose symbols differ, and a side of an equation that is
+//! a variable of the other side. Which equation of a node leads is found once, when the node is added
+//! (`leading_places`), since each node below asks for it.
 #![tactic(auto)]
 
 mod answers;
@@ -17,6 +20,8 @@ mod building;
 mod choosing;
 mod covering;
 mod guiding;
+mod laws;
+mod leading_places;
 mod numbered;
 mod proving;
 mod referring;

@@ -3,14 +3,16 @@ ghost use Rattle.clause_core.specs.Clauses.{ClauseIsSorted};
 ghost use Rattle.fitting_lists.specs.Answering.{AreVariables};
 ghost use Rattle.fitting_lists.specs.Fitting.{both_sides};
 ghost use Rattle.routine_proof.specs.Candidates.{each};
-ghost use Rattle.proof_search.specs.Chosen.{subsumptions_by, lemma_instances_by};
+ghost use Rattle.proof_search.specs.Chosen.{ancestors_at, subsumptions_by, lemma_instances_by};
+ghost use Rattle.proof_search.specs.Leading.{IsLeading};
 ghost use Rattle.proof_search.specs.Taking.{IsAt, IsFound, asks_of};
 ghost use Rattle.proof_search.specs.Referring.{target_of, closing_step, closing_asks, rewriting_step, closings, closing, closing_pair};
 
 use crate::at::{Asked, At, taken};
+use crate::leading_places::leading_at;
 use crate::ruling::copy_place;
 use clause_core::{Clause, Place, Step, tidying_laws};
-use fitting_lists::{fitting_terms, leading};
+use fitting_lists::{LeadingEquation, fitting_terms, leading};
 use path_order::TermOrder;
 use routine_proof::Move;
 use spec_core::Equation;
@@ -81,9 +83,10 @@ pub(crate) fn first_subsumption<O: TermOrder>(
 ) -> Result<Option<Move>, OutOfMemory>
     requires { IsAt at.now }
     ensures { IfOk result (IsFound (O.above order.now) at.now
-        (each at.now.ancestors.now (subsumptions_by at.now))) }
+        (each (ancestors_at at.now) (subsumptions_by at.now))) }
 {
-    for number in at.ancestors {
+    let ancestors = at.building.ancestors(alloc, at.number)?;
+    for number in ancestors.as_slice() {
         let found = subsumption_by(alloc, order, at, *number)?;
         if found.is_some() {
             return Ok(found);
@@ -106,7 +109,9 @@ fn subsumption_by<O: TermOrder>(
         None => Ok(None),
         Some(node) => {
             let referral = Referral::Node(number);
-            first_closing(alloc, order, at, &referral, &node.clause)
+            let place = at.building.leadings[number as usize];
+            let first = leading_at(&node.clause, place);
+            first_closing(alloc, order, at, &referral, &node.clause, first)
         }
     }
 }
@@ -125,7 +130,8 @@ pub(crate) fn first_lemma_instance<O: TermOrder>(
     let setting = at.setting;
     for goal in &setting.goals {
         let referral = Referral::Goal(&goal.name);
-        let found = first_closing(alloc, order, at, &referral, &goal.clause)?;
+        let first = leading(&goal.clause);
+        let found = first_closing(alloc, order, at, &referral, &goal.clause, first)?;
         if found.is_some() {
             return Ok(found);
         }
@@ -141,13 +147,15 @@ fn first_closing<'a, O: TermOrder>(
     at: &At,
     referral: &'a Referral<'a>,
     clause: &'a Clause,
+    first: Option<LeadingEquation<'a>>,
 ) -> Result<Option<Move>, OutOfMemory>
     requires at { IsAt at.now }
     requires sorted { ClauseIsSorted at.now.setting.now.spec.now.sig clause.now }
+    requires leading { IsLeading clause.now first }
     ensures { IfOk result (IsFound (O.above order.now) at.now
         (closings at.now.here.now (target_of referral.now) clause.now)) }
 {
-    let Some(first) = leading(clause) else {
+    let Some(first) = first else {
         return Ok(None);
     };
     let by = Closing {

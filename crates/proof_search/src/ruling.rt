@@ -1,10 +1,11 @@
 ghost use Rattle.std.specs.Prelude.{◌≡◌, IfOk};
 ghost use Rattle.routine_proof.specs.Entries.{rules};
-ghost use Rattle.proof_search.specs.Taking.{IsAt, IsFound};
+ghost use Rattle.proof_search.specs.Taking.{IsAt, IsThere, IsFound};
 ghost use Rattle.proof_search.specs.Ruling.{ruling_step, rulings_by, rulings};
 
 use crate::at::{Asked, At, taken};
 use clause_core::{Place, Step};
+use clause_places::{SpotRef, places_are_there};
 use path_order::TermOrder;
 use routine_proof::Move;
 use std::alloc::Global;
@@ -39,8 +40,9 @@ pub(crate) fn first_ruling<O: TermOrder>(
     ensures { IfOk result (IsFound (O.above order.now) at.now
         (rulings entry at.now.setting.now.spec.now at.now.here.now)) }
 {
-    for place in &at.places {
-        let found = ruling_at(alloc, order, at, entry, place)?;
+    places_are_there();
+    for spot in &at.spots {
+        let found = ruling_at(alloc, order, at, entry, spot)?;
         if found.is_some() {
             return Ok(found);
         }
@@ -55,37 +57,42 @@ fn ruling_at<O: TermOrder>(
     order: &O,
     at: &At,
     entry: ByRule,
-    place: &Place,
+    spot: &SpotRef,
 ) -> Result<Option<Move>, OutOfMemory>
-    requires { IsAt at.now }
+    requires at { IsAt at.now }
+    requires there { IsThere at.now.here.now spot.now }
     ensures { IfOk result (IsFound (O.above order.now) at.now
-        (rulings_by entry place.now (rules at.now.setting.now.spec.now))) }
+        (rulings_by entry spot.now.place (rules at.now.setting.now.spec.now))) }
 {
-    let Some(term) = at.here.term_at(place) else {
-        return Ok(None);
-    };
+    let term = spot.term;
     let Node::App(sym, _) = &term.node else {
         return Ok(None);
     };
     let setting = at.setting;
-    ruling_by(alloc, order, at, entry, place, setting.rules_of(*sym))
+    ruling_by(alloc, order, at, entry, spot, setting.rules_of(*sym))
 }
 
-/// The first of them at the place by a rule of these numbers.
+/// The first of them at the place by a rule of these numbers. The table is asked only where the
+/// symbols of the left side are there.
 fn ruling_by<O: TermOrder>(
     alloc: Global,
     order: &O,
     at: &At,
     entry: ByRule,
-    place: &Place,
+    spot: &SpotRef,
     numbers: &[u32],
 ) -> Result<Option<Move>, OutOfMemory>
-    requires { IsAt at.now }
+    requires at { IsAt at.now }
+    requires there { IsThere at.now.here.now spot.now }
     ensures { IfOk result (IsFound (O.above order.now) at.now
-        (rulings_by entry place.now numbers.now)) }
+        (rulings_by entry spot.now.place numbers.now)) }
 {
+    let setting = at.setting;
     for number in numbers {
-        let step = entry.step(copy_place(alloc, place)?, *number);
+        if !setting.may_fit(*number, spot.term) {
+            continue;
+        }
+        let step = entry.step(copy_place(alloc, &spot.place)?, *number);
         let found = taken(alloc, order, at, step, Asked::Nothing)?;
         if found.is_some() {
             return Ok(found);

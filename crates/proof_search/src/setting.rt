@@ -1,12 +1,14 @@
-ghost use Rattle.std.specs.Prelude.{◌≡◌, [], IfOk, OnOk, map};
+ghost use Rattle.std.specs.Prelude.{◌≡◌, [], IfOk, IsTrue, OnOk, map};
 ghost use Rattle.spec_core.specs.WellSorted.{IsWellSorted};
+ghost use Rattle.clause_core.specs.RuleInstances.{RuleAt, IsInstance};
 ghost use Rattle.routine_proof.specs.Entries.{lemma_goals};
 ghost use Rattle.proof_search.specs.Settings.{IsSetting, IsTable, IsTableOf, AddsNumber, lemma_goal, numbers_of};
 
 use clause_core::{Clause, of_goal};
+use fitting_lists::may_become;
 use spec_core::Spec;
 use std::alloc::Global;
-use term_core::{Name, Node, OutOfMemory, Seq, SymId};
+use term_core::{Name, Node, OutOfMemory, Seq, SymId, Term};
 
 /// What stays the same while the proof of a goal is looked for: the specification, the numbers of
 /// the lemmas with these goals as clauses, and for each symbol the numbers of its rules.
@@ -43,6 +45,22 @@ impl<'a> Setting<'a> {
             goals,
             rules,
         })
+    }
+
+    /// Whether the term may be an instance of the left side of the rule of this number, which counts
+    /// from 1: where some symbol differs, it isn't one.
+    pub(crate) fn may_fit(&self, number: u32, term: &Term) -> bool
+        ensures { (by : RuleAt self.now.spec.now number) → IsInstance by.rule term.now → IsTrue result }
+    {
+        match self
+            .spec
+            .rules
+            .as_slice()
+            .get((number as usize).wrapping_sub(1))
+        {
+            None => false,
+            Some(rule) => may_become(&rule.left, term),
+        }
     }
 
     /// The numbers of the symbol's rules, which count from 1, in their order.

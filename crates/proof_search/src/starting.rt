@@ -4,12 +4,12 @@ ghost use Rattle.inference_rules.specs.Answers.{clauses_of};
 ghost use Rattle.inference_rules.specs.Nodes.{AreNodes};
 ghost use Rattle.proof_search.specs.Building.{IsWhole};
 ghost use Rattle.proof_search.specs.Settings.{IsSetting};
-ghost use Rattle.proof_search.specs.Starting.{IsBlock, IsListed, IsNext, start_of};
+ghost use Rattle.proof_search.specs.Starting.{IsBlock, IsNext, start_of};
 
 use crate::building::Building;
 use crate::choosing::{chosen, covered};
 use crate::setting::Setting;
-use clause_core::Clause;
+use clause_core::{Clause, Step};
 use path_order::TermOrder;
 use routine_proof::Move;
 use std::alloc::Global;
@@ -22,6 +22,16 @@ pub(crate) enum Start {
     Split(VarId),
 }
 
+/// What is built from a start.
+#[derive(Drop)]
+pub(crate) enum Built {
+    /// The routine block.
+    Block(Building),
+    /// It has more nodes than are allowed, or there is none. What was built begins with this step,
+    /// where it has one.
+    Not { first: Option<Step> },
+}
+
 /// The routine block of the clause from this start, where it has at most `most` nodes.
 pub(crate) fn block<O: TermOrder>(
     alloc: Global,
@@ -30,7 +40,7 @@ pub(crate) fn block<O: TermOrder>(
     start: Start,
     clause: Clause,
     most: u32,
-) -> Result<Option<Building>, OutOfMemory>
+) -> Result<Built, OutOfMemory>
     requires setting { IsSetting setting.now }
     requires node { IsNode setting.now.spec.now.sig clause }
     ensures { IfOk result (IsBlock (O.above order.now) setting.now.spec.now setting.now.lemmas.now
@@ -41,14 +51,20 @@ pub(crate) fn block<O: TermOrder>(
     let mut building = Building::new(alloc, clause)?;
     while building.steps.len() < building.nodes.len() {
         if building.nodes.len() > most as usize {
-            return Ok(None);
+            return Ok(Built::Not {
+                first: building.first_step(),
+            });
         }
         match next_move(alloc, order, setting, start, &building)? {
-            None => return Ok(None),
+            None => {
+                return Ok(Built::Not {
+                    first: building.first_step(),
+                });
+            }
             Some(next) => building.take(alloc, next)?,
         }
     }
-    Ok(Some(building))
+    Ok(Built::Block(building))
 }
 
 /// The move that is chosen at the next node.
@@ -69,32 +85,13 @@ fn next_move<O: TermOrder>(
 {
     let node = building.steps.len() as u32;
     match start {
-        Start::NoSplit => listed(alloc, order, setting, building, node),
+        Start::NoSplit => chosen(alloc, order, setting, building, node),
         Start::Split(variable) => {
             if node == 0 {
-                covered(alloc, order, setting, &building.nodes, node, variable)
+                covered(alloc, order, setting, building, node, variable)
             } else {
-                listed(alloc, order, setting, building, node)
+                chosen(alloc, order, setting, building, node)
             }
         }
     }
-}
-
-/// The move that the list of entries gives at a node.
-fn listed<O: TermOrder>(
-    alloc: Global,
-    order: &O,
-    setting: &Setting,
-    building: &Building,
-    node: u32,
-) -> Result<Option<Move>, OutOfMemory>
-    requires setting { IsSetting setting.now }
-    requires whole { IsWhole building.now }
-    requires nodes { AreNodes setting.now.spec.now.sig (clauses_of building.now.nodes.items) }
-    requires in_range { node < length building.now.nodes.items }
-    ensures { IfOk result (IsListed (O.above order.now) setting.now.spec.now setting.now.lemmas.now
-        building.now node) }
-{
-    let ancestors = building.ancestors(alloc, node)?;
-    chosen(alloc, order, setting, &building.nodes, &ancestors, node)
 }

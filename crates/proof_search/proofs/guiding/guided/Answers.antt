@@ -1,21 +1,25 @@
-use Rattle.std.proofs.Common.{◌<◌, ◌≤◌, length, ap, ◌∙◌, subst, arith}
+use Rattle.std.proofs.Common.{◌≡◌, ◌<◌, ◌≤◌, Some, length, ap, sym, ◌∙◌, subst, arith}
+use Rattle.std.specs.Option.{IfSome}
+use Rattle.std.proofs.lemmas.Bool.{eqb-true}
 use Rattle.clause_core.specs.declared.clauses.Clause.{Clause}
 use Rattle.clause_core.specs.Limits.{IsWithin}
 use Rattle.clause_core.specs.Tidied.{goal_clause}
 use Rattle.routine_proof.specs.Routine.{no_split, split}
+use Rattle.proof_search.specs.Proving.{IsCoverOf}
 use Rattle.proof_search.proofs.FewStarts.{few_starts}
-use Rattle.proof_search.proofs.FirstProofs.{by_setting, first_start, splits_left, found_split, later_left, ends}
+use Rattle.proof_search.proofs.FirstProofs.{by_setting, first_start, splits_left, found_split, later_left, same_left, ends}
+use Rattle.proof_search.proofs.Tests.{is_some_same}
 use Rattle.proof_search.proofs.guiding.guided.Goals as goal
 
-pub returns-in-Some : goal.returns-in-Some
-returns-in-Some g c =
+pub returns-in-Proof : goal.returns-in-Proof
+returns-in-Proof g c =
     first_start (g.O.TermOrder.above c.args.order.now) c.args.spec.now c.args.lemmas.now
-    c.args.goal.now c.args.nodes c.in_ok-found.found c.in-Some.block c.in-Some.is
+    c.args.goal.now c.args.nodes c.in_ok-block.field-0 c.in-Proof.block c.in-Proof.is
     (by_setting (g.O.TermOrder.above c.args.order.now)
     c.in_ok-setting.setting.spec.now c.args.spec.now
     c.in_ok-setting.setting.lemmas.now c.args.lemmas.now
     c.in_ok-setting.ensures.1 c.in_ok-setting.ensures.2 c.args.goal.now c.args.nodes no_split
-    c.in_ok-found.found c.in_ok-found.ensures)
+    c.in_ok-block.field-0 c.in_ok-block.ensures)
 
 pub overflow_cast-number-end : goal.overflow_cast-number-end
 overflow_cast-number-end g c =
@@ -30,15 +34,15 @@ pub loop-number-init : goal.loop-number-init
 loop-number-init g c =
     splits_left (g.O.TermOrder.above c.args.order.now) c.args.spec.now c.args.lemmas.now
     c.args.goal.now c.args.nodes
-    c.in_ok-found.found c.in_default.is
+    c.in_ok-block.field-0 c.in-Not.first c.in-Not.is
     (by_setting (g.O.TermOrder.above c.args.order.now)
     c.in_ok-setting.setting.spec.now c.args.spec.now
     c.in_ok-setting.setting.lemmas.now c.args.lemmas.now
     c.in_ok-setting.ensures.1 c.in_ok-setting.ensures.2 c.args.goal.now c.args.nodes
-    no_split c.in_ok-found.found c.in_ok-found.ensures)
+    no_split c.in_ok-block.field-0 c.in_ok-block.ensures)
 
-pub returns-in-Some-found : goal.returns-in-Some-found
-returns-in-Some-found g c =
+pub returns-in-Proof-2 : goal.returns-in-Proof-2
+returns-in-Proof-2 g c =
     let count = c.len-number-end.ensures
     ∙ ap (λ (x : Clause). length x.ctx) c.in_ok-clause.ensures in
     let lt : c.loop-number.number < length (goal_clause c.args.goal.now).ctx =
@@ -46,12 +50,34 @@ returns-in-Some-found g c =
     found_split (g.O.TermOrder.above c.args.order.now) c.args.spec.now c.args.lemmas.now
     c.args.goal.now c.args.nodes
     c.loop-number.number c.loop-number.invariant lt
-    c.in_ok-found-2.found c.in-Some-found.block c.in-Some-found.is
+    c.in_ok-block-2.field-0 c.in-Proof-2.block c.in-Proof-2.is
     (by_setting (g.O.TermOrder.above c.args.order.now)
     c.in_ok-setting.setting.spec.now c.args.spec.now
     c.in_ok-setting.setting.lemmas.now c.args.lemmas.now
     c.in_ok-setting.ensures.1 c.in_ok-setting.ensures.2 c.args.goal.now c.args.nodes
-    (split c.loop-number.number) c.in_ok-found-2.found c.in_ok-found-2.ensures)
+    (split c.loop-number.number) c.in_ok-block-2.field-0 c.in_ok-block-2.ensures)
+
+pub loop-number-preserved-then-eq : goal.loop-number-preserved-then-eq
+loop-number-preserved-then-eq g c =
+    let count = c.len-number-end.ensures
+    ∙ ap (λ (x : Clause). length x.ctx) c.in_ok-clause.ensures in
+    let lt : c.loop-number.number < length (goal_clause c.args.goal.now).ctx =
+    omega (arith, c.loop-number-test.true, count) in
+    let equal : c.in_ok-same.same ≡ Some (record { 0 = c.loop-number.number }) =
+    is_some_same _ (λ a b e. let n = eqb-true a.0 b.0 e in λ i. record { 0 = n i })
+    c.in_ok-same.same (record { 0 = c.loop-number.number }) (sym c.eq.ensures ∙ c.if-eq.true) in
+    same_left (g.O.TermOrder.above c.args.order.now) c.args.spec.now c.args.lemmas.now
+    c.args.goal.now c.args.nodes
+    c.loop-number.number c.loop-number.invariant lt c.one_answer.ensures c.requires.fine
+    c.in_ok-block.field-0 c.in-Not.first c.in-Not.is
+    (by_setting (g.O.TermOrder.above c.args.order.now)
+    c.in_ok-setting.setting.spec.now c.args.spec.now
+    c.in_ok-setting.setting.lemmas.now c.args.lemmas.now
+    c.in_ok-setting.ensures.1 c.in_ok-setting.ensures.2 c.args.goal.now c.args.nodes
+    no_split c.in_ok-block.field-0 c.in_ok-block.ensures)
+    c.in_ok-same.same equal
+    (subst (λ (x : Clause). IfSome c.in_ok-same.same (IsCoverOf c.args.spec.now x c.in-Not.first))
+    c.in_ok-clause.ensures c.in_ok-same.ensures)
 
 pub loop-number-preserved : goal.loop-number-preserved
 loop-number-preserved g c =
@@ -62,12 +88,12 @@ loop-number-preserved g c =
     later_left (g.O.TermOrder.above c.args.order.now) c.args.spec.now c.args.lemmas.now
     c.args.goal.now c.args.nodes
     c.loop-number.number c.loop-number.invariant lt
-    c.in_ok-found-2.found c.in_default-found.is
+    c.in_ok-block-2.field-0 c.in_default.field-0 c.in_default.is
     (by_setting (g.O.TermOrder.above c.args.order.now)
     c.in_ok-setting.setting.spec.now c.args.spec.now
     c.in_ok-setting.setting.lemmas.now c.args.lemmas.now
     c.in_ok-setting.ensures.1 c.in_ok-setting.ensures.2 c.args.goal.now c.args.nodes
-    (split c.loop-number.number) c.in_ok-found-2.found c.in_ok-found-2.ensures)
+    (split c.loop-number.number) c.in_ok-block-2.field-0 c.in_ok-block-2.ensures)
 
 pub returns : goal.returns
 returns g c =

@@ -10,6 +10,7 @@ use Rattle.fitting_lists.specs.Fitting.{Located}
 use Rattle.fitting_lists.proofs.Variables.{leading_variables}
 use Rattle.routine_proof.specs.Candidates.{Candidate, each}
 use Rattle.routine_proof.specs.First.{IsFirst, NoneIs}
+use Rattle.proof_search.specs.Leading.{IsLeading}
 use Rattle.proof_search.specs.Referring.{target_of, closing_pair}
 use Rattle.proof_search.proofs.FittingSteps.{by_equations, by_none}
 use Rattle.proof_search.proofs.referring.first_closing.Goals as goal
@@ -17,9 +18,10 @@ use Rattle.proof_search.proofs.referring.first_closing.Goals as goal
 pub returns-in_default : goal.returns-in_default
 returns-in_default g c =
     let says = SaysAt (g.O.TermOrder.above c.args.order.now) c.args.at.now in
+    let none = subst (λ o. IsLeading c.args.clause.now o) c.in_default.is c.requires.leading in
     subst (λ (cs : List Candidate). NoneIs (Gives says) cs)
     (sym (by_none c.args.at.now.here.now c.args.clause.now
-    (target_of c.args.referral.now) c.in_default.ensures)) tt
+    (target_of c.args.referral.now) none)) tt
 
 pub closing_either_way-requires-clause-variables : goal.closing_either_way-requires-clause-variables
 closing_either_way-requires-clause-variables g c =
@@ -27,7 +29,7 @@ closing_either_way-requires-clause-variables g c =
     (record {
       conclusion = c.in-Some.first.conclusion;
       equation = c.in-Some.first.equation.now;
-    }) c.in-Some.ensures
+    }) (subst (λ o. IsLeading c.args.clause.now o) c.in-Some.is c.requires.leading)
 
 pub returns-then-is_some : goal.returns-then-is_some
 returns-then-is_some g c =
@@ -38,6 +40,7 @@ returns-then-is_some g c =
       conclusion = c.in-Some.first.conclusion;
       equation = c.in-Some.first.equation.now;
     } in
+    let given = subst (λ o. IsLeading c.args.clause.now o) c.in-Some.is c.requires.leading in
     let same_steps = ap (λ (es : List Equation). each es
     (closing_pair (target_of c.args.referral.now) c.args.clause.now
     c.in-Some.first.equation.now)) c.equations-equation-items.ensures in
@@ -51,7 +54,7 @@ returns-then-is_some g c =
     c.in_ok-found.ensures in
     subst (λ (cs : List Candidate). IsFirst (Gives says) cs found)
     (same_steps ∙ sym (by_equations c.args.at.now.here.now c.args.clause.now
-    (target_of c.args.referral.now) leads c.in-Some.ensures)) first
+    (target_of c.args.referral.now) leads given)) first
 
 pub loop-equation-preserved : goal.loop-equation-preserved
 loop-equation-preserved g c =
@@ -79,6 +82,7 @@ returns g c =
       conclusion = c.in-Some.first.conclusion;
       equation = c.in-Some.first.equation.now;
     } in
+    let given = subst (λ o. IsLeading c.args.clause.now o) c.in-Some.is c.requires.leading in
     let same_steps = ap (λ (es : List Equation). each es
     (closing_pair (target_of c.args.referral.now) c.args.clause.now
     c.in-Some.first.equation.now)) c.equations-equation-items.ensures in
@@ -87,4 +91,4 @@ returns g c =
     c.in-Some.first.equation.now) k c.loop-equation-test.false c.loop-equation.invariant in
     subst (λ (cs : List Candidate). NoneIs (Gives says) cs)
     (same_steps ∙ sym (by_equations c.args.at.now.here.now c.args.clause.now
-    (target_of c.args.referral.now) leads c.in-Some.ensures)) all
+    (target_of c.args.referral.now) leads given)) all

@@ -6,5 +6,5 @@ use Rattle.proof_search.proofs.referring.first_subsumption.Given as goal
 
 abbrev pub invariant-loop-number : goal.invariant-loop-number
 invariant-loop-number g l =
-    Passed (Gives (SaysAt (g.O.TermOrder.above l.order) l.at)) l.at.ancestors.now
+    Passed (Gives (SaysAt (g.O.TermOrder.above l.order) l.at)) l.number-items
     (subsumptions_by l.at) l.number-index

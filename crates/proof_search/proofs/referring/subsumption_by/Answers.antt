@@ -1,6 +1,6 @@
-use Rattle.std.proofs.Common.{Option, refl, length}
+use Rattle.std.proofs.Common.{◌<◌, Option, refl, arith, length}
 use Rattle.std.specs.Prelude.{slice_get}
-use Rattle.std.proofs.lemmas.Option.{slice_get_read, slice_get_past}
+use Rattle.std.proofs.lemmas.Option.{slice_get_read, slice_get_past, slice_get_within}
 use Rattle.clause_core.specs.declared.clauses.Clause.{Clause}
 use Rattle.inference_rules.specs.Answers.{clauses_of}
 use Rattle.routine_proof.specs.declared.moves.Move.{Move}
@@ -8,9 +8,42 @@ use Rattle.routine_proof.specs.Candidates.{Gives}
 use Rattle.proof_search.specs.Chosen.{subsumptions_by}
 use Rattle.proof_search.specs.Referring.{node, closings}
 use Rattle.proof_search.specs.Taking.{SaysAt, IsFound}
+use Rattle.proof_search.proofs.LeadingPlaces.{place_at, places_long}
+use Rattle.proof_search.proofs.Walking.{item_at}
 use Rattle.term_core.proofs.Items.{if_ok_map}
 use Rattle.proof_search.proofs.ListedNodes.{clause_listed, clause_not_listed, none_listed, found_listed}
 use Rattle.proof_search.proofs.referring.subsumption_by.Goals as goal
+
+pub index-place-requires : goal.index-place-requires
+index-place-requires g c =
+    let b = c.args.at.now.building.now in
+    let node = c.in-Some.node.now in
+    let listed = item_at c.args.at.now.nodes.now b.nodes.items c.args.number node c.requires.own
+    c.in-Some.ensures.lookup.3.0 c.in-Some.ensures.lookup.1 in
+    omega (
+      arith,
+      slice_get_within b.nodes.items c.args.number node listed,
+      places_long b.nodes.items b.leadings.items c.requires.whole.leadings,
+      b.leadings.ok.0,
+    )
+
+pub leading_at-first-requires : goal.leading_at-first-requires
+leading_at-first-requires g c =
+    let b = c.args.at.now.building.now in
+    let node = c.in-Some.node.now in
+    let place = c.index-place.result.now in
+    let kept = c.requires.whole.leadings in
+    let listed = item_at c.args.at.now.nodes.now b.nodes.items c.args.number node c.requires.own
+    c.in-Some.ensures.lookup.3.0 c.in-Some.ensures.lookup.1 in
+    let within : c.args.number < length b.leadings.items =
+    omega (
+      arith,
+      slice_get_within b.nodes.items c.args.number node listed,
+      places_long b.nodes.items b.leadings.items kept,
+    ) in
+    place_at b.nodes.items b.leadings.items kept c.args.number node place listed
+    (slice_get_read b.leadings.items (length b.leadings.items) c.args.number place refl within
+    c.index-place.ensures)
 
 pub first_closing-requires-clause-sorted : goal.first_closing-requires-clause-sorted
 first_closing-requires-clause-sorted g c =

@@ -28,3 +28,7 @@ returns-in-Some g c =
     (slice_get (clauses_of at.nodes.now) 0) c.in-Some.first.now.clause found
     (clause_listed at.nodes.now 0 c.in-Some.first.now (sym c.in-Some.ensures.value)) first)
     c.first_rewriting.ensures
+
+pub first_rewriting-requires-clause-referred : goal.first_rewriting-requires-clause-referred
+first_rewriting-requires-clause-referred g c =
+    clause_listed c.args.at.now.nodes.now 0 c.in-Some.first.now (sym c.in-Some.ensures.value)

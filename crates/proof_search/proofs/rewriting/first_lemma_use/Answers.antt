@@ -1,10 +1,11 @@
-use Rattle.std.proofs.Common.{◌≡◌, true, false}
+use Rattle.std.proofs.Common.{◌≡◌, true, false, ap, sym}
 use Rattle.std.specs.Prelude.{is_some}
 use Rattle.routine_proof.specs.Candidates.{Gives}
 use Rattle.proof_search.specs.Taking.{SaysAt}
 use Rattle.proof_search.proofs.Walking.{found_at, passed_at, none_found, item_at, past_all}
 use Rattle.proof_search.specs.Chosen.{lemma_uses_by}
-use Rattle.proof_search.proofs.LemmaClauses.{lemma_sorted}
+use Rattle.proof_search.proofs.LemmaClauses.{lemma_sorted, lemma_listed}
+use Rattle.proof_search.specs.declared.setting.LemmaGoal.{LemmaGoal}
 use Rattle.proof_search.proofs.rewriting.first_lemma_use.Goals as goal
 
 pub first_rewriting-requires-clause-sorted : goal.first_rewriting-requires-clause-sorted
@@ -46,3 +47,18 @@ returns g c =
     none_found (Gives says) c.args.at.now.setting.now.goals.items (lemma_uses_by c.args.at.now) k
     (past_all c.deref-goal-items.result.now c.args.at.now.setting.now.goals.items k
     c.deref-goal-items.ensures.value c.loop-goal-test.false) c.loop-goal.invariant
+
+pub first_rewriting-requires-clause-referred : goal.first_rewriting-requires-clause-referred
+first_rewriting-requires-clause-referred g c =
+    let m = c.goal-item.result in
+    let listed = lemma_listed c.args.at.now.setting.now c.requires.setting c.loop-goal.goal-index m
+    (item_at c.deref-goal-items.result.now c.args.at.now.setting.now.goals.items
+    c.loop-goal.goal-index m c.deref-goal-items.ensures.value
+    c.loop-goal-test.true c.goal-item.is) in
+    record {
+      number = listed.number;
+      goal = listed.goal;
+      is = listed.is;
+      named = sym (ap (λ (x : LemmaGoal). x.name) listed.made);
+      clause = ap (λ (x : LemmaGoal). x.clause) listed.made;
+    }

@@ -8,4 +8,4 @@ use Rattle.proof_search.proofs.ruling.ruling_by.Given as goal
 abbrev pub invariant-loop-number : goal.invariant-loop-number
 invariant-loop-number g l =
     Passed (Gives (SaysAt (g.O.TermOrder.above l.order) l.at)) l.numbers
-    (λ (n : ℕ). certain (ruling_step l.entry l.place n)) l.number-index
+    (λ (n : ℕ). certain (ruling_step l.entry l.spot.place n)) l.number-index

@@ -22,7 +22,7 @@ returns-then-len-most g c =
     ) in
     part_long (g.O.TermOrder.above c.args.order.now) c.args.setting.now.spec.now
     c.args.setting.now.lemmas.now (start_of c.args.start) c.args.clause c.args.most
-    c.loop-alloc.building c.loop-alloc.invariant more
+    c.loop-alloc.building c.loop-alloc.invariant more c.first_step.result c.first_step.ensures
 
 pub returns-in-None : goal.returns-in-None
 returns-in-None g c =
@@ -43,7 +43,8 @@ returns-in-None g c =
     c.in-None.is c.in_ok-next_move.ensures in
     part_stops (g.O.TermOrder.above c.args.order.now) c.args.setting.now.spec.now
     c.args.setting.now.lemmas.now (start_of c.args.start) c.args.clause c.args.most
-    c.loop-alloc.building c.loop-alloc.invariant lt next
+    c.loop-alloc.building c.loop-alloc.invariant lt next c.first_step-in-None.result
+    c.first_step-in-None.ensures
 
 pub loop-alloc-preserved : goal.loop-alloc-preserved
 loop-alloc-preserved g c =

@@ -1,27 +1,38 @@
-use Rattle.std.proofs.Common.{get_or}
+use Rattle.std.proofs.Common.{◌<◌, get_or, length, sym, subst}
+use Rattle.inference_rules.specs.Answers.{clauses_of}
+use Rattle.inference_rules.specs.Nodes.{AreNodes}
 use Rattle.proof_search.proofs.ListedNodes.{clause_read}
 use Rattle.proof_search.proofs.at.At.new.Goals as goal
 
-pub places-requires : goal.places-requires
-places-requires c =
+pub spots-requires : goal.spots-requires
+spots-requires c =
     let sig = c.args.setting.now.spec.now.sig in
-    let node = c.requires.nodes c.args.number
-    (get_or c.args.nodes.now c.args.number c.index-nodes-number.result).clause
-    (clause_read c.args.nodes.now c.args.number c.index-nodes-number.result
-    c.requires.in_range) in
-    c.places_are_there.ensures.numbers_fit sig
-    (get_or c.args.nodes.now c.args.number c.index-nodes-number.result).clause
-    c.requires.setting.fine.arities node.sorted node.within
+    let ns = c.as_slice-nodes.result.now in
+    let own = c.as_slice-nodes.ensures.value in
+    let nodes = subst (λ xs. AreNodes sig (clauses_of xs)) (sym own) c.requires.nodes in
+    let in_range = subst (λ xs. c.args.number < length xs) (sym own) c.requires.in_range in
+    let here = (get_or ns c.args.number c.index-nodes-number.result).clause in
+    let node = nodes c.args.number here
+    (clause_read ns c.args.number c.index-nodes-number.result in_range) in
+    c.places_are_there.ensures.numbers_fit sig here c.requires.setting.fine.arities node.sorted
+    node.within
 
 pub returns-clause-is : goal.returns-clause-is
 returns-clause-is c =
-    let listed = clause_read c.args.nodes.now c.args.number c.index-nodes-number.result
-    c.requires.in_range in
+    let sig = c.args.setting.now.spec.now.sig in
+    let ns = c.as_slice-nodes.result.now in
+    let own = c.as_slice-nodes.ensures.value in
+    let nodes = subst (λ xs. AreNodes sig (clauses_of xs)) (sym own) c.requires.nodes in
+    let in_range = subst (λ xs. c.args.number < length xs) (sym own) c.requires.in_range in
+    let listed = clause_read ns c.args.number c.index-nodes-number.result in_range in
     record {
       setting = c.requires.setting;
-      nodes = c.requires.nodes;
+      whole = c.requires.whole;
+      in_range = c.requires.in_range;
+      own = own;
+      nodes = nodes;
       here = listed;
-      node = c.requires.nodes c.args.number (get_or c.args.nodes.now c.args.number
-          c.index-nodes-number.result).clause listed;
-      places = c.in_ok-places.ensures;
+      node = nodes c.args.number (get_or ns c.args.number c.index-nodes-number.result).clause
+          listed;
+      spots = c.in_ok-spots.ensures;
     }

@@ -1,10 +1,36 @@
-use Rattle.std.proofs.Common.{◌≡◌, ◌++◌, [], ◌∷◌, ap, sym, ◌∙◌, length, arith}
+use Rattle.std.proofs.Common.{◌≡◌, ℕ, ◌++◌, List, [], ◌∷◌, ap, sym, ◌∙◌, length, arith}
 use Rattle.std.proofs.lemmas.Iterator.Adapters.{YieldsList-from_vec}
 use Rattle.std.proofs.lemmas.Iterator.Consumers.{YieldsList-end}
 use Rattle.std.proofs.lemmas.List.{map-id}
 use Rattle.acceptance.specs.Blocks.{clauses_of}
-use Rattle.proof_search.proofs.AddedNodes.{nodes_for, nodes_for_children, parents_for, parents_for_children}
+use Rattle.inference_rules.specs.declared.nodes.Node.{Node as ClauseNode}
+use Rattle.proof_search.proofs.AddedNodes.{nodes_for, nodes_for_children, nodes_more, parents_for, parents_for_children, parents_more}
+use Rattle.proof_search.proofs.LeadingPlaces.{places_more}
 use Rattle.proof_search.proofs.building.Building.take.Goals as goal
+
+pub loop-clause-preserved : goal.loop-clause-preserved
+loop-clause-preserved c =
+    let old = c.args.self.now in
+    let now = c.loop-clause.self in
+    let adds = c.loop-clause.invariant in
+    let clause = c.in-Some.clause in
+    let node : ClauseNode = record { clause = clause } in
+    record {
+      nodes =
+          c.in_ok-push-4.ensures.items
+          ∙ ap (λ (ns : List ClauseNode). ns ++ node ∷ []) adds.nodes
+          ∙ nodes_more old.nodes.items c.loop-clause.yielded clause;
+      parents =
+          c.in_ok-push-5.ensures.items
+          ∙ ap (λ (ps : List ℕ). ps ++ c.len-parent.result ∷ []) adds.parents
+          ∙ parents_more old.parents.items c.len-parent.result c.loop-clause.yielded clause;
+      links = adds.links;
+      steps = adds.steps;
+      leadings = λ kept.
+          places_more now.nodes.items c.push-in-loop-clause-2.new.self.items now.leadings.items
+          c.push-in-loop-clause.new.self.items node c.leading_place.result (adds.leadings kept)
+          c.leading_place.ensures c.in_ok-push-4.ensures.items c.in_ok-push-3.ensures.items;
+    }
 
 pub returns : goal.returns
 returns c =
@@ -35,4 +61,5 @@ returns c =
       links =
           adds.links ∙ c.in_ok-push-2.ensures.items
           ∙ ap (λ l. old.links.items ++ l ∷ []) c.in_ok-clauses.ensures.links;
+      leadings = adds.leadings;
     }
