@@ -1,5 +1,6 @@
 -- Blocks: goals that may be used, and steps that are taken.
 mod UsableGoals
+mod KeptClauses
 mod TakenSteps
 mod TestedBlocks
 -- Values of refuted goals.

@@ -2,7 +2,7 @@
 use Rattle.std.proofs.Common.{◌≡◌, ◌⊎◌, ℕ, suc, ◌+◌, ◌≤◌, ◌<◌, List, [], ◌∷◌, inl, inr, refl, sym, ◌∙◌, ap, subst, arith, length}
 use Rattle.std.specs.Prelude.{Some, Err, Contains, slice_get}
 use Rattle.std.specs.List.{AllByRecursion}
-use Rattle.std.proofs.lemmas.List.{length-map}
+use Rattle.std.proofs.lemmas.List.{length-map, take_all}
 use Rattle.std.proofs.lemmas.Option.{slice_get_past}
 use Rattle.term_core.specs.Tree.{Tree}
 use Rattle.spec_core.specs.declared.records.Goal.{Goal}
@@ -60,19 +60,22 @@ before_or_behind : (k n : ℕ) → (k < n) ⊎ (n ≤ k)
 before_or_behind k n = grind arith
 
 -- the nodes and the links of a block whose steps are taken
-module _ (above : Tree → Tree → Type 0) (spec : Spec) (numbers : List ℕ) (goal : Goal) (steps : List Step) (taken : TakenSteps) (t : AreTaken above spec (Contains numbers) (goal_clause goal) steps taken) where
+module _ (above : Tree → Tree → Type 0) (spec : Spec) (numbers : List ℕ) (goal : Goal) (steps : List Step) (taken : TakenSteps) (t : AreTaken above spec (Contains numbers) (goal_clause goal) steps (length steps) taken) where
   many : length taken.nodes.items ≡ length (nodes_of (goal_clause goal) t.made)
-  many = sym (length-map taken.nodes.items (λ (n : Node). n.clause)) ∙ ap length t.nodes
+  many = sym (length-map taken.nodes.items (λ (n : Node). n.clause)) ∙ t.nodes.long
+
+  makes_all : StepsMake above spec (Contains numbers) (goal_clause goal ∷ []) 0 steps t.made
+  makes_all = subst (λ s. StepsMake above spec (Contains numbers) (goal_clause goal ∷ []) 0 s t.made) (take_all (length steps) steps (omega arith)) t.makes
 
   entries : length taken.links.items ≡ length steps
-  entries = ap length t.links ∙ length-map t.made links_of ∙ as_many above spec (Contains numbers) (goal_clause goal ∷ []) 0 steps t.made t.makes
+  entries = ap length t.links ∙ length-map t.made links_of ∙ as_many above spec (Contains numbers) (goal_clause goal ∷ []) 0 steps t.made makes_all
 
   module _ (no_more : length taken.nodes.items ≤ length steps) where
     finished : length (nodes_of (goal_clause goal) t.made) ≡ length steps
     finished = omega (arith, no_more, many, entries, t.few.reached)
 
     pub whole : IsWholeBlock taken.links.items
-    whole = subst IsWholeBlock (sym t.links) (whole_links t.made (whole_block above spec (Contains numbers) (goal_clause goal) steps t.made t.makes finished))
+    whole = subst IsWholeBlock (sym t.links) (whole_links t.made (whole_block above spec (Contains numbers) (goal_clause goal) steps t.made makes_all finished))
 
 module _ (above : Tree → Tree → Type 0) (one : OneRelation above) (spec : Spec) (fine : IsWellSorted spec) (before : List Claim) (line : ℕ) (goal : Goal) (number : ℕ) (at : slice_get spec.goals number ≡ Some goal) (steps : List Step) where
   named : IsGoalNamed spec goal.name goal
@@ -94,9 +97,9 @@ module _ (above : Tree → Tree → Type 0) (one : OneRelation above) (spec : Sp
     block_stops P (Refused at reason) h = step_refused h.0 at h.1 reason h.2 h.3 h.4 h.5
     block_stops P OutOfMemory h = tt
 
-    module _ (taken : TakenSteps) (t : AreTaken above spec (Contains numbers) (goal_clause goal) steps taken) where
+    module _ (taken : TakenSteps) (t : AreTaken above spec (Contains numbers) (goal_clause goal) steps (length steps) taken) where
       makes : StepsMake above spec (ProvedBefore spec before) (goal_clause goal ∷ []) 0 steps t.made
-      makes = makes_same above spec (Contains numbers) (ProvedBefore spec before) proved (goal_clause goal ∷ []) 0 steps t.made t.makes
+      makes = makes_same above spec (Contains numbers) (ProvedBefore spec before) proved (goal_clause goal ∷ []) 0 steps t.made (makes_all above spec numbers goal steps taken t)
 
       pub more_nodes : length steps < length taken.nodes.items → IsFirst line Pending
       more_nodes lt = first_pending above one spec fine before line goal.name goal named steps within t.made makes (omega (arith, lt, many above spec numbers goal steps taken t))

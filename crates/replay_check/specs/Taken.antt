@@ -1,5 +1,5 @@
 -- Steps of a block that are taken: the nodes so far, and the links from those with a step.
-use Rattle.std.specs.Prelude.{◌≡◌, ◌≤◌, ◌<◌, ◌+◌, suc, ℕ, List, [], ◌∷◌, ◌++◌, Result, Ok, Err, length, map}
+use Rattle.std.specs.Prelude.{◌≡◌, ◌≤◌, ◌<◌, ◌+◌, suc, ℕ, List, [], ◌∷◌, ◌++◌, Result, Ok, Err, length, map, take}
 use Rattle.term_core.specs.Tree.{Tree}
 use Rattle.spec_core.specs.declared.records.Spec.{Spec}
 use Rattle.clause_core.specs.declared.clauses.Clause.{Clause}
@@ -14,6 +14,7 @@ use Rattle.inference_rules.specs.declared.nodes.StepError.TheVariants.{Why as be
 use Rattle.inference_rules.specs.Answers.{clauses_of}
 use Rattle.inference_rules.specs.Nodes.{AreNodes, clauses_made}
 use Rattle.block_links.specs.Links.{links_of}
+use Rattle.replay_check.specs.Kept.{Agree, IsNeededFrom}
 use Rattle.replay_check.specs.declared.answers.Stop.{Stop}
 use Rattle.replay_check.specs.declared.answers.Stop.TheVariants.{Refused, OutOfMemory}
 use Rattle.replay_check.specs.declared.taken_steps.TakenSteps.{TakenSteps}
@@ -44,17 +45,18 @@ module _ (above : Tree → Tree → Type 0) (spec : Spec) (usable : ℕ → Type
       IsRefused above spec usable (clauses_of old.nodes.items) (length old.links.items) step why
   TakesStep old new step (Err no_memory) = Unit {0}
 
-  -- the steps of a block that begins with this clause are taken
-  pub record AreTaken (start : Clause) (steps : List Step) (taken : TakenSteps) : Type 0 where
+  -- the first k steps of a block that begins with this clause are taken, and the clauses that are
+  -- needed from there on are kept
+  pub record AreTaken (start : Clause) (steps : List Step) (k : ℕ) (taken : TakenSteps) : Type 0 where
     pub made : List Children
-    pub makes : StepsMake above spec usable (start ∷ []) 0 steps made
-    pub nodes : clauses_of taken.nodes.items ≡ nodes_of start made
+    pub makes : StepsMake above spec usable (start ∷ []) 0 (take k steps) made
+    pub nodes : Agree (IsNeededFrom steps k) (clauses_of taken.nodes.items) (nodes_of start made)
     pub links : taken.links.items ≡ map links_of made
     pub few : AreFewNodes taken
 
   -- all steps are taken, or one is refused, on its line, behind the first one of the claim
   abbrev pub FindsSteps : Clause → List Step → ℕ → Result TakenSteps Stop → Type 0
-  FindsSteps start steps line (Ok taken) = AreTaken start steps taken
+  FindsSteps start steps line (Ok taken) = AreTaken start steps (length steps) taken
   FindsSteps start steps line (Err (Refused at reason)) =
       (k : ℕ) × (why : Why) × (k < length steps) × (at ≡ line + suc k) × (reason ≡ of_step why)
       × StepIsRefused above spec usable start steps k why

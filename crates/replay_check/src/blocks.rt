@@ -10,6 +10,7 @@ ghost use Rattle.replay_check.specs.Taken.{FindsSteps, StopsAt};
 ghost use Rattle.replay_check.specs.Tracking.{AreProved};
 
 use crate::answers::Stop;
+use crate::last_uses::last_uses;
 use crate::lines::line_behind;
 use crate::taken_steps::TakenSteps;
 use acceptance::{Allowed, allowed};
@@ -65,7 +66,8 @@ pub(crate) fn check_block<O: TermOrder>(
     }
 }
 
-/// Takes the steps of a block that begins with this clause, each at the node of its number.
+/// Takes the steps of a block that begins with this clause, each at the node of its number. The
+/// clause of a node is let go as soon as no later step needs it.
 fn take_steps<O: TermOrder>(
     alloc: Global,
     admitted: &Admitted<O>,
@@ -78,12 +80,15 @@ fn take_steps<O: TermOrder>(
     ensures { FindsSteps (O.above admitted.now.order) admitted.now.spec (Contains proved.now) start
         steps.now line result }
 {
+    let lasts = last_uses(alloc, steps)?;
+    let lasts = lasts.as_slice();
     let mut taken = TakenSteps::new(alloc, start)?;
     for (number, step) in steps.iter().enumerate() {
         match taken.take(alloc, admitted, proved, step) {
             Ok(()) => {}
             Err(error) => return Err(stop_at(line, number, error)),
         }
+        taken.let_go(alloc, lasts, number, step);
     }
     Ok(taken)
 }

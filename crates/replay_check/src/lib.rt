@@ -8,13 +8,16 @@
 //! else its first refusal (`specs/Tells.antt`).
 //!
 //! Claims are tested in their order (`claims.rt`), a block step by step (`blocks.rt`), and the
-//! values of a refuted goal by its verdict (`values.rt`).
+//! values of a refuted goal by its verdict (`values.rt`). Of a block's nodes those clauses are kept
+//! that a later step needs (`last_uses.rt`), so that a long block of large clauses takes the room of
+//! a few.
 #![tactic(auto)]
 
 mod answers;
 mod blocks;
 mod claimed_goals;
 mod claims;
+mod last_uses;
 mod lines;
 mod replaying;
 mod taken_steps;

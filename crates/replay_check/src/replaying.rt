@@ -12,7 +12,8 @@ use term_core::OutOfMemory;
 
 /// Whether the report is accepted for the admitted specification, or where and why it is first
 /// refused. The claims are tested in order, and each step once, at the cost of the step, its node
-/// and its children. A line whose number passes 64 bits is answered as want of memory.
+/// and its children. The clause of a node is kept until its step is taken and no later step refers
+/// to the node. A line whose number passes 64 bits is answered as want of memory.
 pub fn replay<O: TermOrder>(
     alloc: Global,
     admitted: &Admitted<O>,

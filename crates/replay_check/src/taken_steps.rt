@@ -1,20 +1,23 @@
-ghost use Rattle.std.specs.Prelude.{◌≡◌, ◌≤◌, ◌++◌, [], ◌∷◌, IfOk, OnOk, Contains, length};
+ghost use Rattle.std.specs.Prelude.{◌≡◌, ◌<◌, ◌≤◌, ◌++◌, [], ◌∷◌, IfOk, OnOk, Contains, length};
 ghost use Rattle.inference_rules.specs.Answers.{clauses_of};
 ghost use Rattle.inference_rules.specs.Nodes.{AreNodes, clauses_made};
-ghost use Rattle.block_links.specs.Links.{links_of};
+ghost use Rattle.block_links.specs.Links.{links_of, without_sides};
+ghost use Rattle.replay_check.specs.Kept.{IsNeededBehind, LetsGo};
 ghost use Rattle.replay_check.specs.Taken.{TakesStep};
 
+use crate::last_uses::referred_node;
 use block_links::apart;
 use clause_core::{Children, Clause, Step, Why};
 use inference_rules::{Node, StepError, children};
 use path_order::TermOrder;
 use spec_admit::Admitted;
 use std::alloc::Global;
-use term_core::OutOfMemory;
+use term_core::{OutOfMemory, Seq};
 
 /// The nodes of a block so far, and the links from those whose steps are taken.
 #[derive(Drop)]
 pub(crate) struct TakenSteps {
+    /// A node that no later step needs has a clause without sides.
     pub nodes: Vec<Node>,
     /// For each step the relations of its children and its references. The clauses of the children
     /// stand in `nodes` alone.
@@ -74,5 +77,41 @@ impl TakenSteps {
         }
         self.links.push(links)?;
         Ok(())
+    }
+
+    /// Lets the clauses go that no step behind this one needs: that of its node, and that of the node
+    /// that it refers to. The step is taken, and for each node the last step that refers to it is
+    /// told.
+    pub fn let_go(&mut self, alloc: Global, lasts: &[usize], number: usize, step: &Step)
+        requires told { number < length lasts.now }
+        requires there { number < length self.old.nodes.items }
+        ensures { LetsGo (IsNeededBehind lasts.now number) self.old self.new }
+    {
+        self.let_node_go(alloc, lasts, number, number);
+        if let Some(node) = referred_node(step) {
+            self.let_node_go(alloc, lasts, number, node as usize);
+        }
+    }
+
+    /// Lets the clause of a node go if its step isn't behind this one and no such step refers to it.
+    fn let_node_go(&mut self, alloc: Global, lasts: &[usize], number: usize, node: usize)
+        requires told { number < length lasts.now }
+        requires there { number < length self.old.nodes.items }
+        ensures { LetsGo (IsNeededBehind lasts.now number) self.old self.new }
+    {
+        if node <= number && lasts[node] <= number {
+            let clause = clause_without_sides(alloc);
+            self.nodes[node] = Node { clause };
+        }
+    }
+}
+
+fn clause_without_sides(alloc: Global) -> Clause
+    ensures { result ≡ without_sides }
+{
+    Clause {
+        ctx: Seq::new(alloc),
+        premises: Seq::new(alloc),
+        conclusions: Seq::new(alloc),
     }
 }

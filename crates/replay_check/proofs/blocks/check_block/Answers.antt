@@ -36,13 +36,13 @@ returns-then-nodes-steps g c = λ before proved.
     let fine : IsWellSorted c.args.admitted.now.spec = rw (← c.admitted.view_is) c.admitted.invariant.0 in
     let one : OneRelation (g.O.TermOrder.above c.args.admitted.now.order) = rw (← c.admitted.view_is) c.one_relation.ensures in
     let within : IsWithin (goal_clause c.args.goal.now) = subst IsWithin c.in_ok-start.ensures (c.within.ensures.0 c.if-not-within.false) in
-    let taken = subst (λ s. AreTaken (g.O.TermOrder.above c.args.admitted.now.order) c.args.admitted.now.spec (Contains c.args.proved.now) s c.args.steps.now c.in_ok-taken.taken) c.in_ok-start.ensures c.in_ok-taken.ensures in
+    let taken = subst (λ s. AreTaken (g.O.TermOrder.above c.args.admitted.now.order) c.args.admitted.now.spec (Contains c.args.proved.now) s c.args.steps.now (length c.args.steps.now) c.in_ok-taken.taken) c.in_ok-start.ensures c.in_ok-taken.ensures in
     let lt : length c.args.steps.now < length c.in_ok-taken.taken.nodes.items = omega (arith, c.if-nodes-steps.true, ap length c.as_slice-nodes.ensures.value) in
     more_nodes (g.O.TermOrder.above c.args.admitted.now.order) one c.args.admitted.now.spec fine before c.args.line c.args.goal.now c.requires.0 c.requires.1 c.args.steps.now c.args.proved.now proved within c.in_ok-taken.taken taken lt
 
 pub allowed-requires : goal.allowed-requires
 allowed-requires g c =
-    let taken = subst (λ s. AreTaken (g.O.TermOrder.above c.args.admitted.now.order) c.args.admitted.now.spec (Contains c.args.proved.now) s c.args.steps.now c.in_ok-taken.taken) c.in_ok-start.ensures c.in_ok-taken.ensures in
+    let taken = subst (λ s. AreTaken (g.O.TermOrder.above c.args.admitted.now.order) c.args.admitted.now.spec (Contains c.args.proved.now) s c.args.steps.now (length c.args.steps.now) c.in_ok-taken.taken) c.in_ok-start.ensures c.in_ok-taken.ensures in
     let no_more : length c.in_ok-taken.taken.nodes.items ≤ length c.args.steps.now = omega (arith, c.if-nodes-steps.false, ap length c.as_slice-nodes.ensures.value) in
     subst IsWholeBlock (sym c.as_slice-links.ensures.value) (whole (g.O.TermOrder.above c.args.admitted.now.order) c.args.admitted.now.spec c.args.proved.now c.args.goal.now c.args.steps.now c.in_ok-taken.taken taken no_more)
 
@@ -51,7 +51,7 @@ returns-in-All g c = λ before proved.
     let fine : IsWellSorted c.args.admitted.now.spec = rw (← c.admitted.view_is) c.admitted.invariant.0 in
     let one : OneRelation (g.O.TermOrder.above c.args.admitted.now.order) = rw (← c.admitted.view_is) c.one_relation.ensures in
     let within : IsWithin (goal_clause c.args.goal.now) = subst IsWithin c.in_ok-start.ensures (c.within.ensures.0 c.if-not-within.false) in
-    let taken = subst (λ s. AreTaken (g.O.TermOrder.above c.args.admitted.now.order) c.args.admitted.now.spec (Contains c.args.proved.now) s c.args.steps.now c.in_ok-taken.taken) c.in_ok-start.ensures c.in_ok-taken.ensures in
+    let taken = subst (λ s. AreTaken (g.O.TermOrder.above c.args.admitted.now.order) c.args.admitted.now.spec (Contains c.args.proved.now) s c.args.steps.now (length c.args.steps.now) c.in_ok-taken.taken) c.in_ok-start.ensures c.in_ok-taken.ensures in
     let no_more : length c.in_ok-taken.taken.nodes.items ≤ length c.args.steps.now = omega (arith, c.if-nodes-steps.false, ap length c.as_slice-nodes.ensures.value) in
     let tells = subst (λ ls. TellsAllowed ls All) c.as_slice-links.ensures.value (subst (λ a. TellsAllowed c.as_slice-links.result.now a) c.in-All.is c.in_ok-allowed.ensures) in
     all_allowed (g.O.TermOrder.above c.args.admitted.now.order) one c.args.admitted.now.spec fine before c.args.line c.args.goal.now c.requires.0 c.requires.1 c.args.steps.now c.args.proved.now proved within c.in_ok-taken.taken taken no_more tells
@@ -61,7 +61,7 @@ returns g c = λ before proved.
     let fine : IsWellSorted c.args.admitted.now.spec = rw (← c.admitted.view_is) c.admitted.invariant.0 in
     let one : OneRelation (g.O.TermOrder.above c.args.admitted.now.order) = rw (← c.admitted.view_is) c.one_relation.ensures in
     let within : IsWithin (goal_clause c.args.goal.now) = subst IsWithin c.in_ok-start.ensures (c.within.ensures.0 c.if-not-within.false) in
-    let taken = subst (λ s. AreTaken (g.O.TermOrder.above c.args.admitted.now.order) c.args.admitted.now.spec (Contains c.args.proved.now) s c.args.steps.now c.in_ok-taken.taken) c.in_ok-start.ensures c.in_ok-taken.ensures in
+    let taken = subst (λ s. AreTaken (g.O.TermOrder.above c.args.admitted.now.order) c.args.admitted.now.spec (Contains c.args.proved.now) s c.args.steps.now (length c.args.steps.now) c.in_ok-taken.taken) c.in_ok-start.ensures c.in_ok-taken.ensures in
     let no_more : length c.in_ok-taken.taken.nodes.items ≤ length c.args.steps.now = omega (arith, c.if-nodes-steps.false, ap length c.as_slice-nodes.ensures.value) in
     let tells = subst (λ ls. TellsAllowed ls (Not c.in-Not.node)) c.as_slice-links.ensures.value (subst (λ a. TellsAllowed c.as_slice-links.result.now a) c.in-Not.is c.in_ok-allowed.ensures) in
     not_allowed (g.O.TermOrder.above c.args.admitted.now.order) one c.args.admitted.now.spec fine before c.args.line c.args.goal.now c.requires.0 c.requires.1 c.args.steps.now c.args.proved.now proved within c.in_ok-taken.taken taken no_more c.in-Not.node c.in_ok-line_behind-in-Not.field-0 c.in_ok-line_behind-in-Not.ensures tells
