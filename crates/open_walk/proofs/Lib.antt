@@ -1,0 +1,13 @@
+-- Equal applications, variables of instances, and lists of entries.
+mod Arguments
+pub mod Occurring
+mod Entries
+-- Open values under values of their variables, and walks.
+pub mod OpenValues
+pub mod Instancing
+pub mod OpenWalks
+-- The same with a constant for each variable.
+pub mod ClosedTerms
+pub mod WithConstants
+mod Parts
+pub mod OutOfConstants
