@@ -5,5 +5,16 @@ pub mod Lists
 pub mod Walks
 pub mod Same
 mod SharedSides
+-- Where some variables have no value.
+mod Marking
+mod OpenTerms
+mod OpenWalking
+mod OpenPairs
+mod Comparable
+mod PartSorts
+mod FixedSides
+mod OpenGoals
+mod PartGoals
+mod ConstantSorts
 -- What the tests evaluate.
 pub mod Samples

@@ -107,7 +107,7 @@ pairs_kept p q count es pairs same adds h =
           record { left = side_kept p q pair.left count e.left same adds c.left; right = side_kept p q pair.right count e.right same adds c.right };
     }
 
-values_count : (spec : Spec) (ss : List SortId) (vs : List Tree) → AreValuesOf spec ss vs → length vs ≡ length ss
+pub values_count : (spec : Spec) (ss : List SortId) (vs : List Tree) → AreValuesOf spec ss vs → length vs ≡ length ss
 values_count spec [] [] h = refl
 values_count spec [] (v ∷ vs) h = absurd h
 values_count spec (s ∷ ss) [] h = absurd h

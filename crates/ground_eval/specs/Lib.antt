@@ -3,5 +3,10 @@ pub mod Evals
 pub mod Sides
 pub mod Prepared
 pub mod Laws
+pub mod Opened
+-- What only this crate's own contracts speak of, where some variables have no value.
+pub mod Constants
+pub mod OpenSides
+pub mod ConstantSorts
 -- What the tests evaluate.
 pub mod Samples

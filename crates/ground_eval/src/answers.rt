@@ -18,3 +18,12 @@ pub(crate) enum Sides {
     Differ,
     Spent,
 }
+
+/// What the sides of an equation give within the budget, whatever the variables are that have no
+/// value. `Unknown` where it depends on them, or where a side gives no value within the budget.
+#[derive(Drop)]
+pub(crate) enum OpenSides {
+    Same,
+    Differ,
+    Unknown,
+}

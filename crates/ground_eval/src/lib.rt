@@ -1,20 +1,29 @@
 //! Evaluation of ground terms, and the verdict of a goal under values, each within a budget of rule
 //! uses.
 //!
-//! It stands on term_core, spec_core, value_bank and bank_machine. Its contracts say against
+//! It stands on term_core, spec_core, value_bank, bank_machine, and, for verdicts where only the
+//! first variables have values, on constants and open_walk. Its contracts say against
 //! spec_core's definitions that a value and its cost are right, that Spent comes only where nothing
 //! fits the budget, and that a verdict is the goal's. The layer above makes one [`PreparedGoal`] and
-//! one bank for the verdicts of a goal and uses the clauses of [`PreparedGoal::verdict`].
+//! one bank for the verdicts of a goal and uses the clauses of [`PreparedGoal::verdict`]. A
+//! [`PartialGoal`] answers for all lists of values that begin alike: [`PartialGoal::verdict_part`].
 #![tactic(auto)]
 
 mod answers;
 mod comparing;
 mod evaluation;
 mod laws;
+mod marks;
+mod open_sides;
+mod open_spec;
+mod parts;
 mod prepared;
 
 pub use answers::Eval;
 pub use evaluation::{eval, verdict};
 pub use laws::one_verdict;
+pub use marks::ConstantMarks;
+pub use open_spec::OpenSpec;
+pub use parts::{Part, PartialGoal};
 pub use prepared::PreparedGoal;
 pub use spec_core::Verdict;

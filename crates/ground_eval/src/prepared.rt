@@ -181,7 +181,7 @@ fn place_values(
 }
 
 /// Compiles the sides of equations with so many variables.
-fn compile_sides<'a>(
+pub(crate) fn compile_sides<'a>(
     alloc: Global,
     machine: Machine<'a>,
     equations: &[Equation],

@@ -1,0 +1,147 @@
+-- What the walks over a goal with constants say of the goal.
+use Rattle.std.proofs.Common.{◌≡◌, ◌≢◌, ℕ, zero, suc, ◌+◌, ◌-◌, ◌<◌, ◌≤◌, List, [], ◌∷◌, ◌++◌, Some, inl, inr, refl, ap, sym, ◌∙◌, subst, arith, length, map, take}
+use Rattle.std.specs.Prelude.{slice_get}
+use Rattle.std.proofs.lemmas.List.{length-map, length-append, append-nil, nil_from_length}
+use Rattle.term_core.specs.Tree.{Tree}
+use Rattle.term_core.specs.declared.ids.SortId.{SortId}
+use Rattle.spec_core.specs.declared.records.Equation.{Equation}
+use Rattle.spec_core.specs.declared.records.Goal.{Goal}
+use Rattle.spec_core.specs.declared.records.Spec.{Spec}
+use Rattle.spec_core.specs.declared.records.Verdict.{Verdict}
+use Rattle.spec_core.specs.declared.records.Verdict.TheVariants.{Holds, Fails, Spent}
+use Rattle.spec_core.specs.WellSorted.{IsWellSorted, EquationsAreSorted, GoalIsSorted, sorts_of}
+use Rattle.spec_core.specs.Truth.{AreValuesOf, AllHold, AllBroken}
+use Rattle.spec_core.specs.Verdict.{ConclusionsSay, PremisesSay, IsVerdict}
+use Rattle.spec_core.proofs.Determined.{occurs_within}
+use Rattle.value_bank.specs.Cells.{Cell}
+use Rattle.value_bank.specs.declared.bank.ValueId.{ValueId}
+use Rattle.bank_machine.specs.Programs.{Program}
+use Rattle.bank_machine.specs.Runs.{StandAt}
+use Rattle.bank_machine.proofs.Testing.{terms_count}
+use Rattle.constants.specs.Shifted.{shifted_goal}
+use Rattle.constants.proofs.ShiftedRules.{shifted_goal_sorted}
+use Rattle.open_walk.specs.OpenGives.{VariablesAreBelow}
+use Rattle.open_walk.proofs.OpenWalks.{verdict_under}
+use Rattle.ground_eval.specs.declared.comparing.SidePair.{SidePair}
+use Rattle.ground_eval.specs.declared.marks.Constants.{Constants}
+use Rattle.ground_eval.specs.Constants.{constants_from}
+use Rattle.ground_eval.specs.Opened.{AreFirstValues, AllHaveVerdict}
+use Rattle.ground_eval.specs.OpenSides.{Setting, with_constants, IsSet, CanOpenAll, GoalOpens, IsPartial}
+use Rattle.ground_eval.specs.Prepared.{CanCompareAll, IsPrepared}
+use Rattle.ground_eval.specs.Sides.{IsDecided}
+use Rattle.ground_eval.proofs.FixedSides.{decided_back}
+use Rattle.ground_eval.proofs.GoalSides.{values_built}
+use Rattle.ground_eval.proofs.OpenGoals.{setting, enough, are_constants, are_values, can_open, values_still, values_few}
+use Rattle.ground_eval.proofs.SharedSides.{can_compare, values_count}
+
+take_whole : {X : Type 0} (xs : List X) (n : ℕ) → length xs ≤ n → take n xs ≡ xs
+take_whole [] zero le = refl
+take_whole [] (suc n) le = refl
+take_whole (x ∷ xs) zero le = absurd (omega (arith, le))
+take_whole (x ∷ xs) (suc n) le = ap (λ ys. x ∷ ys) (take_whole xs n (omega (arith, le)))
+
+-- places are as many as values
+pub places_count : (cells : List Cell) (ids : List ValueId) (values : List Tree) → StandAt cells ids values → length ids ≡ length values
+places_count cells ids values stand =
+    let long : length (map (λ (id : ValueId). id.0) ids) ≡ length ids = length-map ids _ in
+    omega (arith, long, terms_count cells (map (λ (id : ValueId). id.0) ids) values stand)
+
+-- where the verdict is Fails the goal fails
+module _ (spec : Spec) (values : List Tree) (budget : ℕ) where
+  broken_all : (es : List Equation) → ConclusionsSay spec values budget es Fails → AllBroken spec values es
+  broken_all [] h = tt
+  broken_all (e ∷ es) (inl h) = absurd (let q : Fails ≡ Spent = h.1 in cc)
+  broken_all (e ∷ es) (inr (inl h)) = absurd (let q : Fails ≡ Holds = h.1 in cc)
+  broken_all (e ∷ es) (inr (inr h)) = ((h.0.0, h.0.1, h.0.3.0, h.0.4.0, h.0.2, h.0.3.1, h.0.4.1), broken_all es h.1)
+
+  fails_all : (es cs : List Equation) → PremisesSay spec values budget es cs Fails → AllHold spec values es × AllBroken spec values cs
+  fails_all [] cs h = (tt, broken_all cs h)
+  fails_all (e ∷ es) cs (inl h) = absurd (let q : Fails ≡ Spent = h.1 in cc)
+  fails_all (e ∷ es) cs (inr (inl h)) = absurd (let q : Fails ≡ Holds = h.1 in cc)
+  fails_all (e ∷ es) cs (inr (inr h)) =
+      let r = fails_all es cs h.1 in
+      (((h.0.0, h.0.1.0, h.0.2.0, h.0.1.1, h.0.2.1), r.0), r.1)
+
+  pub decided_by : (goal : Goal) (r : Verdict) → IsVerdict spec values budget goal r → IsDecided spec values budget goal r
+  decided_by goal Holds h = h
+  decided_by goal Fails h = (h, fails_all goal.premises goal.conclusions h)
+  decided_by goal Spent h = λ apart whole. h
+
+module _ (old : Spec) (goal : Goal) (p : Program) (shifted : Goal) (constants : Constants) (premises conclusions : List SidePair) (inside : IsPartial old goal p shifted constants premises conclusions) (fine : IsWellSorted old) (sorted : GoalIsSorted old.sig goal) where
+  abbrev sorts : List SortId
+  sorts = inside.opened.sorts
+
+  abbrev ctx : List SortId
+  ctx = sorts_of goal.vars
+
+  abbrev n : ℕ
+  n = length goal.vars
+
+  abbrev pub there : Goal
+  there = shifted_goal old.sig.constructors (length sorts) goal
+
+  long : length ctx ≡ n
+  long = length-map goal.vars _
+
+  prepared : IsPrepared p there premises conclusions
+  prepared = subst (λ (g : Goal). IsPrepared p g premises conclusions) inside.opened.same inside.prepared
+
+  sorted_there : GoalIsSorted p.spec.sig there
+  sorted_there = shifted_goal_sorted old p.spec sorts inside.opened.extends.more fine.signature goal sorted
+
+  module _ (terms : List Tree) where
+    -- the goal's sides can be compared under values of all variables
+    pub whole_ready : (cells : List Cell) (ids : List ValueId) → StandAt cells ids terms → AreValuesOf p.spec ctx terms → CanCompareAll p cells premises ids there.premises terms × CanCompareAll p cells conclusions ids there.conclusions terms
+    whole_ready cells ids stand are = (
+      can_compare p there there.premises sorted_there.premises cells premises ids terms prepared.of_premises stand are,
+      can_compare p there there.conclusions sorted_there.conclusions cells conclusions ids terms prepared.of_conclusions stand are,
+    )
+
+    module _ (first : AreFirstValues old goal terms) where
+      pub no_more_than : length terms ≤ n
+      no_more_than = omega (arith, values_few old ctx terms first, long)
+
+      module _ (all : length terms ≡ n) where
+        all_values : AreValuesOf old ctx terms
+        all_values = subst (λ ss. AreValuesOf old ss terms) (take_whole ctx (length terms) (omega (arith, all, long))) first
+
+        pub values_of_all : AreValuesOf p.spec ctx terms
+        values_of_all = values_still old p.spec sorts fine inside.opened.extends ctx terms all_values
+
+        -- no value can be added
+        pub whole_part : (budget : ℕ) (r : Verdict) → IsDecided p.spec terms budget there r → AllHaveVerdict old goal terms budget r
+        whole_part budget r h rest are =
+            let count = values_count old ctx (terms ++ rest) are in
+            let empty : rest ≡ [] = nil_from_length rest (omega (arith, count, length-append terms rest, all, long)) in
+            let e : terms ++ rest ≡ terms = ap (λ xs. terms ++ xs) empty ∙ append-nil terms in
+            subst (λ xs. IsDecided old xs budget goal r) (sym e) (decided_back old p.spec sorts fine inside.opened.extends terms (values_built old ctx terms all_values) budget goal r sorted (omega (arith, all, long)) h)
+
+      module _ (others : (k : ℕ) (s : SortId) → length terms ≤ k → slice_get ctx k ≡ Some s → s.0 ≢ 0) where
+        abbrev pub here : Setting
+        here = setting old p.spec sorts fine inside.opened.extends goal sorted inside.opened.constants terms first others
+
+        pub room : length terms < n → constants.from + n ≤ constants.to
+        room lt = omega (arith, enough old p.spec sorts fine inside.opened.extends goal sorted inside.opened.constants terms first others lt, inside.first, inside.past, inside.opened.extends.more.constructors)
+
+        pub is_set : IsSet here p constants
+        is_set = record { fine = fine; extends = inside.opened.extends; first = inside.first; past = omega (arith, inside.past, inside.opened.extends.more.constructors) }
+
+        pub open_ready : (cells : List Cell) (ids : List ValueId) → StandAt cells ids (terms ++ constants_from constants.from (length terms) (n - length terms)) → CanOpenAll here p cells premises ids goal.premises × CanOpenAll here p cells conclusions ids goal.conclusions
+        open_ready cells ids stand =
+            let e : with_constants here ≡ terms ++ constants_from constants.from (length terms) (n - length terms) = are_constants old p.spec sorts fine inside.opened.extends goal sorted inside.opened.constants terms first others ∙ ap (λ c. terms ++ constants_from c (length terms) (n - length terms)) (sym inside.first) in
+            let stand_here = subst (λ xs. StandAt cells ids xs) (sym e) stand in
+            let are = are_values old p.spec sorts fine inside.opened.extends goal sorted inside.opened.constants terms first others in (
+              can_open old p.spec sorts fine inside.opened.extends goal sorted inside.opened.constants terms first others p goal.premises refl sorted.premises cells premises ids (can_compare p there there.premises sorted_there.premises cells premises ids (with_constants here) prepared.of_premises stand_here are),
+              can_open old p.spec sorts fine inside.opened.extends goal sorted inside.opened.constants terms first others p goal.conclusions refl sorted.conclusions cells conclusions ids (can_compare p there there.conclusions sorted_there.conclusions cells conclusions ids (with_constants here) prepared.of_conclusions stand_here are),
+            )
+
+        within : (rest : List Tree) → AreValuesOf old ctx (terms ++ rest) → (es : List Equation) → EquationsAreSorted old.sig ctx es → (k : ℕ) (e : Equation) → slice_get es k ≡ Some e → VariablesAreBelow (length (terms ++ rest)) e.left × VariablesAreBelow (length (terms ++ rest)) e.right
+        within rest are es fit k e at =
+            let h = fit k e at in
+            let count = values_count old ctx (terms ++ rest) are in
+            (λ j o. omega (arith, count, occurs_within old.sig ctx e.left h.0 h.1 j o), λ j o. omega (arith, count, occurs_within old.sig ctx e.right h.0 h.2 j o))
+
+        -- the verdict of the open walk is that of all values that go on with these
+        pub open_part : (budget : ℕ) (r : Verdict) → GoalOpens here budget goal (Some r) → AllHaveVerdict old goal terms budget r
+        open_part budget r h rest are =
+            decided_by old (terms ++ rest) budget goal r (verdict_under old fine terms rest (values_built old ctx (terms ++ rest) are) n budget goal.premises goal.conclusions r (within rest are goal.premises sorted.premises) (within rest are goal.conclusions sorted.conclusions) h)

@@ -1,0 +1,131 @@
+ghost use Rattle.std.specs.Prelude.{List, IfOk};
+ghost use Rattle.spec_core.specs.WellSorted.{IsWellSorted};
+ghost use Rattle.spec_core.specs.declared.records.Equation.{Equation};
+ghost use Rattle.value_bank.specs.Cells.{AddsCells};
+ghost use Rattle.bank_machine.specs.KeptCalls.{AreRight};
+ghost use Rattle.ground_eval.specs.Constants.{AreMarks};
+ghost use Rattle.ground_eval.specs.OpenSides.{Setting, IsSet, CanOpen, CanOpenAll, SidesOpen, PremisesOpen, ConclusionsOpen};
+
+use crate::answers::OpenSides;
+use crate::comparing::SidePair;
+use crate::marks::{ConstantMarks, Constants, compare_values};
+use bank_machine::{BankEval, KeptCalls, Machine};
+use spec_core::Verdict;
+use std::alloc::Global;
+use term_core::OutOfMemory;
+use value_bank::{Bank, ValueId};
+
+/// Same where the sides of each premise are the same, else what the first other premise is.
+pub(crate) fn compare_open_premises(
+    alloc: Global,
+    machine: &Machine,
+    constants: Constants,
+    bank: &mut Bank,
+    kept: &mut KeptCalls,
+    marks: &mut ConstantMarks,
+    premises: &[SidePair],
+    values: &[ValueId],
+    budget: u32,
+) -> Result<OpenSides, OutOfMemory>
+    requires fine { IsWellSorted machine.now.spec }
+    requires kept { AreRight machine.now.spec bank.old kept.old }
+    requires marks { AreMarks constants.from constants.to bank.old marks.old.marks.items }
+    requires ready { (s : Setting) × (es : List Equation) × IsSet s machine.now constants
+        × CanOpenAll s machine.now bank.old premises.now values.now es }
+    ensures sides { IfOk result (λ r. (s : Setting) (es : List Equation) → IsSet s machine.now constants
+        → CanOpenAll s machine.now bank.old premises.now values.now es → PremisesOpen s budget es r) }
+    ensures adds { AddsCells bank.old bank.new }
+    ensures kept { IfOk result (λ _. AreRight machine.now.spec bank.new kept.new) }
+    ensures marks { IfOk result (λ _. AreMarks constants.from constants.to bank.new marks.new.marks.items) }
+{
+    for premise in premises {
+        match compare_open_sides(
+            alloc, machine, constants, bank, kept, marks, *premise, values, budget,
+        )? {
+            OpenSides::Same => continue,
+            OpenSides::Differ => return Ok(OpenSides::Differ),
+            OpenSides::Unknown => return Ok(OpenSides::Unknown),
+        }
+    }
+    Ok(OpenSides::Same)
+}
+
+/// The verdict where each premise holds, if there is one whatever the variables are.
+pub(crate) fn compare_open_conclusions(
+    alloc: Global,
+    machine: &Machine,
+    constants: Constants,
+    bank: &mut Bank,
+    kept: &mut KeptCalls,
+    marks: &mut ConstantMarks,
+    conclusions: &[SidePair],
+    values: &[ValueId],
+    budget: u32,
+) -> Result<Option<Verdict>, OutOfMemory>
+    requires fine { IsWellSorted machine.now.spec }
+    requires kept { AreRight machine.now.spec bank.old kept.old }
+    requires marks { AreMarks constants.from constants.to bank.old marks.old.marks.items }
+    requires ready { (s : Setting) × (es : List Equation) × IsSet s machine.now constants
+        × CanOpenAll s machine.now bank.old conclusions.now values.now es }
+    ensures verdict { IfOk result (λ r. (s : Setting) (es : List Equation) → IsSet s machine.now constants
+        → CanOpenAll s machine.now bank.old conclusions.now values.now es → ConclusionsOpen s budget es r) }
+    ensures adds { AddsCells bank.old bank.new }
+    ensures kept { IfOk result (λ _. AreRight machine.now.spec bank.new kept.new) }
+    ensures marks { IfOk result (λ _. AreMarks constants.from constants.to bank.new marks.new.marks.items) }
+{
+    for conclusion in conclusions {
+        match compare_open_sides(
+            alloc,
+            machine,
+            constants,
+            bank,
+            kept,
+            marks,
+            *conclusion,
+            values,
+            budget,
+        )? {
+            OpenSides::Same => return Ok(Some(Verdict::Holds)),
+            OpenSides::Differ => continue,
+            OpenSides::Unknown => return Ok(None),
+        }
+    }
+    Ok(Some(Verdict::Fails))
+}
+
+/// What the sides give, of which the left one is evaluated first.
+fn compare_open_sides(
+    alloc: Global,
+    machine: &Machine,
+    constants: Constants,
+    bank: &mut Bank,
+    kept: &mut KeptCalls,
+    marks: &mut ConstantMarks,
+    sides: SidePair,
+    values: &[ValueId],
+    budget: u32,
+) -> Result<OpenSides, OutOfMemory>
+    requires fine { IsWellSorted machine.now.spec }
+    requires kept { AreRight machine.now.spec bank.old kept.old }
+    requires marks { AreMarks constants.from constants.to bank.old marks.old.marks.items }
+    requires ready { (s : Setting) × (e : Equation) × IsSet s machine.now constants
+        × CanOpen s machine.now bank.old sides values.now e }
+    ensures sides { IfOk result (λ r. (s : Setting) (e : Equation) → IsSet s machine.now constants
+        → CanOpen s machine.now bank.old sides values.now e → SidesOpen s budget e r) }
+    ensures adds { AddsCells bank.old bank.new }
+    ensures kept { IfOk result (λ _. AreRight machine.now.spec bank.new kept.new) }
+    ensures marks { IfOk result (λ _. AreMarks constants.from constants.to bank.new marks.new.marks.items) }
+{
+    match machine.run(alloc, bank, kept, sides.left, values, budget)? {
+        BankEval::Spent => Ok(OpenSides::Unknown),
+        BankEval::Value { id: left, steps: _ } => {
+            match machine.run(alloc, bank, kept, sides.right, values, budget)? {
+                BankEval::Spent => Ok(OpenSides::Unknown),
+                BankEval::Value {
+                    id: right,
+                    steps: _,
+                } => compare_values(bank, constants, marks, left, right),
+            }
+        }
+    }
+}

@@ -1,0 +1,294 @@
+ghost use Rattle.std.specs.Prelude.{◌≡◌, ◌≢◌, ◌+◌, ◌-◌, ◌++◌, ◌≤◌, ℕ, List, IfOk, Some, MatchOption, length, slice_get};
+ghost use Rattle.term_core.specs.Tree.{Tree};
+ghost use Rattle.term_core.specs.declared.ids.SortId.{SortId};
+ghost use Rattle.spec_core.specs.declared.records.Goal.{Goal};
+ghost use Rattle.spec_core.specs.Declarations.{bool_sort};
+ghost use Rattle.spec_core.specs.WellSorted.{IsWellSorted, sorts_of};
+ghost use Rattle.value_bank.specs.Cells.{AddsCells};
+ghost use Rattle.bank_machine.specs.KeptCalls.{AreRight};
+ghost use Rattle.bank_machine.specs.Runs.{StandAt};
+ghost use Rattle.ground_eval.specs.Constants.{AreMarks, constants_from};
+ghost use Rattle.ground_eval.specs.Opened.{partial, IsOpened, AreFirstValues, AreMarksOf, IsPart};
+ghost use Rattle.ground_eval.specs.OpenSides.{Setting, IsSet, CanOpenAll, GoalOpens};
+ghost use Rattle.ground_eval.specs.Prepared.{CanCompareAll};
+ghost use Rattle.ground_eval.specs.Sides.{IsDecided};
+
+use crate::answers::{OpenSides, Sides};
+use crate::comparing::{SidePair, compare_conclusions, compare_premises};
+use crate::marks::{ConstantMarks, Constants};
+use crate::open_sides::{compare_open_conclusions, compare_open_premises};
+use crate::open_spec::OpenSpec;
+use crate::prepared::compile_sides;
+use bank_machine::{KeptCalls, Machine};
+use spec_core::{Goal, Spec, VarInfo, Verdict};
+use std::alloc::Global;
+use std::marker::Model;
+use term_core::{OutOfMemory, VarId};
+use value_bank::{Bank, ValueId};
+
+/// The verdict of a goal where only its first variables have values.
+#[derive(Drop)]
+pub enum Part {
+    /// Each list of values that goes on with these has the verdict.
+    All(Verdict),
+    /// The verdict may depend on the variable, which has no value.
+    Looks(VarId),
+}
+
+/// A goal of a specification, of which all code is compiled with constants for its variables.
+/// Contracts see both, and the specification with constants.
+#[derive(Drop)]
+pub struct PartialGoal<'a> {
+    spec: &'a Spec,
+    goal: &'a Goal,
+    opened: &'a OpenSpec,
+    machine: Machine<'a>,
+    constants: Constants,
+    premises: Vec<SidePair>,
+    conclusions: Vec<SidePair>,
+}
+
+impl<'a> Model for PartialGoal<'a> {
+    ghost use Rattle.spec_core.specs.contracts.records.Spec as spec_contract;
+    ghost use Rattle.spec_core.specs.contracts.records.Goal as goal_contract;
+    ghost use Rattle.std.specs.Coded.{codes};
+    ghost use Rattle.ground_eval.specs.Opened.{Partial, partial};
+    ghost use Rattle.ground_eval.specs.OpenSides.{IsPartial};
+
+    ghost Value = { Partial };
+
+    ghost coded = { Prim.hlevel (codes, spec_contract.the_row.coded, goal_contract.the_row.coded) };
+
+    ghost view = { λ p. partial p.spec.now p.goal.now p.machine.spec };
+
+    ghost invariant = { λ p. IsPartial p.spec.now p.goal.now p.machine p.opened.now.goal p.constants p.premises.items p.conclusions.items };
+}
+
+impl<'a> PartialGoal<'a> {
+    /// Compiles the specification with constants and the goal's sides.
+    pub fn new(
+        alloc: Global,
+        spec: &'a Spec,
+        goal: &'a Goal,
+        opened: &'a OpenSpec,
+    ) -> Result<PartialGoal<'a>, OutOfMemory>
+        requires fine { IsWellSorted spec.now }
+        requires listed { (k : ℕ) × (slice_get spec.now.goals k ≡ Some goal.now) }
+        requires opened { IsOpened spec.now goal.now opened.now.spec opened.now.goal }
+        ensures { IfOk result (λ made. made ≡ partial spec.now goal.now opened.now.spec) }
+    {
+        let shifted = &opened.goal;
+        let variables = shifted.vars.len();
+        let machine = Machine::new(alloc, &opened.spec)?;
+        let (machine, premises) = compile_sides(
+            alloc,
+            machine,
+            shifted.premises.as_slice(),
+            variables,
+        )?;
+        let (machine, conclusions) = compile_sides(
+            alloc,
+            machine,
+            shifted.conclusions.as_slice(),
+            variables,
+        )?;
+        let constants = Constants {
+            from: spec.sig.constructors(),
+            to: opened.spec.sig.constructors(),
+        };
+        Ok(PartialGoal {
+            spec,
+            goal,
+            opened,
+            machine,
+            constants,
+            premises,
+            conclusions,
+        })
+    }
+
+    /// The verdict where the goal's first variables have the values at these places. `Looks` names
+    /// the first variable of sort `Bool` without a value, which has no constant, or else the first
+    /// variable without one. The table and the marks are kept from one call over the bank to the
+    /// next.
+    pub fn verdict_part(
+        &self,
+        alloc: Global,
+        bank: &mut Bank,
+        kept: &mut KeptCalls,
+        marks: &mut ConstantMarks,
+        fixed: &[ValueId],
+        budget: u32,
+    ) -> Result<Part, OutOfMemory>
+        requires fine { IsWellSorted self.now.spec }
+        requires listed { (k : ℕ) × (slice_get self.now.spec.goals k ≡ Some self.now.goal) }
+        requires kept { AreRight self.now.extended bank.old kept.old }
+        requires marks { AreMarksOf self.now bank.old marks.old }
+        requires values { (terms : List Tree) × StandAt bank.old fixed.now terms
+            × AreFirstValues self.now.spec self.now.goal terms }
+        ensures part { IfOk result (λ part. (terms : List Tree) → StandAt bank.old fixed.now terms
+            → AreFirstValues self.now.spec self.now.goal terms
+            → IsPart self.now.spec self.now.goal terms budget part) }
+        ensures adds { AddsCells bank.old bank.new }
+        ensures kept { IfOk result (λ _. AreRight self.now.extended bank.new kept.new) }
+        ensures marks { IfOk result (λ _. AreMarksOf self.now bank.new marks.new) }
+    {
+        let count = self.goal.vars.len();
+        let machine = &self.machine;
+        let premises = self.premises.as_slice();
+        let conclusions = self.conclusions.as_slice();
+        if fixed.len() == count {
+            let verdict = whole_verdict(
+                alloc,
+                machine,
+                bank,
+                kept,
+                premises,
+                conclusions,
+                fixed,
+                budget,
+            )?;
+            return Ok(Part::All(verdict));
+        }
+        match first_boolean(self.goal.vars.as_slice(), fixed.len()) {
+            Some(var) => return Ok(Part::Looks(var)),
+            None => {}
+        }
+        let constants = self.constants;
+        let values = add_constants(alloc, bank, constants, fixed, count)?;
+        match open_verdict(
+            alloc,
+            machine,
+            constants,
+            bank,
+            kept,
+            marks,
+            premises,
+            conclusions,
+            &values,
+            budget,
+        )? {
+            Some(verdict) => Ok(Part::All(verdict)),
+            None => Ok(Part::Looks(VarId(fixed.len() as u32))),
+        }
+    }
+}
+
+/// The first variable of sort `Bool` from this number on.
+fn first_boolean(vars: &[VarInfo], from: usize) -> Option<VarId>
+    requires { length vars.now ≤ 16 }
+    ensures { MatchOption result
+        ((n : ℕ) (s : SortId) → from ≤ n → slice_get (sorts_of vars.now) n ≡ Some s → s.0 ≢ 0)
+        (λ x. (from ≤ x.0) × (slice_get (sorts_of vars.now) x.0 ≡ Some bool_sort)) }
+{
+    for number in from..vars.len() {
+        if vars[number].sort.0 == 0 {
+            return Some(VarId(number as u32));
+        }
+    }
+    None
+}
+
+/// The places of the fixed values, and behind them those of the constants of the further variables
+/// before `count`.
+fn add_constants(
+    alloc: Global,
+    bank: &mut Bank,
+    constants: Constants,
+    fixed: &[ValueId],
+    count: usize,
+) -> Result<Vec<ValueId>, OutOfMemory>
+    requires room { constants.from + count ≤ constants.to }
+    requires behind { length fixed.now ≤ count }
+    ensures stand { IfOk result (λ ids. (terms : List Tree) → StandAt bank.old fixed.now terms
+        → StandAt bank.new ids.items
+        (terms ++ constants_from constants.from (length fixed.now) (count - length fixed.now))) }
+    ensures adds { AddsCells bank.old bank.new }
+{
+    let mut ids = Vec::from_slice(alloc, fixed)?;
+    for number in fixed.len()..count {
+        let place = bank.add(constants.from + number as u32, &[])?;
+        ids.push(ValueId(place as usize))?;
+    }
+    Ok(ids)
+}
+
+/// The verdict where all variables have values.
+fn whole_verdict(
+    alloc: Global,
+    machine: &Machine,
+    bank: &mut Bank,
+    kept: &mut KeptCalls,
+    premises: &[SidePair],
+    conclusions: &[SidePair],
+    values: &[ValueId],
+    budget: u32,
+) -> Result<Verdict, OutOfMemory>
+    requires fine { IsWellSorted machine.now.spec }
+    requires kept { AreRight machine.now.spec bank.old kept.old }
+    requires ready { (goal : Goal) × (terms : List Tree)
+        × CanCompareAll machine.now bank.old premises.now values.now goal.premises terms
+        × CanCompareAll machine.now bank.old conclusions.now values.now goal.conclusions terms }
+    ensures decided { IfOk result (λ verdict. (goal : Goal) (terms : List Tree)
+        → CanCompareAll machine.now bank.old premises.now values.now goal.premises terms
+        → CanCompareAll machine.now bank.old conclusions.now values.now goal.conclusions terms
+        → IsDecided machine.now.spec terms budget goal verdict) }
+    ensures adds { AddsCells bank.old bank.new }
+    ensures kept { IfOk result (λ _. AreRight machine.now.spec bank.new kept.new) }
+{
+    match compare_premises(alloc, machine, bank, kept, premises, values, budget)? {
+        Sides::Spent => Ok(Verdict::Spent),
+        Sides::Differ => Ok(Verdict::Holds),
+        Sides::Same => {
+            compare_conclusions(alloc, machine, bank, kept, conclusions, values, budget)
+        }
+    }
+}
+
+/// The verdict where some variables have no value, if there is one whatever they are.
+fn open_verdict(
+    alloc: Global,
+    machine: &Machine,
+    constants: Constants,
+    bank: &mut Bank,
+    kept: &mut KeptCalls,
+    marks: &mut ConstantMarks,
+    premises: &[SidePair],
+    conclusions: &[SidePair],
+    values: &[ValueId],
+    budget: u32,
+) -> Result<Option<Verdict>, OutOfMemory>
+    requires fine { IsWellSorted machine.now.spec }
+    requires kept { AreRight machine.now.spec bank.old kept.old }
+    requires marks { AreMarks constants.from constants.to bank.old marks.old.marks.items }
+    requires ready { (s : Setting) × (goal : Goal) × IsSet s machine.now constants
+        × CanOpenAll s machine.now bank.old premises.now values.now goal.premises
+        × CanOpenAll s machine.now bank.old conclusions.now values.now goal.conclusions }
+    ensures opens { IfOk result (λ r. (s : Setting) (goal : Goal) → IsSet s machine.now constants
+        → CanOpenAll s machine.now bank.old premises.now values.now goal.premises
+        → CanOpenAll s machine.now bank.old conclusions.now values.now goal.conclusions
+        → GoalOpens s budget goal r) }
+    ensures adds { AddsCells bank.old bank.new }
+    ensures kept { IfOk result (λ _. AreRight machine.now.spec bank.new kept.new) }
+    ensures marks { IfOk result (λ _. AreMarks constants.from constants.to bank.new marks.new.marks.items) }
+{
+    match compare_open_premises(
+        alloc, machine, constants, bank, kept, marks, premises, values, budget,
+    )? {
+        OpenSides::Unknown => Ok(None),
+        OpenSides::Differ => Ok(Some(Verdict::Holds)),
+        OpenSides::Same => {
+            compare_open_conclusions(
+                alloc,
+                machine,
+                constants,
+                bank,
+                kept,
+                marks,
+                conclusions,
+                values,
+                budget,
+            )
+        }
+    }
+}
