@@ -53,7 +53,7 @@ stays next place size t e h s q =
       ]
     ]
 
-one_past : {X : Type 0} (xs : List X) (x y : X) (i : ℕ) → slice_get (xs ++ x ∷ []) i ≡ Some y → (slice_get xs i ≡ Some y) ⊎ ((i ≡ length xs) × (x ≡ y))
+pub one_past : {X : Type 0} (xs : List X) (x y : X) (i : ℕ) → slice_get (xs ++ x ∷ []) i ≡ Some y → (slice_get xs i ≡ Some y) ⊎ ((i ≡ length xs) × (x ≡ y))
 one_past [] x y zero e = let q : Some x ≡ Some y = e in inr (refl, cc)
 one_past [] x y (suc i) e = absurd (let q : None ≡ Some y = e in cc)
 one_past (z ∷ xs) x y zero e = inl e

@@ -7,12 +7,10 @@ use Rattle.term_core.specs.Tree.{Tree, app, trees_of}
 use Rattle.term_core.specs.declared.ids.SortId.{SortId}
 use Rattle.spec_core.specs.declared.records.SymInfo.{SymInfo}
 use Rattle.spec_core.specs.declared.records.Spec.{Spec}
-use Rattle.spec_core.specs.declared.records.Goal.{Goal}
 use Rattle.spec_core.specs.Sig.{Sig, info_of, IsConstructor}
 use Rattle.spec_core.specs.Sorts.{SortedAll, AreBuilt, IsValue}
-use Rattle.spec_core.specs.WellSorted.{sorts_of}
 use Rattle.spec_core.specs.Truth.{AreValuesOf}
-use Rattle.spec_core.specs.Order.{product, constructors_from, constructors_of, is_small, values, substitutions}
+use Rattle.spec_core.specs.Order.{product, constructors_from, constructors_of, is_small, values}
 use Rattle.term_core.proofs.Items.{all_append}
 
 pub all_flat_map : {X A : Type 0} (Q : X → Type 0) (P : A → Type 0) (f : X → List A) (xs : List X) → AllByRecursion Q xs → ((x : X) → Q x → AllByRecursion P (f x)) → AllByRecursion P (flat_map f xs)
@@ -81,6 +79,6 @@ module _ (spec : Spec) where
       let r = trees_are c.1 ts w in
       ((m.0, m.1, m.2, subst (λ ss. SortedAll spec.sig [] (trees_of ts) ss) (sym m.3) r.0), (m.4, r.1)))))
 
-  -- each member of the list of substitutions has a value of its sort for each variable
-  pub members_are : (goal : Goal) (depth : ℕ) → AllByRecursion (AreValuesOf spec (sorts_of goal.vars)) (substitutions spec goal depth)
-  members_are goal depth = product_are (λ s. values spec.sig depth s) (λ s. values_are depth s) (sorts_of goal.vars)
+  -- each row of values of sorts has a value of its sort at each place
+  pub rows_are : (depth : ℕ) (ss : List SortId) → AllByRecursion (AreValuesOf spec ss) (product (map (λ s. values spec.sig depth s) ss))
+  rows_are depth ss = product_are (λ s. values spec.sig depth s) (λ s. values_are depth s) ss

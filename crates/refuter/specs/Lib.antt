@@ -1,7 +1,14 @@
--- What a search answers, and how it goes from one substitution to the next.
+-- What a search answers, how it goes from one substitution to the next, and how many values there are.
 pub mod Finds
 pub mod Bounded
 pub mod Fewest
 pub mod After
 pub mod Moves
 pub mod Sizes
+pub mod Blocks
+pub mod Looks
+pub mod Tables
+pub mod Walk
+pub mod Sequences
+pub mod Counts
+pub mod Examples

@@ -1,17 +1,16 @@
 ghost use Rattle.std.specs.Prelude.{◌≡◌, ◌<◌, min, ℕ, List, [], Some, IfOk, length, map, slice_get};
 ghost use Rattle.std.specs.List.{AllByRecursion};
 ghost use Rattle.term_core.specs.Tree.{Tree, tree_size, trees_of};
-ghost use Rattle.spec_core.specs.Truth.{AreValuesOf};
-ghost use Rattle.spec_core.specs.WellSorted.{IsWellSorted, sorts_of};
+ghost use Rattle.spec_core.specs.WellSorted.{IsWellSorted};
 ghost use Rattle.value_bank.specs.Ground.{IsGround};
 ghost use Rattle.value_bank.specs.declared.bank.ValueId.{ValueId};
 ghost use Rattle.value_bank.specs.Cells.{cell, IsTerm, AreTerms, AreBelow, AddsCells};
-ghost use Rattle.bank_machine.specs.KeptCalls.{AreRight};
-ghost use Rattle.ground_eval.specs.Sides.{IsDecided};
+ghost use Rattle.ground_eval.specs.Opened.{AreFirstValues, IsPart};
 ghost use Rattle.refuter.specs.Sizes.{CanRead, GivesSize, IsSizeBy, IsNoted};
+ghost use Rattle.refuter.specs.Tables.{AreRightTables};
 
-use bank_machine::KeptCalls;
-use ground_eval::{PreparedGoal, Verdict};
+use crate::tables::Tables;
+use ground_eval::{Part, PartialGoal};
 use std::alloc::Global;
 use std::marker::Model;
 use term_core::{OutOfMemory, Term};
@@ -113,29 +112,30 @@ impl SizedBank {
         place_terms(alloc, &mut self.bank, values)
     }
 
-    /// The verdict of a goal under the values at these places. The table keeps what calls gave.
-    pub(crate) fn verdict(
+    /// The verdict of a goal under all values that begin with the ones at these places, or a later
+    /// variable on which it may depend.
+    pub(crate) fn part(
         &mut self,
         alloc: Global,
-        prepared: &PreparedGoal,
-        kept: &mut KeptCalls,
+        prepared: &PartialGoal,
+        tables: &mut Tables,
         places: &[u32],
         budget: u32,
-    ) -> Result<Verdict, OutOfMemory>
+    ) -> Result<Part, OutOfMemory>
         requires fine { IsWellSorted prepared.now.spec }
         requires listed { (k : ℕ) × (slice_get prepared.now.spec.goals k ≡ Some prepared.now.goal) }
-        requires kept { AreRight prepared.now.spec self.old kept.old }
-        requires values { (row : List Tree) × AreTerms self.old places.now (trees_of row)
-            × AreValuesOf prepared.now.spec (sorts_of prepared.now.goal.vars) row }
-        ensures decided { IfOk result (λ verdict. (row : List Tree)
-            → AreTerms self.old places.now (trees_of row)
-            → AreValuesOf prepared.now.spec (sorts_of prepared.now.goal.vars) row
-            → IsDecided prepared.now.spec row budget prepared.now.goal verdict) }
+        requires kept { AreRightTables prepared.now self.old tables.old }
+        requires values { (firsts : List Tree) × AreTerms self.old places.now (trees_of firsts)
+            × AreFirstValues prepared.now.spec prepared.now.goal firsts }
+        ensures part { IfOk result (λ part. (firsts : List Tree)
+            → AreTerms self.old places.now (trees_of firsts)
+            → IsPart prepared.now.spec prepared.now.goal firsts budget part) }
         ensures adds { AddsCells self.old self.new }
-        ensures kept { IfOk result (λ _. AreRight prepared.now.spec self.new kept.new) }
+        ensures kept { IfOk result (λ _. AreRightTables prepared.now self.new tables.new) }
     {
         let ids = ids_of(alloc, places)?;
-        prepared.verdict_keeping(alloc, &mut self.bank, kept, &ids, budget)
+        let (kept, marks) = (&mut tables.kept, &mut tables.marks);
+        prepared.verdict_part(alloc, &mut self.bank, kept, marks, &ids, budget)
     }
 }
 

@@ -5,7 +5,7 @@ use Rattle.value_bank.specs.Cells.{AreTerms}
 use Rattle.value_bank.specs.Ground.{IsGround}
 use Rattle.refuter.proofs.Sizing.{all_ground}
 use Rattle.refuter.proofs.Steps.{at_places}
-use Rattle.refuter.proofs.searching.make_room.Goals as goal
+use Rattle.refuter.proofs.walking.make_room.Goals as goal
 
 pub place-requires : goal.place-requires
 place-requires c = subst (λ ts. AllByRecursion IsGround ts) (sym c.deref-2.ensures.value) (all_ground c.args.bank.now c.deref.result.now c.in_ok-values.values.items c.in_ok-values.ensures)
@@ -15,3 +15,6 @@ returns-clause-placed c =
     let read = subst (λ ps. AreTerms c.args.bank.now ps (trees_of c.in_ok-values.values.items)) c.deref.ensures.value c.in_ok-values.ensures in
     let placed = subst (λ ts. AreTerms c.place.new.self c.in_ok-row.field-0.items (trees_of ts)) c.deref-2.ensures.value c.in_ok-row.ensures.placed in
     at_places c.args.bank.now c.args.row.now.items (λ ts. AreTerms c.place.new.self c.in_ok-row.field-0.items (trees_of ts)) c.in_ok-values.values.items read placed
+
+pub returns-clause-kept : goal.returns-clause-kept
+returns-clause-kept c g right = c.new-2.ensures g c.place.new.self
