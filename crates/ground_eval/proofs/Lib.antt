@@ -15,6 +15,9 @@ mod PartSorts
 mod FixedSides
 mod OpenGoals
 mod PartGoals
+mod BooleanValues
+mod EntrySteps
+mod EntryPlaces
 mod ConstantSorts
 -- What the tests evaluate.
 pub mod Samples

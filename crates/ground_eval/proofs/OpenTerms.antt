@@ -170,3 +170,7 @@ module _ (s : Setting) (new : Spec) (fine : IsWellSorted s.spec) (extends : Exte
             not_same (λ q. apart_itself cs (cs + n) v (subst (λ (z : Tree). AreApart cs (cs + n) v z) (sym q) h)),
           )
       sides_open Unknown h = (not_same h.0, not_different h.1)
+
+    -- sides that are the same aren't different
+    pub not_both : IsSame s budget e → Isnt s (IsDifferent s budget e)
+    not_both h = not_different (closed cs n h.0) (closed cs n h.0) (side_there e.left h.0 left h.1) (side_there e.right h.0 right h.2) (λ far. apart_itself cs (cs + n) (closed cs n h.0) far)

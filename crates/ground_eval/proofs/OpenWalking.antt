@@ -1,5 +1,5 @@
 -- The walk over the sides of a goal where some variables have no value.
-use Rattle.std.proofs.Common.{◌≡◌, ◌≤◌, ℕ, zero, suc, length, arith, List, [], ◌∷◌, Option, Some, None, inl, inr, refl, take, drop}
+use Rattle.std.proofs.Common.{◌≡◌, ◌≤◌, ℕ, zero, suc, length, arith, List, [], ◌∷◌, Option, Some, None, inl, inr, refl, sym, ◌∙◌, take, drop}
 use Rattle.std.specs.Prelude.{slice_get}
 use Rattle.std.specs.List.{AllByRecursion}
 use Rattle.term_core.proofs.Items.{drop_here}
@@ -7,9 +7,11 @@ use Rattle.spec_core.specs.declared.records.Equation.{Equation}
 use Rattle.spec_core.specs.declared.records.Goal.{Goal}
 use Rattle.spec_core.specs.declared.records.Verdict.{Verdict}
 use Rattle.spec_core.specs.declared.records.Verdict.TheVariants.{Holds, Fails}
+use Rattle.spec_core.specs.Overlap.{NoOverlap}
+use Rattle.spec_core.specs.Groups.{GroupsAreWhole}
 use Rattle.open_walk.specs.OpenVerdict.{OpenConclusionsSay, OpenPremisesSay}
 use Rattle.ground_eval.specs.declared.answers.OpenSides.TheVariants.{Same, Differ, Unknown}
-use Rattle.ground_eval.specs.OpenSides.{Setting, SidesOpen, Isnt, PremisesOpen, ConclusionsOpen, GoalOpens}
+use Rattle.ground_eval.specs.OpenSides.{Setting, SidesOpen, IsSame, IsDifferent, Isnt, PremisesOpen, ConclusionsOpen, GoalOpens}
 
 -- what holds of the items before a place holds of all where there are no more
 pub all_taken : {X : Type 0} (P : X → Type 0) (xs : List X) (n : ℕ) → length xs ≤ n → AllByRecursion P (take n xs) → AllByRecursion P xs
@@ -99,3 +101,22 @@ module _ (s : Setting) (budget : ℕ) where
   pub goal_opens : (goal : Goal) (r : Option Verdict) → PremisesOpen s budget goal.premises Same → ConclusionsOpen s budget goal.conclusions r → GoalOpens s budget goal r
   goal_opens goal (Some r) a h = conclusions_say goal.premises goal.conclusions r a h
   goal_opens goal None a h = λ r. conclusions_silent goal.premises goal.conclusions r a (h r)
+
+  -- where no sides are both, the walk has one verdict
+  module _ (apart : NoOverlap s.spec) (whole : GroupsAreWhole s.spec) where
+    abbrev pub NoneIsBoth : List Equation → Type 0
+    NoneIsBoth es = (k : ℕ) (e : Equation) → slice_get es k ≡ Some e → IsSame s budget e → Isnt s (IsDifferent s budget e)
+
+    one_conclusion : (es : List Equation) (p q : Verdict) → NoneIsBoth es → Conclusions es p → Conclusions es q → p ≡ q
+    one_conclusion [] p q h x y = x ∙ sym y
+    one_conclusion (e ∷ es) p q h (inl x) (inl y) = x.1 ∙ sym y.1
+    one_conclusion (e ∷ es) p q h (inl x) (inr y) = absurd (h 0 e refl x.0 apart whole y.0)
+    one_conclusion (e ∷ es) p q h (inr x) (inl y) = absurd (h 0 e refl y.0 apart whole x.0)
+    one_conclusion (e ∷ es) p q h (inr x) (inr y) = one_conclusion es p q (λ k d at. h (suc k) d at) x.1 y.1
+
+    pub one_open_verdict : (es cs : List Equation) (p q : Verdict) → NoneIsBoth es → NoneIsBoth cs → Premises es cs p → Premises es cs q → p ≡ q
+    one_open_verdict [] cs p q h i x y = one_conclusion cs p q i x y
+    one_open_verdict (e ∷ es) cs p q h i (inl x) (inl y) = x.1 ∙ sym y.1
+    one_open_verdict (e ∷ es) cs p q h i (inl x) (inr y) = absurd (h 0 e refl y.0 apart whole x.0)
+    one_open_verdict (e ∷ es) cs p q h i (inr x) (inl y) = absurd (h 0 e refl x.0 apart whole y.0)
+    one_open_verdict (e ∷ es) cs p q h i (inr x) (inr y) = one_open_verdict es cs p q (λ k d at. h (suc k) d at) i x.1 y.1

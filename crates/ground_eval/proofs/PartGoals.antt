@@ -1,14 +1,19 @@
 -- What the walks over a goal with constants say of the goal.
-use Rattle.std.proofs.Common.{◌≡◌, ◌≢◌, ℕ, zero, suc, ◌+◌, ◌-◌, ◌<◌, ◌≤◌, List, [], ◌∷◌, ◌++◌, Some, inl, inr, refl, ap, sym, ◌∙◌, subst, arith, length, map, take}
+use Rattle.std.proofs.Common.{◌≡◌, ◌≢◌, ℕ, zero, suc, ◌+◌, ◌-◌, ◌<◌, ◌≤◌, List, [], ◌∷◌, ◌++◌, Option, None, Some, inl, inr, refl, ap, sym, ◌∙◌, subst, arith, length, map, take}
 use Rattle.std.specs.Prelude.{slice_get}
+use Rattle.std.specs.List.{AllByRecursion}
+use Rattle.std.proofs.lemmas.Option.{slice_get_within}
 use Rattle.std.proofs.lemmas.List.{length-map, length-append, append-nil, nil_from_length}
-use Rattle.term_core.specs.Tree.{Tree}
+use Rattle.term_core.specs.Tree.{Tree, var}
 use Rattle.term_core.specs.declared.ids.SortId.{SortId}
 use Rattle.spec_core.specs.declared.records.Equation.{Equation}
 use Rattle.spec_core.specs.declared.records.Goal.{Goal}
 use Rattle.spec_core.specs.declared.records.Spec.{Spec}
 use Rattle.spec_core.specs.declared.records.Verdict.{Verdict}
 use Rattle.spec_core.specs.declared.records.Verdict.TheVariants.{Holds, Fails, Spent}
+use Rattle.spec_core.specs.Sorts.{IsBuilt}
+use Rattle.spec_core.specs.Overlap.{NoOverlap}
+use Rattle.spec_core.specs.Groups.{GroupsAreWhole}
 use Rattle.spec_core.specs.WellSorted.{IsWellSorted, EquationsAreSorted, GoalIsSorted, sorts_of}
 use Rattle.spec_core.specs.Truth.{AreValuesOf, AllHold, AllBroken}
 use Rattle.spec_core.specs.Verdict.{ConclusionsSay, PremisesSay, IsVerdict}
@@ -18,20 +23,26 @@ use Rattle.value_bank.specs.declared.bank.ValueId.{ValueId}
 use Rattle.bank_machine.specs.Programs.{Program}
 use Rattle.bank_machine.specs.Runs.{StandAt}
 use Rattle.bank_machine.proofs.Testing.{terms_count}
-use Rattle.constants.specs.Shifted.{shifted_goal}
+use Rattle.constants.specs.Shifted.{closed, shifted_goal}
 use Rattle.constants.proofs.ShiftedRules.{shifted_goal_sorted}
 use Rattle.open_walk.specs.OpenGives.{VariablesAreBelow}
-use Rattle.open_walk.proofs.OpenWalks.{verdict_under}
+use Rattle.open_walk.specs.Laws.{AreInstances}
+use Rattle.open_walk.specs.OpenVerdict.{opened, IsOpenVerdict}
+use Rattle.open_walk.proofs.OpenInstances.{verdict_still}
+use Rattle.open_walk.proofs.OpenValues.{all_built_open}
+use Rattle.open_walk.proofs.OpenWalks.{opened_instance, verdict_under}
 use Rattle.ground_eval.specs.declared.comparing.SidePair.{SidePair}
 use Rattle.ground_eval.specs.declared.marks.Constants.{Constants}
-use Rattle.ground_eval.specs.Constants.{constants_from}
-use Rattle.ground_eval.specs.Opened.{AreFirstValues, AllHaveVerdict}
+use Rattle.ground_eval.specs.Entries.{AreEntries, SayOfAll, AreEntriesAt}
+use Rattle.ground_eval.specs.Opened.{AreFirstValues, AllHaveVerdict, partial}
 use Rattle.ground_eval.specs.OpenSides.{Setting, with_constants, IsSet, CanOpenAll, GoalOpens, IsPartial}
 use Rattle.ground_eval.specs.Prepared.{CanCompareAll, IsPrepared}
 use Rattle.ground_eval.specs.Sides.{IsDecided}
 use Rattle.ground_eval.proofs.FixedSides.{decided_back}
 use Rattle.ground_eval.proofs.GoalSides.{values_built}
-use Rattle.ground_eval.proofs.OpenGoals.{setting, enough, are_constants, are_values, can_open, values_still, values_few}
+use Rattle.ground_eval.proofs.OpenGoals.{setting, are_values, can_open, values_still, values_few, item_there}
+use Rattle.ground_eval.proofs.OpenTerms.{not_both}
+use Rattle.ground_eval.proofs.OpenWalking.{NoneIsBoth, one_open_verdict}
 use Rattle.ground_eval.proofs.SharedSides.{can_compare, values_count}
 
 take_whole : {X : Type 0} (xs : List X) (n : ℕ) → length xs ≤ n → take n xs ≡ xs
@@ -116,32 +127,69 @@ module _ (old : Spec) (goal : Goal) (p : Program) (shifted : Goal) (constants : 
             let e : terms ++ rest ≡ terms = ap (λ xs. terms ++ xs) empty ∙ append-nil terms in
             subst (λ xs. IsDecided old xs budget goal r) (sym e) (decided_back old p.spec sorts fine inside.opened.extends terms (values_built old ctx terms all_values) budget goal r sorted (omega (arith, all, long)) h)
 
-      module _ (others : (k : ℕ) (s : SortId) → length terms ≤ k → slice_get ctx k ≡ Some s → s.0 ≢ 0) where
-        abbrev pub here : Setting
-        here = setting old p.spec sorts fine inside.opened.extends goal sorted inside.opened.constants terms first others
+  -- entries for all variables
+  module _ (zs : List Tree) (fit : AreEntries old 0 ctx zs) (all : length zs ≡ n) where
+    pub count : length zs ≡ length ctx
+    count = omega (arith, all, long)
 
-        pub room : length terms < n → constants.from + n ≤ constants.to
-        room lt = omega (arith, enough old p.spec sorts fine inside.opened.extends goal sorted inside.opened.constants terms first others lt, inside.first, inside.past, inside.opened.extends.more.constructors)
+    abbrev pub here : Setting
+    here = setting old p.spec sorts fine inside.opened.extends goal inside.opened.constants zs fit count
 
-        pub is_set : IsSet here p constants
-        is_set = record { fine = fine; extends = inside.opened.extends; first = inside.first; past = omega (arith, inside.past, inside.opened.extends.more.constructors) }
+    pub is_set : IsSet here p constants
+    is_set = record { fine = fine; extends = inside.opened.extends; first = inside.first; past = omega (arith, inside.past, inside.opened.extends.more.constructors) }
 
-        pub open_ready : (cells : List Cell) (ids : List ValueId) → StandAt cells ids (terms ++ constants_from constants.from (length terms) (n - length terms)) → CanOpenAll here p cells premises ids goal.premises × CanOpenAll here p cells conclusions ids goal.conclusions
-        open_ready cells ids stand =
-            let e : with_constants here ≡ terms ++ constants_from constants.from (length terms) (n - length terms) = are_constants old p.spec sorts fine inside.opened.extends goal sorted inside.opened.constants terms first others ∙ ap (λ c. terms ++ constants_from c (length terms) (n - length terms)) (sym inside.first) in
-            let stand_here = subst (λ xs. StandAt cells ids xs) (sym e) stand in
-            let are = are_values old p.spec sorts fine inside.opened.extends goal sorted inside.opened.constants terms first others in (
-              can_open old p.spec sorts fine inside.opened.extends goal sorted inside.opened.constants terms first others p goal.premises refl sorted.premises cells premises ids (can_compare p there there.premises sorted_there.premises cells premises ids (with_constants here) prepared.of_premises stand_here are),
-              can_open old p.spec sorts fine inside.opened.extends goal sorted inside.opened.constants terms first others p goal.conclusions refl sorted.conclusions cells conclusions ids (can_compare p there there.conclusions sorted_there.conclusions cells conclusions ids (with_constants here) prepared.of_conclusions stand_here are),
-            )
+    pub open_ready : (cells : List Cell) (ids : List ValueId) → StandAt cells ids (with_constants here) → CanOpenAll here p cells premises ids goal.premises × CanOpenAll here p cells conclusions ids goal.conclusions
+    open_ready cells ids stand =
+        let are = are_values old p.spec sorts fine inside.opened.extends goal inside.opened.constants zs fit count in (
+          can_open old p.spec sorts fine inside.opened.extends goal inside.opened.constants zs fit count p goal.premises refl sorted.premises cells premises ids (can_compare p there there.premises sorted_there.premises cells premises ids (with_constants here) prepared.of_premises stand are),
+          can_open old p.spec sorts fine inside.opened.extends goal inside.opened.constants zs fit count p goal.conclusions refl sorted.conclusions cells conclusions ids (can_compare p there there.conclusions sorted_there.conclusions cells conclusions ids (with_constants here) prepared.of_conclusions stand are),
+        )
 
-        within : (rest : List Tree) → AreValuesOf old ctx (terms ++ rest) → (es : List Equation) → EquationsAreSorted old.sig ctx es → (k : ℕ) (e : Equation) → slice_get es k ≡ Some e → VariablesAreBelow (length (terms ++ rest)) e.left × VariablesAreBelow (length (terms ++ rest)) e.right
-        within rest are es fit k e at =
-            let h = fit k e at in
-            let count = values_count old ctx (terms ++ rest) are in
-            (λ j o. omega (arith, count, occurs_within old.sig ctx e.left h.0 h.1 j o), λ j o. omega (arith, count, occurs_within old.sig ctx e.right h.0 h.2 j o))
+    none_both : (apart : NoOverlap old) (whole : GroupsAreWhole old) (budget : ℕ) (cells : List Cell) (pairs : List SidePair) (ids : List ValueId) (es : List Equation) → CanOpenAll here p cells pairs ids es → NoneIsBoth here budget apart whole es
+    none_both apart whole budget cells pairs ids es can k e at =
+        let pair = item_there pairs k (omega (arith, slice_get_within es k e at, can.count)) in
+        let o = can.each k e pair.0 at pair.1 in
+        not_both here p.spec fine inside.opened.extends budget e o.compared.sorted o.left o.right
 
-        -- the verdict of the open walk is that of all values that go on with these
-        pub open_part : (budget : ℕ) (r : Verdict) → GoalOpens here budget goal (Some r) → AllHaveVerdict old goal terms budget r
-        open_part budget r h rest are =
-            decided_by old (terms ++ rest) budget goal r (verdict_under old fine terms rest (values_built old ctx (terms ++ rest) are) n budget goal.premises goal.conclusions r (within rest are goal.premises sorted.premises) (within rest are goal.conclusions sorted.conclusions) h)
+    within : (ys : List Tree) → AreValuesOf old ctx ys → (es : List Equation) → EquationsAreSorted old.sig ctx es → (k : ℕ) (e : Equation) → slice_get es k ≡ Some e → VariablesAreBelow (length ys) e.left × VariablesAreBelow (length ys) e.right
+    within ys are es fit k e at =
+        let h = fit k e at in
+        let count = values_count old ctx ys are in
+        (λ j o. omega (arith, count, occurs_within old.sig ctx e.left h.0 h.1 j o), λ j o. omega (arith, count, occurs_within old.sig ctx e.right h.0 h.2 j o))
+
+    -- the verdict of the open walk is that of all values that are instances of the entries
+    under : (budget : ℕ) (r : Verdict) → IsOpenVerdict old zs budget goal r → (ys : List Tree) → AreValuesOf old ctx ys → AreInstances ys zs ys → IsDecided old ys budget goal r
+    under budget r h ys are inst =
+        let built = values_built old ctx ys are in
+        let e : ys ≡ ys ++ [] = sym (append-nil ys) in
+        let are_still : AreValuesOf old ctx (ys ++ []) = subst (AreValuesOf old ctx) e are in
+        let built_still = subst (AllByRecursion (IsBuilt old.sig)) e built in
+        let o : IsOpenVerdict old (opened ys n) budget goal r = verdict_still old fine ys (all_built_open old.sig ys built) zs (opened ys n) (λ k. opened_instance ys n (var k) ∙ inst k) budget goal.premises goal.conclusions r h in
+        let v : IsVerdict old (ys ++ []) budget goal r = verdict_under old fine ys [] built_still n budget goal.premises goal.conclusions r (within (ys ++ []) are_still goal.premises sorted.premises) (within (ys ++ []) are_still goal.conclusions sorted.conclusions) o in
+        decided_by old ys budget goal r (subst (λ xs. IsVerdict old xs budget goal r) (sym e) v)
+
+    pub said : (budget : ℕ) (cells : List Cell) (ids : List ValueId) → StandAt cells ids (with_constants here) → (r : Option Verdict) → GoalOpens here budget goal r → SayOfAll old goal budget zs r
+    said budget cells ids stand None h = λ r apart whole o. h r apart whole o
+    said budget cells ids stand (Some v) h =
+        let o = open_ready cells ids stand in (
+          under budget v h,
+          (λ r apart whole x. one_open_verdict here budget apart whole goal.premises goal.conclusions r v (none_both apart whole budget cells premises ids goal.premises o.0) (none_both apart whole budget cells conclusions ids goal.conclusions o.1) x h),
+        )
+
+  -- the numbers of the constants in the bank's terms
+  pub constants_count : p.spec.sig.constructors - old.sig.constructors ≡ length sorts
+  constants_count = omega (arith, inside.opened.extends.more.constructors)
+
+  pub room : (k : ℕ) (s : SortId) → slice_get ctx k ≡ Some s → s.0 ≢ 0 → constants.from + k < constants.to
+  room k s at other = omega (arith, slice_get_within sorts k s (inside.opened.constants k s at other), inside.first, inside.past, inside.opened.extends.more.constructors)
+
+  -- entries that stand for all variables
+  pub record StandForAll (cells : List Cell) (ids : List ValueId) (zs : List Tree) : Type 0 where
+    pub fit : AreEntries old 0 ctx zs
+    pub all : length zs ≡ n
+    pub stand : StandAt cells ids (map (closed old.sig.constructors (length sorts)) zs)
+
+  pub stand_for_all : (cells : List Cell) (ids : List ValueId) (zs : List Tree) → AreEntriesAt (partial old goal p.spec) cells ids zs → length ids ≡ n → StandForAll cells ids zs
+  stand_for_all cells ids zs e all =
+      let stand : StandAt cells ids (map (closed old.sig.constructors (length sorts)) zs) = subst (λ u. StandAt cells ids (map (closed old.sig.constructors u) zs)) constants_count e.stand in
+      record { fit = e.fit; all = omega (arith, all, places_count cells ids (map (closed old.sig.constructors (length sorts)) zs) stand, length-map zs (closed old.sig.constructors (length sorts))); stand = stand }

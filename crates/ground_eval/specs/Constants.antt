@@ -1,5 +1,5 @@
 -- Values with constants for variables, and what they tell whatever the variables are.
-use Rattle.std.specs.Prelude.{◌≡◌, ◌≢◌, ◌↔◌, ◌⊎◌, ℕ, zero, suc, ◌+◌, ◌<◌, ◌≤◌, Bool, IsTrue, List, [], ◌∷◌, Some, slice_get}
+use Rattle.std.specs.Prelude.{◌≡◌, ◌≢◌, ◌↔◌, ◌⊎◌, ℕ, ◌<◌, ◌≤◌, Bool, IsTrue, List, Some, slice_get}
 use Rattle.term_core.specs.Tree.{Tree, Trees, var, app, none, some}
 use Rattle.value_bank.specs.Cells.{Cell, IsTerm}
 use Rattle.ground_eval.specs.declared.answers.OpenSides.{OpenSides}
@@ -46,8 +46,3 @@ module _ (c d : ℕ) where
   -- so does each mark, by its place
   abbrev pub AreMarks : List Cell → List Bool → Type 0
   AreMarks cells marks = (k : ℕ) (mark : Bool) → slice_get marks k ≡ Some mark → IsMarked cells k mark
-
--- so many constants, from that of the variable k on, where the constants begin at c
-abbrev pub constants_from : ℕ → ℕ → ℕ → List Tree
-constants_from c k zero = []
-constants_from c k (suc n) = app (c + k) none ∷ constants_from c (suc k) n

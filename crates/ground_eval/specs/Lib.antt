@@ -8,5 +8,6 @@ pub mod Opened
 pub mod Constants
 pub mod OpenSides
 pub mod ConstantSorts
+pub mod Entries
 -- What the tests evaluate.
 pub mod Samples

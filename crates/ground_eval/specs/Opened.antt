@@ -1,5 +1,5 @@
 -- A goal whose variables have constants, so that it is evaluated where some of them have no value.
-use Rattle.std.specs.Prelude.{◌≡◌, ◌≢◌, ◌⊎◌, ◌<◌, ◌≤◌, ℕ, List, Some, length, slice_get, take, ◌++◌}
+use Rattle.std.specs.Prelude.{◌≡◌, ◌≢◌, ◌<◌, ◌≤◌, ℕ, List, Some, length, slice_get, take, ◌++◌}
 use Rattle.std.specs.List.{AllByRecursion}
 use Rattle.term_core.specs.Tree.{Tree}
 use Rattle.term_core.specs.declared.ids.SortId.{SortId}
@@ -7,7 +7,6 @@ use Rattle.spec_core.specs.declared.records.Spec.{Spec}
 use Rattle.spec_core.specs.declared.records.Goal.{Goal}
 use Rattle.spec_core.specs.declared.records.Verdict.{Verdict}
 use Rattle.spec_core.specs.Sig.{IsSort}
-use Rattle.spec_core.specs.Declarations.{bool_sort}
 use Rattle.spec_core.specs.WellSorted.{IsWellSorted, sorts_of}
 use Rattle.spec_core.specs.Overlap.{NoOverlap}
 use Rattle.spec_core.specs.Groups.{GroupsAreWhole}
@@ -66,12 +65,11 @@ module _ (spec : Spec) (goal : Goal) (fixed : List Tree) where
       → (r : Verdict) → IsOpenVerdict spec (opened fixed (length goal.vars)) budget goal r → ⊥
 
   -- the verdict of all values that go on with these; or a variable that has no value, where the open
-  -- walk doesn't end or the variable is of the sort Bool
+  -- walk doesn't end
   abbrev pub IsPart : ℕ → Part → Type 0
   IsPart budget (All verdict) = AllHaveVerdict budget verdict
   IsPart budget (Looks x) =
-      (length fixed ≤ x.0) × (x.0 < length goal.vars)
-      × ((slice_get (sorts_of goal.vars) x.0 ≡ Some bool_sort) ⊎ IsOpenYet budget)
+      (length fixed ≤ x.0) × (x.0 < length goal.vars) × IsOpenYet budget
 
 -- the marks say of places of the bank whether a constant for a variable stands in their terms
 abbrev pub AreMarksOf : Partial → List Cell → ConstantMarks → Type 0

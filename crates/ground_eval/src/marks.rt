@@ -1,4 +1,4 @@
-ghost use Rattle.std.specs.Prelude.{◌↔◌, ◌⊎◌, ◌≤◌, ℕ, List, IfOk, IsTrue, length};
+ghost use Rattle.std.specs.Prelude.{◌≡◌, ◌↔◌, ◌⊎◌, ◌+◌, ◌<◌, ◌≤◌, ℕ, List, IfOk, IsTrue, length};
 ghost use Rattle.term_core.specs.Tree.{Tree, Trees};
 ghost use Rattle.value_bank.specs.Cells.{Cell, IsTerm, AreTerms};
 ghost use Rattle.ground_eval.specs.Opened.{Partial, AreMarksOf};
@@ -22,6 +22,14 @@ impl Constants {
         ensures { IsTrue result ↔ IsConstant self.from self.to sym }
     {
         self.from <= sym && sym < self.to
+    }
+
+    /// The constant of the variable with this number.
+    pub(crate) fn of(self, variable: usize) -> u32
+        requires { self.from + variable < self.to }
+        ensures { result ≡ self.from + variable }
+    {
+        self.from + variable as u32
     }
 }
 

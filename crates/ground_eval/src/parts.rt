@@ -1,13 +1,12 @@
-ghost use Rattle.std.specs.Prelude.{◌≡◌, ◌≢◌, ◌+◌, ◌-◌, ◌++◌, ◌≤◌, ℕ, List, IfOk, Some, MatchOption, length, slice_get};
-ghost use Rattle.term_core.specs.Tree.{Tree};
-ghost use Rattle.term_core.specs.declared.ids.SortId.{SortId};
+ghost use Rattle.std.specs.Prelude.{◌≡◌, ◌≢◌, ◌++◌, ℕ, List, [], ◌∷◌, IfOk, Some, MatchOption, length, slice_get};
+ghost use Rattle.term_core.specs.Tree.{Tree, app, none};
 ghost use Rattle.spec_core.specs.declared.records.Goal.{Goal};
-ghost use Rattle.spec_core.specs.Declarations.{bool_sort};
-ghost use Rattle.spec_core.specs.WellSorted.{IsWellSorted, sorts_of};
+ghost use Rattle.spec_core.specs.WellSorted.{IsWellSorted};
 ghost use Rattle.value_bank.specs.Cells.{AddsCells};
 ghost use Rattle.bank_machine.specs.KeptCalls.{AreRight};
 ghost use Rattle.bank_machine.specs.Runs.{StandAt};
-ghost use Rattle.ground_eval.specs.Constants.{AreMarks, constants_from};
+ghost use Rattle.ground_eval.specs.Constants.{AreMarks};
+ghost use Rattle.ground_eval.specs.Entries.{AreEntriesAt, SayOfAll};
 ghost use Rattle.ground_eval.specs.Opened.{partial, IsOpened, AreFirstValues, AreMarksOf, IsPart};
 ghost use Rattle.ground_eval.specs.OpenSides.{Setting, IsSet, CanOpenAll, GoalOpens};
 ghost use Rattle.ground_eval.specs.Prepared.{CanCompareAll};
@@ -20,7 +19,7 @@ use crate::open_sides::{compare_open_conclusions, compare_open_premises};
 use crate::open_spec::OpenSpec;
 use crate::prepared::compile_sides;
 use bank_machine::{KeptCalls, Machine};
-use spec_core::{Goal, Spec, VarInfo, Verdict};
+use spec_core::{Goal, Spec, Verdict};
 use std::alloc::Global;
 use std::marker::Model;
 use term_core::{OutOfMemory, VarId};
@@ -108,9 +107,10 @@ impl<'a> PartialGoal<'a> {
     }
 
     /// The verdict where the goal's first variables have the values at these places. `Looks` names
-    /// the first variable of sort `Bool` without a value, which has no constant, or else the first
-    /// variable without one. The table and the marks are kept from one call over the bank to the
-    /// next.
+    /// the first variable without one. Each further variable of sort `Bool` is tried with both of
+    /// its values, so with b of them the goal is evaluated up to 2^b times, until one of these
+    /// evaluations has no verdict. The table and the marks are kept from one call over the bank to
+    /// the next.
     pub fn verdict_part(
         &self,
         alloc: Global,
@@ -150,66 +150,116 @@ impl<'a> PartialGoal<'a> {
             )?;
             return Ok(Part::All(verdict));
         }
-        match first_boolean(self.goal.vars.as_slice(), fixed.len()) {
-            Some(var) => return Ok(Part::Looks(var)),
-            None => {}
-        }
-        let constants = self.constants;
-        let values = add_constants(alloc, bank, constants, fixed, count)?;
-        match open_verdict(
-            alloc,
-            machine,
-            constants,
-            bank,
-            kept,
-            marks,
-            premises,
-            conclusions,
-            &values,
-            budget,
-        )? {
+        match self.verdict_over(alloc, bank, kept, marks, fixed, budget)? {
             Some(verdict) => Ok(Part::All(verdict)),
             None => Ok(Part::Looks(VarId(fixed.len() as u32))),
         }
     }
-}
 
-/// The first variable of sort `Bool` from this number on.
-fn first_boolean(vars: &[VarInfo], from: usize) -> Option<VarId>
-    requires { length vars.now ≤ 16 }
-    ensures { MatchOption result
-        ((n : ℕ) (s : SortId) → from ≤ n → slice_get (sorts_of vars.now) n ≡ Some s → s.0 ≢ 0)
-        (λ x. (from ≤ x.0) × (slice_get (sorts_of vars.now) x.0 ≡ Some bool_sort)) }
-{
-    for number in from..vars.len() {
-        if vars[number].sort.0 == 0 {
-            return Some(VarId(number as u32));
+    /// The verdict where these stand for the first variables, if there is one whatever the others
+    /// are. A further variable of sort `Bool`, which has no constant, has each of its two values in
+    /// turn, and any other one its constant.
+    fn verdict_over(
+        &self,
+        alloc: Global,
+        bank: &mut Bank,
+        kept: &mut KeptCalls,
+        marks: &mut ConstantMarks,
+        entries: &[ValueId],
+        budget: u32,
+    ) -> Result<Option<Verdict>, OutOfMemory>
+        requires fine { IsWellSorted self.now.spec }
+        requires listed { (k : ℕ) × (slice_get self.now.spec.goals k ≡ Some self.now.goal) }
+        requires kept { AreRight self.now.extended bank.old kept.old }
+        requires marks { AreMarksOf self.now bank.old marks.old }
+        requires entries { (terms : List Tree) × AreEntriesAt self.now bank.old entries.now terms }
+        ensures says { IfOk result (λ r. (terms : List Tree) → AreEntriesAt self.now bank.old entries.now terms
+            → SayOfAll self.now.spec self.now.goal budget terms r) }
+        ensures adds { AddsCells bank.old bank.new }
+        ensures kept { IfOk result (λ _. AreRight self.now.extended bank.new kept.new) }
+        ensures marks { IfOk result (λ _. AreMarksOf self.now bank.new marks.new) }
+    {
+        let vars = self.goal.vars.as_slice();
+        let number = entries.len();
+        if number == vars.len() {
+            return self.verdict_at(alloc, bank, kept, marks, entries, budget);
+        }
+        if vars[number].sort.0 != 0 {
+            let symbol = self.constants.of(number);
+            let more = add_symbol(alloc, bank, entries, symbol)?;
+            return self.verdict_over(alloc, bank, kept, marks, &more, budget);
+        }
+        let with_true = add_symbol(alloc, bank, entries, 0)?;
+        match self.verdict_over(alloc, bank, kept, marks, &with_true, budget)? {
+            None => Ok(None),
+            Some(first) => {
+                let with_false = add_symbol(alloc, bank, entries, 1)?;
+                match self.verdict_over(alloc, bank, kept, marks, &with_false, budget)? {
+                    None => Ok(None),
+                    Some(second) => Ok(agreed(first, second)),
+                }
+            }
         }
     }
-    None
+
+    /// The same where something stands for each variable.
+    fn verdict_at(
+        &self,
+        alloc: Global,
+        bank: &mut Bank,
+        kept: &mut KeptCalls,
+        marks: &mut ConstantMarks,
+        entries: &[ValueId],
+        budget: u32,
+    ) -> Result<Option<Verdict>, OutOfMemory>
+        requires fine { IsWellSorted self.now.spec }
+        requires listed { (k : ℕ) × (slice_get self.now.spec.goals k ≡ Some self.now.goal) }
+        requires kept { AreRight self.now.extended bank.old kept.old }
+        requires marks { AreMarksOf self.now bank.old marks.old }
+        requires all { length entries.now ≡ length self.now.goal.vars }
+        requires entries { (terms : List Tree) × AreEntriesAt self.now bank.old entries.now terms }
+        ensures says { IfOk result (λ r. (terms : List Tree) → AreEntriesAt self.now bank.old entries.now terms
+            → SayOfAll self.now.spec self.now.goal budget terms r) }
+        ensures adds { AddsCells bank.old bank.new }
+        ensures kept { IfOk result (λ _. AreRight self.now.extended bank.new kept.new) }
+        ensures marks { IfOk result (λ _. AreMarksOf self.now bank.new marks.new) }
+    {
+        open_verdict(
+            alloc,
+            &self.machine,
+            self.constants,
+            bank,
+            kept,
+            marks,
+            self.premises.as_slice(),
+            self.conclusions.as_slice(),
+            entries,
+            budget,
+        )
+    }
 }
 
-/// The places of the fixed values, and behind them those of the constants of the further variables
-/// before `count`.
-fn add_constants(
+/// The verdict, if both are it.
+fn agreed(first: Verdict, second: Verdict) -> Option<Verdict>
+    ensures { MatchOption result (first ≢ second) (λ v. (v ≡ first) × (v ≡ second)) }
+{
+    if first == second { Some(first) } else { None }
+}
+
+/// The places, and behind them that of the symbol's term without arguments.
+fn add_symbol(
     alloc: Global,
     bank: &mut Bank,
-    constants: Constants,
-    fixed: &[ValueId],
-    count: usize,
+    places: &[ValueId],
+    symbol: u32,
 ) -> Result<Vec<ValueId>, OutOfMemory>
-    requires room { constants.from + count ≤ constants.to }
-    requires behind { length fixed.now ≤ count }
-    ensures stand { IfOk result (λ ids. (terms : List Tree) → StandAt bank.old fixed.now terms
-        → StandAt bank.new ids.items
-        (terms ++ constants_from constants.from (length fixed.now) (count - length fixed.now))) }
+    ensures stand { IfOk result (λ ids. (terms : List Tree) → StandAt bank.old places.now terms
+        → StandAt bank.new ids.items (terms ++ app symbol none ∷ [])) }
     ensures adds { AddsCells bank.old bank.new }
 {
-    let mut ids = Vec::from_slice(alloc, fixed)?;
-    for number in fixed.len()..count {
-        let place = bank.add(constants.from + number as u32, &[])?;
-        ids.push(ValueId(place as usize))?;
-    }
+    let mut ids = Vec::from_slice(alloc, places)?;
+    let place = bank.add(symbol, &[])?;
+    ids.push(ValueId(place as usize))?;
     Ok(ids)
 }
 

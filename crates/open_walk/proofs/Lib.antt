@@ -6,6 +6,7 @@ mod Entries
 pub mod OpenValues
 pub mod Instancing
 pub mod OpenWalks
+pub mod OpenInstances
 -- The same with a constant for each variable.
 pub mod ClosedTerms
 pub mod WithConstants

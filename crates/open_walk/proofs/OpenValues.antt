@@ -23,7 +23,7 @@ module _ (sig : Sig) where
     built_all_open none b = tt
     built_all_open (some t ts) b = (built_open t b.0, built_all_open ts b.1)
 
-  all_built_open : (xs : List Tree) → AllByRecursion (IsBuilt sig) xs → AllByRecursion (IsOpen sig) xs
+  pub all_built_open : (xs : List Tree) → AllByRecursion (IsBuilt sig) xs → AllByRecursion (IsOpen sig) xs
   all_built_open [] b = tt
   all_built_open (x ∷ xs) b = (built_open x b.0, all_built_open xs b.1)
 

@@ -1,7 +1,7 @@
 -- Laws of the open walk.
 use Rattle.std.specs.Prelude.{◌≡◌, ◌↔◌, ℕ, List, ◌++◌, length, map}
 use Rattle.std.specs.List.{AllByRecursion}
-use Rattle.term_core.specs.Tree.{Tree, instance}
+use Rattle.term_core.specs.Tree.{Tree, var, instance}
 use Rattle.term_core.specs.declared.ids.SortId.{SortId}
 use Rattle.spec_core.specs.declared.records.Goal.{Goal}
 use Rattle.spec_core.specs.declared.records.Spec.{Spec}
@@ -11,7 +11,7 @@ use Rattle.spec_core.specs.Sorts.{IsBuilt}
 use Rattle.spec_core.specs.WellSorted.{IsWellSorted, GoalIsSorted}
 use Rattle.spec_core.specs.Gives.{Gives}
 use Rattle.spec_core.specs.Verdict.{IsVerdict}
-use Rattle.open_walk.specs.OpenGives.{OpenGives, VariablesAreBelow, HasNoVariable}
+use Rattle.open_walk.specs.OpenGives.{IsOpen, OpenGives, VariablesAreBelow, HasNoVariable}
 use Rattle.open_walk.specs.OpenVerdict.{opened, IsOpenVerdict}
 use Rattle.constants.specs.Shifted.{shifted, closed, IsExtended}
 
@@ -21,6 +21,24 @@ InstancesGive =
     (spec : Spec) (xs : List Tree) (t v : Tree) (n : ℕ) → IsWellSorted spec →
     AllByRecursion (IsBuilt spec.sig) xs → VariablesAreBelow (length xs) t →
     OpenGives spec t v n → Gives spec (instance xs t) (instance xs v) n
+
+-- what a term gives openly, it gives under any open values of its variables, at the same cost
+abbrev pub OpenInstancesGive : Type 0
+OpenInstancesGive =
+    (spec : Spec) (xs : List Tree) (t v : Tree) (n : ℕ) → IsWellSorted spec →
+    AllByRecursion (IsOpen spec.sig) xs →
+    OpenGives spec t v n → OpenGives spec (instance xs t) (instance xs v) n
+
+-- what stands for a variable in ys is the instance by xs of what stands for it in zs
+abbrev pub AreInstances : List Tree → List Tree → List Tree → Type 0
+AreInstances xs zs ys = (k : ℕ) → instance ys (var k) ≡ instance xs (instance zs (var k))
+
+-- a verdict of the open walk stays where open values take the place of variables
+abbrev pub OpenVerdictsStay : Type 0
+OpenVerdictsStay =
+    (spec : Spec) (goal : Goal) (xs zs ys : List Tree) (budget : ℕ) (r : Verdict) →
+    IsWellSorted spec → AllByRecursion (IsOpen spec.sig) xs → AreInstances xs zs ys →
+    IsOpenVerdict spec zs budget goal r → IsOpenVerdict spec ys budget goal r
 
 -- a verdict of the open walk is the verdict of every list of values that goes on with the fixed ones
 abbrev pub OpenVerdictsHold : Type 0

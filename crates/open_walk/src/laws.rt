@@ -1,9 +1,19 @@
 ghost use Rattle.open_walk.specs.Examples.{WorkedExamples};
-ghost use Rattle.open_walk.specs.Laws.{ClosedTermsGiveTheSame, ClosingIsInjective, ClosingKeepsInstances, ClosingKeepsValues, ConstantsGiveOpenly, InstancesGive, OpenGivesWithConstants, OpenVerdictsHold};
+ghost use Rattle.open_walk.specs.Laws.{ClosedTermsGiveTheSame, ClosingIsInjective, ClosingKeepsInstances, ClosingKeepsValues, ConstantsGiveOpenly, InstancesGive, OpenGivesWithConstants, OpenInstancesGive, OpenVerdictsHold, OpenVerdictsStay};
 
 /// What a term gives openly, it gives under any values of its variables, at the same cost.
 pub fn instances_give()
     ensures { InstancesGive }
+{}
+
+/// What a term gives openly, it gives under any open values of its variables, at the same cost.
+pub fn open_instances_give()
+    ensures { OpenInstancesGive }
+{}
+
+/// A verdict of the open walk stays where open values take the place of variables.
+pub fn open_verdicts_stay()
+    ensures { OpenVerdictsStay }
 {}
 
 /// A verdict of the open walk is the verdict of every list of values that goes on with the fixed

@@ -13,5 +13,5 @@ mod laws;
 pub use laws::{
     closed_terms_give_the_same, closing_is_injective, closing_keeps_instances,
     closing_keeps_values, constants_give_openly, instances_give, open_gives_with_constants,
-    open_verdicts_hold, worked_examples,
+    open_instances_give, open_verdicts_hold, open_verdicts_stay, worked_examples,
 };
