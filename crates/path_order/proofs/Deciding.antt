@@ -64,33 +64,37 @@ some-parts this_is = inl (inl refl)
 some-parts (this_above p) = inl (inr p)
 some-parts (later r) = inr r
 
-reach-first : (t s : Tree) (ts : Trees) → Reaches t s → SomeReaches (some t ts) s
+pub reach-first : (t s : Tree) (ts : Trees) → Reaches t s → SomeReaches (some t ts) s
 reach-first t s ts (inl e) = subst (λ x. SomeReaches (some t ts) x) e this_is
 reach-first t s ts (inr a) = this_above a
-
-pub all-front :
-    (t : Tree) (ss : List Tree) (x : Tree) → 1 ≤ length ss → x ≡ get_or ss 0 x →
-    AboveAll t (trees_of ss) ↔ (Above t x × AboveAll t (trees_of (take (length ss - 1) (drop 1 ss))))
-all-front t ss x l e =
-    let rest : Trees = trees_of (take (length ss - 1) (drop 1 ss)) in
-    let p : trees_of ss ≡ some x rest = ap trees_of (slice_front ss x l e) in
-    (λ a. all-parts (subst (λ us. AboveAll t us) p a), λ a. subst (λ us. AboveAll t us) (sym p) (all_some a.0 a.1))
-
-pub some-front :
-    (ts : List Tree) (s x : Tree) → 1 ≤ length ts → x ≡ get_or ts 0 x →
-    SomeReaches (trees_of ts) s ↔ (Reaches x s ⊎ SomeReaches (trees_of (take (length ts - 1) (drop 1 ts))) s)
-some-front ts s x l e =
-    let rest : Trees = trees_of (take (length ts - 1) (drop 1 ts)) in
-    let p : trees_of ts ≡ some x rest = ap trees_of (slice_front ts x l e) in
-    (λ a. some-parts (subst (λ us. SomeReaches us s) p a), λ a. subst (λ us. SomeReaches us s) (sym p) (elim a [ inl r ↦ reach-first x s rest r | inr r ↦ later r ]))
-
-pub all-empty : (t : Tree) (ss : List Tree) → length ss < 1 → AboveAll t (trees_of ss)
-all-empty t [] l = all_none
-all-empty t (s ∷ ss) l = absurd (omega (arith, l))
 
 -- what stands behind a place
 pub behind : (xs : List Tree) (i : ℕ) → take (length xs - i) (drop i xs) ≡ drop i xs
 behind xs i = take_all (length xs - i) (drop i xs) (omega (arith, length-drop i xs))
+
+first_and_rest :
+    (ss : List Tree) (x : Tree) (rest : List Tree) → 1 ≤ length ss → x ≡ get_or ss 0 x →
+    rest ≡ drop 1 ss → trees_of ss ≡ some x (trees_of rest)
+first_and_rest ss x rest l e r =
+    ap trees_of (slice_front ss x l e) ∙ ap (λ us. some x (trees_of us)) (behind ss 1 ∙ sym r)
+
+pub all-front :
+    (t : Tree) (ss : List Tree) (x : Tree) (rest : List Tree) → 1 ≤ length ss → x ≡ get_or ss 0 x →
+    rest ≡ drop 1 ss → AboveAll t (trees_of ss) ↔ (Above t x × AboveAll t (trees_of rest))
+all-front t ss x rest l e r =
+    let p = first_and_rest ss x rest l e r in
+    (λ a. all-parts (subst (λ us. AboveAll t us) p a), λ a. subst (λ us. AboveAll t us) (sym p) (all_some a.0 a.1))
+
+pub some-front :
+    (ts : List Tree) (s x : Tree) (rest : List Tree) → 1 ≤ length ts → x ≡ get_or ts 0 x →
+    rest ≡ drop 1 ts → SomeReaches (trees_of ts) s ↔ (Reaches x s ⊎ SomeReaches (trees_of rest) s)
+some-front ts s x rest l e r =
+    let p = first_and_rest ts x rest l e r in
+    (λ a. some-parts (subst (λ us. SomeReaches us s) p a), λ a. subst (λ us. SomeReaches us s) (sym p) (elim a [ inl q ↦ reach-first x s (trees_of rest) q | inr q ↦ later q ]))
+
+pub all-empty : (t : Tree) (ss : List Tree) → length ss < 1 → AboveAll t (trees_of ss)
+all-empty t [] l = all_none
+all-empty t (s ∷ ss) l = absurd (omega (arith, l))
 
 length-trees : (ts : List Tree) → length (list_of (trees_of ts)) ≡ length ts
 length-trees ts = ap (λ us. length us) (list_of-trees_of ts)
@@ -219,24 +223,23 @@ module _ (t s : Tree) (ts ss : List Tree) (one : HaveOneHead t ts s ss) (i : ℕ
       n (around-differ (trees_of (take i ts)) x y (trees_of (drop (i + 1) ts)) (trees_of (drop (i + 1) ss)) (same-arguments (sym left_is ∙ same ∙ right_is)))
 
   pub at_greater :
-      Above x y → (b : Bool) (r : Standing) →
-      IsTrue b ↔ AboveAll t (trees_of (take (length ss - (i + 1)) (drop (i + 1) ss))) →
-      r ≡ (if b then Greater else Neither) → Stands t s r
-  at_greater a b r h e =
+      Above x y → (b : Bool) (r : Standing) (rest : List Tree) → rest ≡ drop (i + 1) ss →
+      IsTrue b ↔ AboveAll t (trees_of rest) → r ≡ (if b then Greater else Neither) → Stands t s r
+  at_greater a b r rest is h e =
       let later : Trees = trees_of (drop (i + 1) ss) in
-      let there : trees_of (take (length ss - (i + 1)) (drop (i + 1) ss)) ≡ later = ap trees_of (behind ss (i + 1)) in
+      let there : trees_of rest ≡ later = ap trees_of is in
       let k = place-falls one.0 (trees_of (take i ts)) x y (trees_of (drop (i + 1) ts)) later rests a in
       let g : Above t s ↔ AboveAll t later = subst (λ z. Above z s ↔ AboveAll z later) (sym left_is) (subst (λ z. Above (app one.0 (around (trees_of (take i ts)) x (trees_of (drop (i + 1) ts)))) z ↔ AboveAll (app one.0 (around (trees_of (take i ts)) x (trees_of (drop (i + 1) ts)))) later) (sym right_is) k) in
       let m : IsTrue b ↔ Above t s = (λ q. g.1 (subst (λ us. AboveAll t us) there (h.0 q)), λ q. h.1 (subst (λ us. AboveAll t us) (sym there) (g.0 q))) in
       stands t s b r e m (apart (λ same. irreflexive x (subst (λ z. Above x z) (sym same) a)))
 
   pub at_neither :
-      x ≢ y → (Above x y → ⊥) → (b : Bool) (r : Standing) →
-      IsTrue b ↔ SomeReaches (trees_of (take (length ts - (i + 1)) (drop (i + 1) ts))) s →
+      x ≢ y → (Above x y → ⊥) → (b : Bool) (r : Standing) (rest : List Tree) →
+      rest ≡ drop (i + 1) ts → IsTrue b ↔ SomeReaches (trees_of rest) s →
       r ≡ (if b then Greater else Neither) → Stands t s r
-  at_neither n fails b r h e =
+  at_neither n fails b r rest is h e =
       let later : Trees = trees_of (drop (i + 1) ts) in
-      let there : trees_of (take (length ts - (i + 1)) (drop (i + 1) ts)) ≡ later = ap trees_of (behind ts (i + 1)) in
+      let there : trees_of rest ≡ later = ap trees_of is in
       let down : Above t s → SomeReaches later s = λ q. subst (λ z. SomeReaches later z) (sym right_is) (later-only one.0 (trees_of (take i ts)) x y later (trees_of (drop (i + 1) ss)) n fails q left_is right_is) in
       let up : SomeReaches later s → Above t s = λ q. subst (λ z. Above z s) (sym left_is) (by_argument (behind-reaches (trees_of (take i ts)) x later s q)) in
       let m : IsTrue b ↔ Above t s = (λ q. up (subst (λ us. SomeReaches us s) there (h.0 q)), λ q. h.1 (subst (λ us. SomeReaches us s) (sym there) (down q))) in
@@ -248,10 +251,10 @@ weight_positive (var n) = omega arith
 weight_positive (app f ts) = omega arith
 
 pub list-falls :
-    (xs : List Tree) (i : ℕ) (x : Tree) → i < length xs → x ≡ get_or xs i x →
-    weight x + list_weight (take (length xs - (i + 1)) (drop (i + 1) xs)) < list_weight xs
-list-falls xs i x l e =
-    subst (λ us. weight x + list_weight us < list_weight xs) (sym (behind xs (i + 1))) (falls-there xs i x l e)
+    (xs : List Tree) (i : ℕ) (x : Tree) (rest : List Tree) → i < length xs → x ≡ get_or xs i x →
+    rest ≡ drop (i + 1) xs → weight x + list_weight rest < list_weight xs
+list-falls xs i x rest l e is =
+    subst (λ us. weight x + list_weight us < list_weight xs) (sym is) (falls-there xs i x l e)
   where
     falls-there :
         (xs : List Tree) (i : ℕ) (x : Tree) → i < length xs → x ≡ get_or xs i x →
@@ -275,33 +278,51 @@ positive t = weight_positive t
 
 -- a test of the first term, and then of the others
 pub all-then :
-    (t : Tree) (ss : List Tree) (x : Tree) (a b : Bool) → 1 ≤ length ss → x ≡ get_or ss 0 x →
-    IsTrue a ↔ Above t x → a ≡ true →
-    IsTrue b ↔ AboveAll t (trees_of (take (length ss - 1) (drop 1 ss))) →
-    IsTrue b ↔ AboveAll t (trees_of ss)
-all-then t ss x a b l e h is k =
-    let f = all-front t ss x l e in
+    (t : Tree) (ss : List Tree) (x : Tree) (rest : List Tree) (a b : Bool) → 1 ≤ length ss →
+    x ≡ get_or ss 0 x → rest ≡ drop 1 ss → IsTrue a ↔ Above t x → a ≡ true →
+    IsTrue b ↔ AboveAll t (trees_of rest) → IsTrue b ↔ AboveAll t (trees_of ss)
+all-then t ss x rest a b l e r h is k =
+    let f = all-front t ss x rest l e r in
     (λ q. f.1 (h.0 is, k.0 q), λ q. k.1 (f.0 q).1)
 
 pub all-else :
     (t : Tree) (ss : List Tree) (x : Tree) (a : Bool) → 1 ≤ length ss → x ≡ get_or ss 0 x →
     IsTrue a ↔ Above t x → a ≡ false → IsTrue a ↔ AboveAll t (trees_of ss)
 all-else t ss x a l e h is =
-    let f = all-front t ss x l e in
+    let f = all-front t ss x (drop 1 ss) l e refl in
     (λ q. absurd (false≢true (sym is ∙ q)), λ q. h.1 (f.0 q).0)
 
 pub some-then :
     (ts : List Tree) (s x : Tree) (a : Bool) → 1 ≤ length ts → x ≡ get_or ts 0 x →
     IsTrue a ↔ Reaches x s → a ≡ true → IsTrue a ↔ SomeReaches (trees_of ts) s
 some-then ts s x a l e h is =
-    let f = some-front ts s x l e in
+    let f = some-front ts s x (drop 1 ts) l e refl in
     (λ q. f.1 (inl (h.0 q)), λ q. is)
 
 pub some-else :
-    (ts : List Tree) (s x : Tree) (a b : Bool) → 1 ≤ length ts → x ≡ get_or ts 0 x →
-    IsTrue a ↔ Reaches x s → a ≡ false →
-    IsTrue b ↔ SomeReaches (trees_of (take (length ts - 1) (drop 1 ts))) s →
-    IsTrue b ↔ SomeReaches (trees_of ts) s
-some-else ts s x a b l e h is k =
-    let f = some-front ts s x l e in
-    (λ q. f.1 (inr (k.0 q)), λ q. elim (f.0 q) [ inl r ↦ absurd (false≢true (sym is ∙ h.1 r)) | inr r ↦ k.1 r ])
+    (ts : List Tree) (s x : Tree) (rest : List Tree) (a b : Bool) → 1 ≤ length ts →
+    x ≡ get_or ts 0 x → rest ≡ drop 1 ts → IsTrue a ↔ Reaches x s → a ≡ false →
+    IsTrue b ↔ SomeReaches (trees_of rest) s → IsTrue b ↔ SomeReaches (trees_of ts) s
+some-else ts s x rest a b l e r h is k =
+    let f = some-front ts s x rest l e r in
+    (λ q. f.1 (inr (k.0 q)), λ q. elim (f.0 q) [ inl w ↦ absurd (false≢true (sym is ∙ h.1 w)) | inr w ↦ k.1 w ])
+
+-- what a term is means the same for how it stands
+pub stands-as : {t s u v : Tree} (r : Standing) → u ≡ t → v ≡ s → Stands u v r → Stands t s r
+stands-as {t} {s} {u} {v} r p q h = subst (λ x. Stands x s r) p (subst (λ x. Stands u x r) q h)
+
+-- lists that are the same up to a place, and at it
+pub same_more :
+    (xs ys : List Tree) (i : ℕ) (x y : Tree) → i < length xs → i < length ys → x ≡ get_or xs i x →
+    y ≡ get_or ys i y → x ≡ y → take i xs ≡ take i ys → take (i + 1) xs ≡ take (i + 1) ys
+same_more xs ys i x y l m e g s w =
+    let k : suc i ≡ i + 1 = omega arith in
+    subst (λ j. take j xs ≡ take j ys) k
+    (take_one xs i x l e ∙ ap (λ us. us ++ x ∷ []) w ∙ ap (λ u. take i ys ++ u ∷ []) s ∙ sym (take_one ys i y m g))
+  where
+    take_one :
+        (xs : List Tree) (i : ℕ) (x : Tree) → i < length xs → x ≡ get_or xs i x →
+        take (suc i) xs ≡ take i xs ++ x ∷ []
+    take_one [] i x l e = absurd (omega (arith, l))
+    take_one (y ∷ ys) zero x l e = ap (λ u. u ∷ []) (sym e)
+    take_one (y ∷ ys) (suc i) x l e = ap (λ us. y ∷ us) (take_one ys i x (omega (arith, l)) e)

@@ -9,6 +9,7 @@ pub mod Examples
 pub mod RankExamples
 -- What only this crate's own contracts speak of.
 pub mod Standing
+pub mod Operands
 -- That the path ordering keeps the laws.
 pub mod Each
 pub mod Instances
