@@ -9,6 +9,7 @@ pub mod Renumbering
 pub mod RenumberedEquations
 mod FirstOccurrences
 mod Numbering
+mod Taken
 pub mod TidiedSorts
 pub mod TidiedFails
 pub mod TidiedLimits

@@ -1,6 +1,7 @@
 -- The sides of equations: of lists that are put together, and of one equation more.
-use Rattle.std.proofs.Common.{◌≡◌, ℕ, ◌+◌, ◌-◌, ◌<◌, ◌≤◌, List, [], ◌∷◌, ◌++◌, max, min, length, take, get_or, refl, ap, ◌∙◌, arith}
-use Rattle.term_core.specs.Tree.{Tree, trees_of, sizes, depths}
+use Rattle.std.proofs.Common.{◌≡◌, ℕ, ◌+◌, ◌-◌, ◌<◌, ◌≤◌, List, [], ◌∷◌, ◌++◌, max, min, length, take, drop, get_or, refl, ap, ◌∙◌, arith}
+use Rattle.std.proofs.Math.Seq.{take-length}
+use Rattle.term_core.specs.Tree.{Tree, var, app, trees_of, sizes, tree_depth, depths}
 use Rattle.term_core.proofs.Items.{taken_next}
 use Rattle.spec_core.specs.declared.records.Equation.{Equation}
 use Rattle.clause_core.specs.declared.clauses.Clause.{Clause}
@@ -15,6 +16,21 @@ pub sides_next :
     (es : List Equation) (i : ℕ) (e : Equation) → i < length es → e ≡ get_or es i e →
     sides_of (take (i + 1) es) ≡ sides_of (take i es) ++ e.left ∷ e.right ∷ []
 sides_next es i e lt is = ap sides_of (taken_next es i e lt is) ∙ sides_append (take i es) (e ∷ [])
+
+-- the first equation's sides stand before those of the others
+pub front_sides :
+    (es : List Equation) (e : Equation) → 1 ≤ length es → e ≡ get_or es 0 e →
+    sides_of es ≡ e.left ∷ e.right ∷ sides_of (take (length es - 1) (drop 1 es))
+front_sides [] e h is = absurd (omega arith)
+front_sides (d ∷ es) e h is =
+    let k : e ≡ d = is in
+    let n : length (d ∷ es) - 1 ≡ length es = omega arith in
+    rw (n, k, take-length) refl
+
+-- a tree has a level
+pub depth_positive : (t : Tree) → 1 ≤ tree_depth t
+depth_positive (var n) = omega arith
+depth_positive (app f ts) = omega arith
 
 sizes_append : (xs ys : List Tree) → sizes (trees_of (xs ++ ys)) ≡ sizes (trees_of xs) + sizes (trees_of ys)
 sizes_append [] ys = omega arith
@@ -43,10 +59,10 @@ depths_next es i e cap most left right lt is m l r =
     let n = ap (λ ts. depths (trees_of ts)) (sides_next es i e lt is) ∙ depths_append (sides_of (take i es)) (e.left ∷ e.right ∷ []) in
     omega (arith, n, m, l, r)
 
-clause_size_is : (c : Clause) → clause_size c ≡ sizes (trees_of (sides_of c.premises)) + sizes (trees_of (sides_of c.conclusions))
+pub clause_size_is : (c : Clause) → clause_size c ≡ sizes (trees_of (sides_of c.premises)) + sizes (trees_of (sides_of c.conclusions))
 clause_size_is c = sizes_append (sides_of c.premises) (sides_of c.conclusions)
 
-clause_depth_is : (c : Clause) → clause_depth c ≡ max (depths (trees_of (sides_of c.premises))) (depths (trees_of (sides_of c.conclusions)))
+pub clause_depth_is : (c : Clause) → clause_depth c ≡ max (depths (trees_of (sides_of c.premises))) (depths (trees_of (sides_of c.conclusions)))
 clause_depth_is c = depths_append (sides_of c.premises) (sides_of c.conclusions)
 
 -- the tests for the limits, where sums and maxima stop one above them

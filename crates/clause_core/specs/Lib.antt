@@ -8,6 +8,7 @@ pub mod Clauses
 pub mod Limits
 pub mod ClauseInstances
 pub mod Tidied
+pub mod Taken
 pub mod Multisets
 pub mod Comparing
 pub mod Failing

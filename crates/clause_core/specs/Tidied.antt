@@ -1,6 +1,6 @@
 -- Tidied clauses: the variables are numbered by first occurrence, and those that don't occur are
 -- left out.
-use Rattle.std.specs.Prelude.{ℕ, ◌==◌, List, map, length, slice_index_or}
+use Rattle.std.specs.Prelude.{◌≡◌, ℕ, ◌==◌, List, Option, MatchOption, map, length, slice_index_or}
 use Rattle.std.specs.List.{position_or_len}
 use Rattle.term_core.specs.Tree.{Tree, Trees, var, app, none, some, trees_of}
 use Rattle.term_core.specs.Variables.{occurrences_all, firsts, NumberedAll}
@@ -11,6 +11,7 @@ use Rattle.spec_core.specs.Declarations.{bool_sort}
 use Rattle.spec_core.specs.WellSorted.{sorts_of}
 use Rattle.clause_core.specs.declared.clauses.Clause.{Clause}
 use Rattle.clause_core.specs.Clauses.{sides}
+use Rattle.clause_core.specs.Limits.{IsWithin}
 
 -- the variables that occur in the clause, by first occurrence
 abbrev pub variables_of : Clause → List ℕ
@@ -46,6 +47,11 @@ tidied c = record {
   premises = map (renumbered_equation (variables_of c)) c.premises;
   conclusions = map (renumbered_equation (variables_of c)) c.conclusions;
 }
+
+-- the clause, tidied, where that is within the limits of a clause in a proof, and else none
+abbrev pub IsTidiedWithin : Clause → Option Clause → Type 0
+IsTidiedWithin c answer =
+    MatchOption answer (IsWithin (tidied c) → ⊥) (λ made. (made ≡ tidied c) × IsWithin made)
 
 -- the variables are numbered by first occurrence, and each of them occurs
 abbrev pub IsTidied : Clause → Type 0

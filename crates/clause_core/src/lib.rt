@@ -8,9 +8,10 @@
 //!
 //! A [`Clause`] in a proof keeps limits (`specs/Limits.antt`), has its variables numbered by first
 //! occurrence (`specs/Tidied.antt`), and compares with another by the multisets of all sides
-//! (`specs/Comparing.antt`). The layers above use that [`tidy`], [`of_goal`], [`instance`],
-//! [`within`], [`instance_within`] and [`compare`] are exact against these, and that a tidied
-//! clause keeps limits, sorts and failing instances ([`tidying_laws`]).
+//! (`specs/Comparing.antt`). The layers above use that [`tidy`], [`into_tidied`],
+//! [`tidied_within`], [`of_goal`], [`instance`], [`within`], [`instance_within`] and [`compare`]
+//! are exact against these, and that a tidied clause keeps limits, sorts and failing instances
+//! ([`tidying_laws`]).
 //!
 //! The table of steps stands in `specs/` in its order, a file for each kind of step and a
 //! definition of a few lines for each row: the conditions one after the other, each with the reason
@@ -32,8 +33,10 @@ mod laws;
 mod limits;
 mod places;
 mod reports;
+mod standing;
 mod step_laws;
 mod steps;
+mod tidied;
 mod tidying;
 
 pub use answers::{Child, Children, Reference, RewriteError, Why};
@@ -47,4 +50,5 @@ pub use limits::within;
 pub use reports::{Budget, Claim, Outcome, ReplayWhy, Report};
 pub use step_laws::{one_answer, places_agree, step_examples, table_examples};
 pub use steps::{Block, Place, Step};
+pub use tidied::{into_tidied, tidied_within};
 pub use tidying::{of_goal, tidy};

@@ -1,7 +1,6 @@
 -- Rows without an order, and in any block.
 mod Answered
 mod SameTests
-mod NumberedSides
 mod Sizes
 mod Matches
 mod AppliedRows

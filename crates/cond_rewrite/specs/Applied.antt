@@ -26,11 +26,6 @@ abbrev pub applied_case :
 applied_case p entries rule =
     with_premises (holding p (apply entries rule.right)) (map (applied_guard entries) rule.guards)
 
--- the clause, tidied, where that is within the limits, and else none
-abbrev pub IsChildWithin : Clause → Option Clause → Type 0
-IsChildWithin d answer =
-    MatchOption answer (IsWithin (tidied d) → ⊥) (λ made. (made ≡ tidied d) × IsWithin made)
-
 -- the children of `case` by the rules of this left side, in their order, before they are tidied
 abbrev pub applied_cases :
     {c : Clause} {place : Place} → TermAt c place → List (Option Tree) → List Rule → Tree →

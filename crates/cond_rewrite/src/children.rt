@@ -3,12 +3,12 @@ ghost use Rattle.term_core.specs.Tree.{trees_of, tree_size, sizes};
 ghost use Rattle.substitutions.specs.Substitution.{apply};
 ghost use Rattle.clause_core.specs.Clauses.{sides_of};
 ghost use Rattle.clause_core.specs.Places.{TermAt, holding};
-ghost use Rattle.cond_rewrite.specs.Applied.{applied_guard, applied_case, IsChildWithin};
+ghost use Rattle.clause_core.specs.Tidied.{IsTidiedWithin};
+ghost use Rattle.cond_rewrite.specs.Applied.{applied_guard, applied_case};
 
 use crate::guards::boolean;
 use crate::instances::small_instance;
-use crate::numbering::is_tidied;
-use clause_core::{Clause, Place, tidy, tidying_laws, within};
+use clause_core::{Clause, Place, tidied_within};
 use spec_core::{Equation, Guard, Rule};
 use std::alloc::Global;
 use substitutions::Subst;
@@ -45,7 +45,7 @@ pub(crate) fn case_child(
 ) -> Result<Option<Clause>, OutOfMemory>
     requires { TermAt clause.now place.now }
     ensures { IfOk result (λ answer. (p : TermAt clause.now place.now) →
-        IsChildWithin (applied_case p theta.now.terms rule.now) answer) }
+        IsTidiedWithin (applied_case p theta.now.terms rule.now) answer) }
 {
     let Some(made) = rewritten(alloc, clause, place, theta, &rule.right)? else {
         return Ok(None);
@@ -92,19 +92,4 @@ fn joined(first: Seq<Equation>, second: Seq<Equation>) -> Result<Seq<Equation>, 
     let mut behind = second.into_vec();
     made.append(&mut behind)?;
     Ok(Seq::from_vec(made))
-}
-
-/// The clause, tidied, or None where it passes the limits of clauses. It isn't copied where it is
-/// tidied already.
-pub(crate) fn tidied_within(alloc: Global, clause: Clause) -> Result<Option<Clause>, OutOfMemory>
-    ensures { IfOk result (IsChildWithin clause) }
-{
-    tidying_laws();
-    if !within(&clause) {
-        return Ok(None);
-    }
-    if is_tidied(&clause) {
-        return Ok(Some(clause));
-    }
-    Ok(Some(tidy(alloc, &clause)?))
 }

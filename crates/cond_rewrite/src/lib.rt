@@ -13,7 +13,6 @@ mod children;
 mod guards;
 mod instances;
 mod laws;
-mod numbering;
 mod rewriting;
 mod rules;
 

@@ -4,10 +4,10 @@ ghost use Rattle.spec_core.specs.WellSorted.{IsWellSorted};
 ghost use Rattle.clause_core.specs.Rewriting.{rule_row};
 ghost use Rattle.cond_rewrite.specs.RowAnswers.{RowAnswers, IsRefused};
 
-use crate::children::{rewritten, tidied_within};
+use crate::children::rewritten;
 use crate::guards::guards_are_among;
 use crate::rules::rule_at;
-use clause_core::{Clause, Place, RewriteError};
+use clause_core::{Clause, Place, RewriteError, tidied_within};
 use spec_core::Spec;
 use std::alloc::Global;
 use unifier::matches;

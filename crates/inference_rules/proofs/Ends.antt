@@ -1,9 +1,8 @@
 -- The end of a row: its children and references, one after the other.
-use Rattle.std.proofs.Common.{◌≡◌, ℕ, ◌+◌, ◌<◌, ◌≤◌, List, [], ◌∷◌, ◌++◌, inl, map, length, take, get_or, refl, ap, sym, ◌∙◌, subst, arith}
+use Rattle.std.proofs.Common.{◌≡◌, ℕ, List, [], ◌∷◌, ◌++◌, inl, map, refl, sym, subst, arith}
 use Rattle.std.specs.Prelude.{Result, Ok, Err}
-use Rattle.std.proofs.lemmas.List.{map-append, take_all}
+use Rattle.std.proofs.lemmas.List.{map-append}
 use Rattle.term_core.specs.Tree.{Tree}
-use Rattle.term_core.proofs.Items.{taken_next}
 use Rattle.clause_core.specs.declared.clauses.Clause.{Clause}
 use Rattle.clause_core.specs.declared.clauses.Relation.{Relation}
 use Rattle.clause_core.specs.declared.answers.Child.{Child}
@@ -46,21 +45,12 @@ module _ (above : Tree → Tree → Type 0) (c : Clause) where
 
   -- one child more with the relation that the row gives it
   pub child_more :
-      (relation : Relation) (ds : List Clause) (i : ℕ) (d : Clause) → i < length ds → d ≡ get_or ds i d →
-      (made news : List Child) (new : Child) → Pairwise (IsChild above c) (map (child relation) (take i ds)) made →
-      new.clause ≡ tidied d → new.relation ≡ relation → news ≡ made ++ new ∷ [] →
-      Pairwise (IsChild above c) (map (child relation) (take (i + 1) ds)) news
-  child_more relation ds i d lt is made news new p t r n =
-      let more : map (child relation) (take (i + 1) ds) ≡ map (child relation) (take i ds) ++ child relation d ∷ [] =
-      ap (λ xs. map (child relation) xs) (taken_next ds i d lt is) ∙ map-append (child relation) (take i ds) (d ∷ []) in
-      subst (λ ms. Pairwise (IsChild above c) ms news) (sym more) (subst (λ (xs : List Child). Pairwise (IsChild above c) (map (child relation) (take i ds) ++ child relation d ∷ []) xs) (sym n) (pairs_more (IsChild above c) (map (child relation) (take i ds)) made (child relation d) new p (t, r)))
-
-  pub children_end :
-      (relation : Relation) (ds : List Clause) (i : ℕ) (made news : List Child) → length ds ≤ i →
-      Pairwise (IsChild above c) (map (child relation) (take i ds)) made → news ≡ made →
-      Pairwise (IsChild above c) (map (child relation) ds) news
-  children_end relation ds i made news all p n =
-      subst (λ (xs : List Child). Pairwise (IsChild above c) (map (child relation) ds) xs) (sym n) (subst (λ es. Pairwise (IsChild above c) (map (child relation) es) made) (take_all i ds all) p)
+      (relation : Relation) (ds : List Clause) (d : Clause) (made news : List Child) (new : Child) →
+      Pairwise (IsChild above c) (map (child relation) ds) made → new.clause ≡ tidied d → new.relation ≡ relation →
+      news ≡ made ++ new ∷ [] → Pairwise (IsChild above c) (map (child relation) (ds ++ d ∷ [])) news
+  child_more relation ds d made news new p t r n =
+      subst (λ ms. Pairwise (IsChild above c) ms news) (sym (map-append (child relation) ds (d ∷ [])))
+      (subst (λ (xs : List Child). Pairwise (IsChild above c) (map (child relation) ds ++ child relation d ∷ []) xs) (sym n) (pairs_more (IsChild above c) (map (child relation) ds) made (child relation d) new p (t, r)))
 
   pub nothing_referred : (made : List Reference) → made ≡ [] → Pairwise (IsReference above c) [] made
   nothing_referred made e = subst (λ (xs : List Reference). Pairwise (IsReference above c) [] xs) (sym e) tt

@@ -7,7 +7,7 @@ ghost use Rattle.clause_core.specs.Generalizing.{IsGeneral, StandsIn, generalize
 ghost use Rattle.inference_rules.specs.Answers.{AnsweredAlone};
 ghost use Rattle.inference_rules.specs.Parts.{IsPart, IsPartOfAny};
 
-use crate::making::related;
+use crate::making::related_alone;
 use crate::nodes::StepError;
 use clause_core::{Children, Clause, Relation, Why};
 use spec_core::{Equation, Signature, Spec};
@@ -31,7 +31,7 @@ pub(crate) fn generalize(
         return Err(StepError::Why(Why::DoesNotFit));
     }
     let child = generalized(alloc, here, term, sort)?;
-    related(alloc, Relation::Same, &[child])
+    related_alone(alloc, Relation::Same, child)
 }
 
 /// The sort of a term that is no variable.

@@ -14,7 +14,8 @@ ghost use Rattle.inference_rules.specs.Nodes.{children_with};
 
 use crate::nodes::StepError;
 use clause_core::{
-    Child, Children, Clause, Place, Reference, Relation, Why, compare, tidy, within,
+    Child, Children, Clause, Place, Reference, Relation, Why, compare, into_tidied, tidied_within,
+    within,
 };
 use path_order::TermOrder;
 use place_comparison::{relation_at, within_at};
@@ -34,14 +35,34 @@ pub(crate) fn closed(alloc: Global) -> Children
     }
 }
 
+/// What is made of this clause alone, with this relation of the node to it.
+pub(crate) fn related_alone(
+    alloc: Global,
+    relation: Relation,
+    clause: Clause,
+) -> Result<Children, StepError>
+    ensures { (c : ClauseOf) →
+        AnsweredAlone c (makes (child relation clause ∷ []) []) result }
+{
+    let Some(clause) = tidied_within(alloc, clause)? else {
+        return Err(StepError::Why(Why::Limit));
+    };
+    let mut clauses = Seq::new(alloc);
+    clauses.push(Child { clause, relation })?;
+    Ok(Children {
+        clauses,
+        refs: Seq::new(alloc),
+    })
+}
+
 /// What is made of these clauses, with one relation of the node to each of them.
 pub(crate) fn related(
     alloc: Global,
     relation: Relation,
-    clauses: &[Clause],
+    clauses: Vec<Clause>,
 ) -> Result<Children, StepError>
     ensures { (c : ClauseOf) →
-        AnsweredAlone c (makes (map (child relation) clauses.now) []) result }
+        AnsweredAlone c (makes (map (child relation) clauses.items) []) result }
 {
     limited(tidied_all(alloc, relation, clauses)?, Seq::new(alloc))
 }
@@ -50,17 +71,15 @@ pub(crate) fn related(
 fn tidied_all(
     alloc: Global,
     relation: Relation,
-    clauses: &[Clause],
+    clauses: Vec<Clause>,
 ) -> Result<Seq<Child>, OutOfMemory>
     ensures { IfOk result (λ made. (c : ClauseOf) →
-        Pairwise (IsChild (λ t s. ⊥) c) (map (child relation) clauses.now) made) }
+        Pairwise (IsChild (λ t s. ⊥) c) (map (child relation) clauses.items) made) }
 {
     let mut made = Vec::with_capacity(alloc, clauses.len())?;
     for clause in clauses {
-        made.push(Child {
-            clause: tidy(alloc, clause)?,
-            relation,
-        })?;
+        let clause = into_tidied(alloc, clause)?;
+        made.push(Child { clause, relation })?;
     }
     Ok(Seq::from_vec(made))
 }
@@ -108,7 +127,7 @@ pub(crate) fn child_holding<O: TermOrder>(
         return Err(StepError::Why(Why::Limit));
     }
     let child = here.holding(alloc, place, new)?;
-    let clause = tidy(alloc, &child)?;
+    let clause = into_tidied(alloc, child)?;
     let mut clauses = Seq::new(alloc);
     clauses.push(Child { clause, relation })?;
     Ok(Children { clauses, refs })

@@ -9,7 +9,7 @@ ghost use Rattle.clause_core.specs.Simplifying.{SameHeads, pairs, decompose_row,
 ghost use Rattle.inference_rules.specs.Answers.{AnsweredAlone};
 
 use crate::closing::{clashes, is_constructor};
-use crate::making::related;
+use crate::making::{related, related_alone};
 use crate::nodes::StepError;
 use clause_core::{Children, Clause, Relation, Why};
 use spec_core::{Equation, Signature, Spec};
@@ -36,10 +36,10 @@ pub(crate) fn decompose(
     let parts = equated(alloc, lefts, rights)?;
     if conclusion {
         let children = one_each(alloc, clause, number, parts)?;
-        related(alloc, Relation::Less, &children)
+        related(alloc, Relation::Less, children)
     } else {
         let child = clause.exchanged(alloc, false, number, parts)?;
-        related(alloc, Relation::Less, &[child])
+        related_alone(alloc, Relation::Less, child)
     }
 }
 
@@ -59,7 +59,7 @@ pub(crate) fn clash(
         return Err(StepError::Why(Why::DoesNotFit));
     }
     let child = clause.exchanged(alloc, true, number, Vec::new(alloc))?;
-    related(alloc, Relation::Less, &[child])
+    related_alone(alloc, Relation::Less, child)
 }
 
 /// `drop`: the conclusion (true) or premise is left out.
@@ -76,7 +76,7 @@ pub(crate) fn drop_equation(
         return Err(StepError::Why(Why::NoSuchPlace));
     };
     let child = clause.exchanged(alloc, conclusion, number, Vec::new(alloc))?;
-    related(alloc, Relation::Less, &[child])
+    related_alone(alloc, Relation::Less, child)
 }
 
 /// The arguments of both sides, where these have the same constructor as head.

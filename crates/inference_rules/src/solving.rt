@@ -7,7 +7,7 @@ ghost use Rattle.clause_core.specs.Solving.{Solves, solve_row};
 ghost use Rattle.inference_rules.specs.Answers.{AnsweredAlone};
 
 use crate::closing::is_constructor;
-use crate::making::related;
+use crate::making::related_alone;
 use crate::nodes::StepError;
 use clause_core::{Children, Clause, Relation, Why, instance, instance_within};
 use spec_core::{Equation, Signature, Spec};
@@ -43,7 +43,7 @@ pub(crate) fn solve(
         return Err(StepError::Why(Why::Limit));
     }
     let child = instance(alloc, &rest, &theta, clause.ctx.as_slice())?;
-    related(alloc, Relation::Less, &[child])
+    related_alone(alloc, Relation::Less, child)
 }
 
 /// The variable that the equation has as a side, and the other side. Of two variables it is the

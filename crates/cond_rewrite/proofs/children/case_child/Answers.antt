@@ -4,7 +4,8 @@ use Rattle.spec_core.specs.declared.records.Guard.{Guard}
 use Rattle.substitutions.specs.Substitution.{apply}
 use Rattle.clause_core.specs.declared.clauses.Clause.{Clause}
 use Rattle.clause_core.specs.Places.{TermAt, holding}
-use Rattle.cond_rewrite.specs.Applied.{applied_guard, applied_case, IsChildWithin}
+use Rattle.clause_core.specs.Tidied.{IsTidiedWithin}
+use Rattle.cond_rewrite.specs.Applied.{applied_guard, applied_case}
 use Rattle.cond_rewrite.proofs.Answered.{at_none, at_some}
 use Rattle.cond_rewrite.proofs.Sizes.{size_of, split_too_large, premises_too_large}
 use Rattle.cond_rewrite.proofs.children.case_child.Goals as goal
@@ -33,5 +34,5 @@ returns c =
     c.in_ok-premises.ensures ∙ ap (λ es. made.premises ++ es) guards in
     (λ i. record { ctx = made.ctx; premises = premises i; conclusions = made.conclusions })
     ∙ (λ i. record { ctx = (held i).ctx; premises = (held i).premises ++ map (applied_guard s) c.args.rule.now.guards; conclusions = (held i).conclusions }) in
-    if_ok_map c.tidied_within.result (λ answer. IsChildWithin split answer) (λ answer. (p : TermAt c.args.clause.now c.args.place.now) → IsChildWithin (applied_case p s c.args.rule.now) answer)
-    (λ answer h p. subst (λ d. IsChildWithin d answer) (is p) h) c.tidied_within.ensures
+    if_ok_map c.tidied_within.result (λ answer. IsTidiedWithin split answer) (λ answer. (p : TermAt c.args.clause.now c.args.place.now) → IsTidiedWithin (applied_case p s c.args.rule.now) answer)
+    (λ answer h p. subst (λ d. IsTidiedWithin d answer) (is p) h) c.tidied_within.ensures

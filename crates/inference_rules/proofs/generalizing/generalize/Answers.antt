@@ -17,5 +17,5 @@ returns c =
     let here = c.args.here.now in
     let s = c.in-Some.sort in
     let general = subst (λ (ctx : List SortId). IsGeneral c.args.spec.now.sig ctx c.args.term.now s) c.as_slice.ensures c.in-Some.ensures in
-    generalize_answered c.args.spec.now here c.args.term.now s general (c.stands_in.ensures.0 (let no = c.if-not-stands_in.false in cc)) c.related.result
-    (one_child here Same c.in_ok-child.child (generalized here c.args.term.now s) c.related.result c.in_ok-child.ensures (c.related.ensures here))
+    generalize_answered c.args.spec.now here c.args.term.now s general (c.stands_in.ensures.0 (let no = c.if-not-stands_in.false in cc)) c.related_alone.result
+    (one_child here Same c.in_ok-child.child (generalized here c.args.term.now s) c.related_alone.result c.in_ok-child.ensures (c.related_alone.ensures here))

@@ -1,4 +1,4 @@
-use Rattle.std.proofs.Common.{map, take}
+use Rattle.std.proofs.Common.{map}
 use Rattle.clause_core.specs.declared.clauses.Clause.{Clause}
 use Rattle.clause_core.specs.Rows.{child}
 use Rattle.clause_core.specs.Says.{Pairwise, IsChild}
@@ -6,4 +6,4 @@ use Rattle.inference_rules.proofs.making.tidied_all.Given as goal
 
 abbrev pub invariant-loop-clause : goal.invariant-loop-clause
 invariant-loop-clause l =
-    (c : Clause) → Pairwise (IsChild (λ t s. ⊥) c) (map (child l.relation) (take l.clause-index l.clauses)) l.made.items
+    (c : Clause) → Pairwise (IsChild (λ t s. ⊥) c) (map (child l.relation) l.yielded) l.made.items

@@ -49,4 +49,4 @@ returns c =
     let p = c.if-not-is_pattern_without.ensures.0 refl in
     let solved = solved_at c.args.spec.now.sig at.equation c.in-Some.premise.now n t c.in-Some.ensures.1 c.in-Some-solved_for.ensures p.0 p.1 in
     let made = child_is_exchanged c.set.new.self.terms here c.args.number at n t (solved_within c.args.spec.now.sig here c.requires c.args.number at n t solved.solves) c.new-theta.result.terms c.new-theta.ensures (subst (λ u. IsSetTo c.new-theta.result.terms n u c.set.new.self.terms) c.in_ok-copy.ensures c.in_ok-set.ensures.set) c.new.result.items c.new.ensures.items c.in_ok-rest.rest (c.in_ok-rest.ensures at) in
-    solve_answered c.args.spec.now here c.args.number at solved c.in_ok-child.child (c.in_ok-child.ensures ∙ ap (λ ctx. clause_instance c.set.new.self.terms ctx c.in_ok-rest.rest) c.as_slice.ensures ∙ made) c.related.result (c.related.ensures here)
+    solve_answered c.args.spec.now here c.args.number at solved c.in_ok-child.child (c.in_ok-child.ensures ∙ ap (λ ctx. clause_instance c.set.new.self.terms ctx c.in_ok-rest.rest) c.as_slice.ensures ∙ made) c.related_alone.result (c.related_alone.ensures here)
