@@ -4,6 +4,7 @@ pub mod PlacesThere
 pub mod AskedVariables
 -- What the calls of this crate need.
 mod Firsts
+mod ListedTerms
 mod WalkedPlaces
 mod LookedAt
 mod PatternReferences

@@ -1,152 +1,196 @@
--- The spots that one more argument adds, and one more equation; and what is narrow in a narrow
--- term.
-use Rattle.std.proofs.Common.{◌≡◌, ℕ, zero, suc, ◌+◌, ◌-◌, ◌<◌, ◌≤◌, List, [], ◌∷◌, ◌++◌, Bool, true, false, refl, ap, sym, ◌∙◌, subst, arith, length, map, take, get_or, append_assoc}
-use Rattle.std.specs.Prelude.{Result, Ok, Err, OnOk}
+-- A walk along places that looks for the one of an index: along lists one behind the other, a term,
+-- its arguments, a side, and a clause.
+use Rattle.std.proofs.Common.{◌≡◌, ℕ, zero, suc, ◌+◌, ◌-◌, ◌<◌, ◌≤◌, List, [], ◌∷◌, ◌++◌, Bool, true, false, Some, None, refl, ap, sym, ◌∙◌, subst, arith, length, map, take, append_assoc}
+use Rattle.std.specs.Prelude.{Option, SomeIff, option_map, slice_get}
 use Rattle.std.specs.List.{AllByRecursion}
 use Rattle.std.proofs.Math.Seq.{take-append_seam}
-use Rattle.std.proofs.lemmas.List.{map-append, append-nil, length-take, length-append}
-use Rattle.term_core.specs.Tree.{Tree, app, trees_of, list_of}
+use Rattle.std.proofs.lemmas.List.{append-nil, length-append, length-map}
+use Rattle.std.proofs.lemmas.Option.{slice_get-map, slice_get-get_or}
+use Rattle.term_core.specs.Tree.{Tree, var, app, trees_of, list_of}
 use Rattle.term_core.specs.Measure.{weight, list_weight, list_weight_is}
-use Rattle.term_core.proofs.Items.{taken_next}
 use Rattle.term_core.proofs.Trees.{list_of-trees_of}
 use Rattle.spec_core.specs.declared.records.Equation.{Equation}
-use Rattle.clause_core.specs.Clauses.{sides_of}
-use Rattle.clause_places.specs.Spots.{Spot, paths, argument_paths, side_spots, equation_spots}
+use Rattle.clause_core.specs.declared.clauses.Clause.{Clause}
+use Rattle.clause_core.specs.declared.steps.Place.{Place}
+use Rattle.clause_places.specs.Spots.{Spot, paths, argument_paths, side_spots, equation_spots, spots, spot_of_index}
 use Rattle.clause_places.specs.Numbers.{IsNarrow, AreNarrow}
-use Rattle.clause_places.specs.Walk.{spot_at, spots_below}
-use Rattle.clause_places.specs.declared.walk.Side.{Side}
+use Rattle.clause_places.specs.Walk.{Finds, Passes}
+use Rattle.clause_places.specs.declared.walk.Search.{Search}
+use Rattle.clause_places.specs.declared.walk.Search.TheVariants.{Found, Left}
+
+module _ {X : Type 0} where
+  -- an item of one of two lists that stand one behind the other
+  pub get_before :
+      (xs ys : List X) (k : ℕ) (x : X) → slice_get xs k ≡ Some x → slice_get (xs ++ ys) k ≡ Some x
+  get_before [] ys k x e = absurd (let q : None ≡ Some x = e in cc)
+  get_before (y ∷ xs) ys zero x e = e
+  get_before (y ∷ xs) ys (suc k) x e = get_before xs ys k x e
+
+  pub get_behind :
+      (xs ys : List X) (k n : ℕ) → k ≡ length xs + n → slice_get (xs ++ ys) k ≡ slice_get ys n
+  get_behind [] ys k n e =
+      let same : k ≡ n = omega (arith, e) in
+      ap (λ m. slice_get ys m) same
+  get_behind (x ∷ xs) ys zero n e = absurd (omega (arith, e))
+  get_behind (x ∷ xs) ys (suc k) n e = get_behind xs ys k n (omega (arith, e))
+
+-- of lists of spots
+pub finds_before :
+    (ss more : List Spot) (k : ℕ) (place : Place) → Finds ss k (Found place) →
+    Finds (ss ++ more) k (Found place)
+finds_before ss more k place h = (h.0, get_before ss more k h.0 h.1, h.2)
+
+pub finds_behind :
+    (ss more : List Spot) (k n : ℕ) (r : Search) → k ≡ length ss + n → Finds more n r →
+    Finds (ss ++ more) k r
+finds_behind ss more k n (Found place) e h =
+    (h.0, get_behind ss more k n e ∙ h.1, h.2)
+finds_behind ss more k n (Left left) e h =
+    omega (arith, e, h, length-append ss more)
+
+-- of lists of paths
+module _ (old new : List ℕ) where
+  pub passes_before :
+      (ps more : List (List ℕ × Tree)) (k : ℕ) → Passes ps k old new None →
+      Passes (ps ++ more) k old new None
+  passes_before ps more k h = (h.0, get_before ps more k h.0 h.1, h.2)
+
+  pub passes_behind :
+      (ps more : List (List ℕ × Tree)) (k n : ℕ) (r : Option ℕ) → k ≡ length ps + n →
+      Passes more n old new r → Passes (ps ++ more) k old new r
+  passes_behind ps more k n None e h = (h.0, get_behind ps more k n e ∙ h.1, h.2)
+  passes_behind ps more k n (Some left) e h =
+      (omega (arith, e, h.0, length-append ps more), h.1)
 
 -- a path with its term, as an argument of this number
 abbrev in_argument : ℕ → List ℕ × Tree → List ℕ × Tree
 in_argument n p = (n ∷ p.0, p.1)
 
-argument_paths_more :
-    (n : ℕ) (ts : List Tree) (t : Tree) →
-    argument_paths n (trees_of (ts ++ t ∷ []))
-    ≡ argument_paths n (trees_of ts) ++ map (in_argument (n + length ts)) (paths t)
-argument_paths_more n [] t =
-    let k : n ≡ n + 0 = omega arith in
-    append-nil (map (in_argument n) (paths t)) ∙ ap (λ m. map (in_argument m) (paths t)) k
-argument_paths_more n (u ∷ ts) t =
-    let k : suc n + length ts ≡ n + suc (length ts) = omega arith in
-    let first : List (List ℕ × Tree) = map (in_argument n) (paths u) in
-    let rest : List (List ℕ × Tree) = argument_paths (suc n) (trees_of ts) in
-    let last = λ (m : ℕ). map (in_argument m) (paths t) in
-    ap (λ ps. first ++ ps) (argument_paths_more (suc n) ts t ∙ ap (λ m. rest ++ last m) k)
-    ∙ sym (append_assoc first rest (last (n + suc (length ts))))
+-- the path of the index is one of an argument
+pub passes_in_argument :
+    (n : ℕ) (old long new : List ℕ) (ps more : List (List ℕ × Tree)) (k : ℕ) →
+    long ≡ old ++ n ∷ [] → Passes ps k long new None →
+    Passes (map (in_argument n) ps ++ more) k old new None
+passes_in_argument n old long new ps more k there h =
+    let at : slice_get (map (in_argument n) ps) k ≡ Some (in_argument n h.0) =
+    slice_get-map (in_argument n) ps k ∙ ap (λ o. option_map (in_argument n) o) h.1 in
+    let path : new ≡ old ++ (n ∷ h.0.0) =
+    h.2 ∙ ap (λ q. q ++ h.0.0) there ∙ append_assoc old (n ∷ []) h.0.0 in
+    passes_before old new (map (in_argument n) ps) more k (in_argument n h.0, at, path)
 
-module _ (s : Side) where
-  abbrev at_path : List ℕ → List ℕ × Tree → Spot
-  at_path base p = spot_at s (base ++ p.0) p.1
+-- the arguments behind one that is passed
+pub passes_next :
+    (n : ℕ) (old new : List ℕ) (ps more : List (List ℕ × Tree)) (k left : ℕ) (r : Option ℕ) →
+    k ≡ length ps + left → Passes more left old new r →
+    Passes (map (in_argument n) ps ++ more) k old new r
+passes_next n old new ps more k left r e h =
+    passes_behind old new (map (in_argument n) ps) more k left r
+    (omega (arith, e, length-map ps (in_argument n))) h
 
-  below_whole :
-      (base : List ℕ) (t : Tree) → spots_below s base (([], t) ∷ []) ≡ spot_at s base t ∷ []
-  below_whole base t = ap (λ path. spot_at s path t ∷ []) (append-nil base)
+-- a walk along a term: its own path is the last one
+here :
+    (t : Tree) (k : ℕ) (old new : List ℕ) (r : Option ℕ) → new ≡ old →
+    SomeIff r (1 ≤ k) (k - 1) → Passes (([], t) ∷ []) k old new r
+here t zero old new None e h = (([], t), refl, e ∙ sym (append-nil old))
+here t (suc k) old new None e h = absurd (h (omega arith))
+here t k old new (Some left) e h = (omega (arith, h.0, h.1), e)
 
-  -- the places of an argument, by the path to it
-  below_argument :
-      (base : List ℕ) (n : ℕ) (ps : List (List ℕ × Tree)) →
-      spots_below s (base ++ n ∷ []) ps ≡ spots_below s base (map (in_argument n) ps)
-  below_argument base n [] = refl
-  below_argument base n (p ∷ ps) =
-      let e : (base ++ n ∷ []) ++ p.0 ≡ base ++ (n ∷ p.0) = append_assoc base (n ∷ []) p.0 in
-      let h = below_argument base n ps in
-      λ i. spot_at s (e i) p.1 ∷ h i
+pub passes_variable :
+    (t : Tree) (v k : ℕ) (path : List ℕ) (r : Option ℕ) → var v ≡ t →
+    SomeIff r (1 ≤ k) (k - 1) → Passes (paths t) k path path r
+passes_variable t v k path r is h =
+    subst (λ u. Passes (paths u) k path path r) is (here (var v) k path path r refl h)
 
-  -- one more argument
-  pub arguments_next :
-      (base path : List ℕ) (k : ℕ) (ts : List Tree) (t : Tree) (old made more : List Spot) →
-      k < length ts → t ≡ get_or ts k t → path ≡ base ++ (k + 1) ∷ [] →
-      made ≡ old ++ spots_below s base (argument_paths 1 (trees_of (take k ts))) →
-      more ≡ made ++ spots_below s path (paths t) →
-      more ≡ old ++ spots_below s base (argument_paths 1 (trees_of (take (k + 1) ts)))
-  arguments_next base path k ts t old made more lt is there before next =
-      let number : k + 1 ≡ 1 + length (take k ts) = omega (arith, length-take k ts) in
-      let until = λ (us : List Tree). argument_paths 1 (trees_of us) in
-      let below = λ (ps : List (List ℕ × Tree)). spots_below s base ps in
-      let added : List (List ℕ × Tree) = map (in_argument (1 + length (take k ts))) (paths t) in
-      let done : List Spot = below (until (take k ts)) in
-      let here : spots_below s path (paths t) ≡ below added =
-      ap (λ q. spots_below s q (paths t)) there
-      ∙ below_argument base (k + 1) (paths t)
-      ∙ ap (λ m. below (map (in_argument m) (paths t))) number in
-      let all : below (until (take (k + 1) ts)) ≡ done ++ below added =
-      ap (λ us. below (until us)) (taken_next ts k t lt is)
-      ∙ ap below (argument_paths_more 1 (take k ts) t)
-      ∙ map-append (at_path base) (until (take k ts)) added in
-      next
-      ∙ (λ i. before i ++ here i)
-      ∙ append_assoc old done (below added)
-      ∙ ap (λ ps. old ++ ps) (sym all)
+module _ (t : Tree) (f : ℕ) (ts us : List Tree) (is : app f (trees_of ts) ≡ t) (same : us ≡ ts)
+    (k : ℕ) (old new : List ℕ) where
+  whole : app f (trees_of us) ≡ t
+  whole = ap (λ vs. app f (trees_of vs)) same ∙ is
 
-  -- the places of a side stand below the empty path
-  below_side :
-      (t : Tree) →
-      spots_below s [] (paths t) ≡ side_spots s.conclusion s.number s.left t
-  below_side t = refl
+  pub passes_call :
+      (left : ℕ) (r : Option ℕ) → Passes (argument_paths 1 (trees_of us)) k old new (Some left) →
+      SomeIff r (1 ≤ left) (left - 1) → Passes (paths t) k old new r
+  passes_call left r h last =
+      let call : Tree = app f (trees_of us) in
+      subst (λ u. Passes (paths u) k old new r) whole
+      (passes_behind old new (argument_paths 1 (trees_of us)) (([], call) ∷ []) k left r h.0
+      (here call left old new r h.1 last))
 
-  -- where a walk along a side ends well, it has added the places of the side
-  pub side_added :
-      {T E : Type 0} (r : Result T E) (path : List ℕ) (t : Tree) (old made : List Spot) →
-      path ≡ [] → OnOk r (made ≡ old ++ spots_below s path (paths t)) →
-      OnOk r (made ≡ old ++ side_spots s.conclusion s.number s.left t)
-  side_added (Ok x) path t old made e h =
-      h
-      ∙ ap (λ q. old ++ spots_below s q (paths t)) e
-      ∙ ap (λ ps. old ++ ps) (below_side t)
-  side_added (Err x) path t old made e h = tt
+  pub found_in_call :
+      Passes (argument_paths 1 (trees_of us)) k old new None → Passes (paths t) k old new None
+  found_in_call h =
+      let call : Tree = app f (trees_of us) in
+      subst (λ u. Passes (paths u) k old new None) whole
+      (passes_before old new (argument_paths 1 (trees_of us)) (([], call) ∷ []) k h)
 
-module _ (conclusion : Bool) where
-  equation_spots_more :
-      (n : ℕ) (es : List Equation) (e : Equation) →
-      equation_spots conclusion n (es ++ e ∷ [])
-      ≡ equation_spots conclusion n es
-      ++ (side_spots conclusion (n + length es) true e.left
-      ++ side_spots conclusion (n + length es) false e.right)
-  equation_spots_more n [] e =
-      let k : n ≡ n + 0 = omega arith in
-      let left = λ (m : ℕ). side_spots conclusion m true e.left in
-      let right = λ (m : ℕ). side_spots conclusion m false e.right in
-      ap (λ ss. left n ++ ss) (append-nil (right n)) ∙ ap (λ m. left m ++ right m) k
-  equation_spots_more n (d ∷ es) e =
-      let k : suc n + length es ≡ n + suc (length es) = omega arith in
-      let left : List Spot = side_spots conclusion n true d.left in
-      let right : List Spot = side_spots conclusion n false d.right in
-      let rest : List Spot = equation_spots conclusion (suc n) es in
-      let last = λ (m : ℕ).
-      side_spots conclusion m true e.left ++ side_spots conclusion m false e.right in
-      let behind : List Spot = last (n + suc (length es)) in
-      ap (λ ss. left ++ (right ++ ss))
-      (equation_spots_more (suc n) es e ∙ ap (λ m. rest ++ last m) k)
-      ∙ ap (λ ss. left ++ ss) (sym (append_assoc right rest behind))
-      ∙ sym (append_assoc left (right ++ rest) behind)
+-- a walk along arguments
+module _ (n : ℕ) (t : Tree) (ts us : List Tree) (first : ts ≡ t ∷ us) (k : ℕ) (old : List ℕ) where
+  pub found_in_argument :
+      (long new : List ℕ) → long ≡ old ++ n ∷ [] → Passes (paths t) k long new None →
+      Passes (argument_paths n (trees_of ts)) k old new None
+  found_in_argument long new there h =
+      subst (λ vs. Passes (argument_paths n (trees_of vs)) k old new None) (sym first)
+      (passes_in_argument n old long new (paths t) (argument_paths (suc n) (trees_of us)) k there h)
 
-  -- one more equation
-  pub equations_next :
-      (k : ℕ) (es : List Equation) (e : Equation) (old made first more : List Spot) →
-      k < length es → e ≡ get_or es k e →
-      made ≡ old ++ equation_spots conclusion 1 (take k es) →
-      first ≡ made ++ side_spots conclusion (k + 1) true e.left →
-      more ≡ first ++ side_spots conclusion (k + 1) false e.right →
-      more ≡ old ++ equation_spots conclusion 1 (take (k + 1) es)
-  equations_next k es e old made first more lt is before left right =
-      let n : ℕ = 1 + length (take k es) in
-      let number : k + 1 ≡ n = omega (arith, length-take k es) in
-      let until = λ (ds : List Equation). equation_spots conclusion 1 ds in
-      let one = λ (m : ℕ). side_spots conclusion m true e.left in
-      let other = λ (m : ℕ). side_spots conclusion m false e.right in
-      let done : List Spot = until (take k es) in
-      let added = λ (m : ℕ). one m ++ other m in
-      let all : until (take (k + 1) es) ≡ done ++ added n =
-      ap until (taken_next es k e lt is) ∙ equation_spots_more 1 (take k es) e in
-      right
-      ∙ ap (λ ps. ps ++ other (k + 1)) left
-      ∙ append_assoc made (one (k + 1)) (other (k + 1))
-      ∙ (λ i. before i ++ added (number i))
-      ∙ append_assoc old done (added n)
-      ∙ ap (λ ps. old ++ ps) (sym all)
+  pub passes_arguments :
+      (base new : List ℕ) (left : ℕ) (r : Option ℕ) → k ≡ length (paths t) + left → base ≡ old →
+      Passes (argument_paths (n + 1) (trees_of us)) left base new r →
+      Passes (argument_paths n (trees_of ts)) k old new r
+  passes_arguments base new left r e same h =
+      let next : n + 1 ≡ suc n = omega arith in
+      let rest : Passes (argument_paths (suc n) (trees_of us)) left old new r =
+      subst (λ m. Passes (argument_paths m (trees_of us)) left old new r) next
+      (subst (λ path. Passes (argument_paths (n + 1) (trees_of us)) left path new r) same h) in
+      subst (λ vs. Passes (argument_paths n (trees_of vs)) k old new r) (sym first)
+      (passes_next n old new (paths t) (argument_paths (suc n) (trees_of us)) k left r e rest)
 
--- what is narrow in a narrow term, and among narrow sides
+-- a walk along a side
+pub found_in_side :
+    (conclusion : Bool) (number : ℕ) (left : Bool) (t : Tree) (k : ℕ) (empty new path : List ℕ) →
+    empty ≡ [] → path ≡ new → Passes (paths t) k empty new None →
+    Finds (side_spots conclusion number left t) k
+    (Found (record { conclusion = conclusion; number = number; left = left; path = path }))
+found_in_side conclusion number left t k empty new path none is h =
+    let place = λ (q : List ℕ).
+    let made : Place =
+    record { conclusion = conclusion; number = number; left = left; path = q } in made in
+    let spot = λ (p : List ℕ × Tree).
+    let made : Spot = record { place = place p.0; term = p.1 } in made in
+    let at : slice_get (map spot (paths t)) k ≡ Some (spot h.0) =
+    slice_get-map spot (paths t) k ∙ ap (λ o. option_map spot o) h.1 in
+    let same : path ≡ h.0.0 = is ∙ h.2 ∙ ap (λ q. q ++ h.0.0) none in
+    (spot h.0, at, ap place same)
+
+-- a walk along a clause
+module _ (c : Clause) (ss : List Spot) (view : spots c ≡ ss) (k : ℕ) (lt : k < length ss)
+    (place : Place) where
+  found_in_clause : Finds (spots c) k (Found place) → place ≡ (spot_of_index ss k).place
+  found_in_clause h =
+      let spot = spot_of_index ss k in
+      let there : Some h.0 ≡ Some spot =
+      sym h.1 ∙ ap (λ xs. slice_get xs k) view ∙ slice_get-get_or ss k _ lt in
+      let same : h.0 ≡ spot = cc in
+      h.2 ∙ ap (λ (s : Spot). s.place) same
+
+  pub found_in_premises :
+      (es : List Equation) → es ≡ c.premises →
+      Finds (equation_spots false 1 es) k (Found place) → place ≡ (spot_of_index ss k).place
+  found_in_premises es are h =
+      found_in_clause
+      (finds_before (equation_spots false 1 c.premises) (equation_spots true 1 c.conclusions) k
+      place
+      (subst (λ ds. Finds (equation_spots false 1 ds) k (Found place)) are h))
+
+  pub found_in_conclusions :
+      (es ds : List Equation) (left : ℕ) → es ≡ c.premises → ds ≡ c.conclusions →
+      Finds (equation_spots false 1 es) k (Left left) →
+      Finds (equation_spots true 1 ds) left (Found place) → place ≡ (spot_of_index ss k).place
+  found_in_conclusions es ds left first second passed h =
+      found_in_clause
+      (finds_behind (equation_spots false 1 c.premises) (equation_spots true 1 c.conclusions) k left
+      (Found place) (subst (λ bs. Finds (equation_spots false 1 bs) k (Left left)) first passed)
+      (subst (λ bs. Finds (equation_spots true 1 bs) left (Found place)) second h))
+
+-- what is narrow in a narrow term
 pub narrow_arguments :
     (t : Tree) (f : ℕ) (ts us : List Tree) → IsNarrow t → app f (trees_of ts) ≡ t → us ≡ ts →
     (length us ≤ 8) × AreNarrow (trees_of us)
@@ -155,14 +199,6 @@ narrow_arguments t f ts us n e same =
     let as_many : length (list_of (trees_of ts)) ≡ length ts =
     ap (λ (l : List Tree). length l) (list_of-trees_of ts) in
     rw same (omega (arith, narrow.0, as_many), narrow.1)
-
-pub narrow_sides_at :
-    (es : List Equation) (k : ℕ) (e : Equation) → AllByRecursion IsNarrow (sides_of es) →
-    k < length es → e ≡ get_or es k e → IsNarrow e.left × IsNarrow e.right
-narrow_sides_at [] k e n lt is = absurd (omega arith)
-narrow_sides_at (d ∷ es) zero e n lt is =
-    subst (λ (d : Equation). IsNarrow d.left × IsNarrow d.right) (sym is) (n.0, n.1.0)
-narrow_sides_at (d ∷ es) (suc k) e n lt is = narrow_sides_at es k e n.1.1 (omega arith) is
 
 pub narrow_parts :
     (ts us : List Tree) → AllByRecursion IsNarrow (ts ++ us) →
@@ -179,11 +215,7 @@ pub lighter_arguments :
 lighter_arguments t f ts us e same =
     subst (λ x. list_weight us < weight x) e (rw same (omega (arith, list_weight_is ts)))
 
--- a path to which a number is pushed, and from which it is popped
-pub pushed :
-    (old new base : List ℕ) (n : ℕ) → new ≡ old ++ n ∷ [] → old ≡ base → new ≡ base ++ n ∷ []
-pushed old new base n e h = e ∙ ap (λ path. path ++ n ∷ []) h
-
+-- a path from which a number is popped that was pushed to it
 pub popped :
     (long same new base : List ℕ) (n len : ℕ) → length same ≡ len → long ≡ base ++ n ∷ [] →
     same ≡ long → new ≡ take (len - 1) same → new ≡ base

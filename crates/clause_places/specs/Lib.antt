@@ -6,5 +6,7 @@ pub mod Numbers
 pub mod Laws
 pub mod Examples
 -- What only this crate's own contracts speak of.
+pub mod Codes
+pub mod Listed
 pub mod Walk
 pub mod Demand

@@ -1,7 +1,7 @@
 -- The places of a clause in their order, each with the term that stands there: premises before
 -- conclusions, each by its number, the left side before the right one, and arguments from the left
 -- before their symbol.
-use Rattle.std.specs.Prelude.{ℕ, suc, Bool, true, false, List, [], ◌∷◌, ◌++◌, map}
+use Rattle.std.specs.Prelude.{ℕ, suc, Bool, true, false, List, [], ◌∷◌, ◌++◌, map, slice_index_or}
 use Rattle.term_core.specs.Tree.{Tree, Trees, var, app, none, some}
 use Rattle.spec_core.specs.declared.records.Equation.{Equation}
 use Rattle.clause_core.specs.declared.clauses.Clause.{Clause}
@@ -43,3 +43,12 @@ spots c = equation_spots false 1 c.premises ++ equation_spots true 1 c.conclusio
 
 abbrev pub places : Clause → List Place
 places c = map (λ (s : Spot). s.place) (spots c)
+
+-- the spot of this index in a list, which counts from 0; past its end, some spot
+abbrev pub spot_of_index : List Spot → ℕ → Spot
+spot_of_index ss k =
+    slice_index_or ss k
+    (record {
+      place = record { conclusion = true; number = 1; left = true; path = [] };
+      term = var 0;
+    })

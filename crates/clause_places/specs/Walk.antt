@@ -1,23 +1,17 @@
--- Spots as they are handed over, and spots behind a path of a side.
-use Rattle.std.specs.Prelude.{ℕ, List, ◌++◌, map}
+-- What a walk along places comes to that looks for the one of an index.
+use Rattle.std.specs.Prelude.{◌≡◌, ℕ, ◌+◌, List, ◌++◌, Option, Some, None, length, slice_get}
 use Rattle.term_core.specs.Tree.{Tree}
-use Rattle.clause_core.specs.declared.steps.Place.{Place}
-use Rattle.clause_places.specs.declared.walk.Side.{Side}
-use Rattle.clause_places.specs.declared.walk.SpotRef.{SpotRef}
 use Rattle.clause_places.specs.Spots.{Spot}
+use Rattle.clause_places.specs.declared.walk.Search.{Search}
+use Rattle.clause_places.specs.declared.walk.Search.TheVariants.{Found, Left}
 
-abbrev pub spot_of : SpotRef → Spot
-spot_of s = record { place = s.place; term = s.term.now }
+-- along spots: the place of the spot of the index, or so far is the index behind the last spot
+abbrev pub Finds : List Spot → ℕ → Search → Type 0
+Finds ss k (Found place) = (s : Spot) × (slice_get ss k ≡ Some s) × (place ≡ s.place)
+Finds ss k (Left left) = k ≡ length ss + left
 
-abbrev pub spots_of : List SpotRef → List Spot
-spots_of ss = map spot_of ss
-
-abbrev pub spot_at : Side → List ℕ → Tree → Spot
-spot_at s path t = record {
-  place = record { conclusion = s.conclusion; number = s.number; left = s.left; path = path };
-  term = t;
-}
-
--- the spots of these paths, each behind the first path
-abbrev pub spots_below : Side → List ℕ → List (List ℕ × Tree) → List Spot
-spots_below s base ps = map (λ (p : List ℕ × Tree). spot_at s (base ++ p.0) p.1) ps
+-- along paths: the path of the index stands behind the old path, or so far is the index behind the
+-- last path, and the old path stands as it was
+abbrev pub Passes : List (List ℕ × Tree) → ℕ → List ℕ → List ℕ → Option ℕ → Type 0
+Passes ps k old new None = (p : List ℕ × Tree) × (slice_get ps k ≡ Some p) × (new ≡ old ++ p.0)
+Passes ps k old new (Some left) = (k ≡ length ps + left) × (new ≡ old)

@@ -4,7 +4,7 @@
 //! It stands on clause_core, of which it takes clauses and places. `specs/Spots.antt` lists the
 //! places, each with its term, and `specs/Asked.antt` says which variable is asked for: one whose
 //! value a rule looks at before it fits. The layer above, which lists the steps that a node may
-//! take, uses that [`spots`] and [`asked`] are exact against these, that each place of the list is
+//! take, uses that [`Spots`] and [`asked`] are exact against these, that each place of the list is
 //! there ([`places_are_there`]), and that what is asked for is a variable of the clause
 //! ([`asked_is_variable`]).
 #![tactic(auto)]
@@ -12,8 +12,10 @@
 mod demand;
 mod laws;
 mod patterns;
+mod spots;
+mod terms;
 mod walk;
 
 pub use demand::asked;
 pub use laws::{asked_is_variable, places_are_there, worked_examples};
-pub use walk::{SpotRef, spots};
+pub use spots::Spots;

@@ -1,147 +1,148 @@
-ghost use Rattle.std.specs.Prelude.{◌≡◌, ◌≤◌, [], ◌∷◌, ◌++◌, IfOk, OnOk, length};
+ghost use Rattle.std.specs.Prelude.{◌+◌, ◌≤◌, ◌++◌, IfOk, true, false, length};
 ghost use Rattle.std.specs.List.{AllByRecursion};
 ghost use Rattle.term_core.specs.Tree.{trees_of};
 ghost use Rattle.clause_core.specs.Clauses.{sides_of};
-ghost use Rattle.clause_places.specs.Spots.{spots as spots_in, equation_spots, side_spots, paths, argument_paths};
-ghost use Rattle.clause_places.specs.Numbers.{IsNarrow, AreNarrow, NumbersFit};
-ghost use Rattle.clause_places.specs.Walk.{spots_of, spot_at, spots_below};
+ghost use Rattle.clause_places.specs.Spots.{equation_spots, side_spots, paths, argument_paths};
+ghost use Rattle.clause_places.specs.Numbers.{IsNarrow, AreNarrow};
+ghost use Rattle.clause_places.specs.Walk.{Finds, Passes};
 
-use clause_core::{Clause, Place};
+use clause_core::Place;
 use spec_core::Equation;
 use std::alloc::Global;
 use term_core::{Node, OutOfMemory, Seq, Term};
 
 /// A side of an equation of a clause: a place but for its path.
 #[derive(Clone, Copy)]
-pub(crate) struct Side {
+struct Side {
     conclusion: bool,
     number: u16,
     left: bool,
 }
 
-/// A place of a clause and the term there.
+/// What a search for the place of an index along some places comes to: the place, or the index that
+/// is left to go behind them.
 #[derive(Drop)]
-pub struct SpotRef<'a> {
-    pub place: Place,
-    pub term: &'a Term,
+pub(crate) enum Search {
+    Found(Place),
+    Left(usize),
 }
 
-/// The places of the clause with their terms, in their order. The places of each node of a proof
-/// have numbers that fit ([`crate::places_are_there`]).
-pub fn spots<'a>(alloc: Global, clause: &'a Clause) -> Result<Vec<SpotRef<'a>>, OutOfMemory>
-    requires { NumbersFit clause.now }
-    ensures { IfOk result (λ made. spots_of made.items ≡ spots_in clause.now) }
-{
-    let mut made = Vec::new(alloc);
-    add_equations(alloc, false, clause.premises.as_slice(), &mut made)?;
-    add_equations(alloc, true, clause.conclusions.as_slice(), &mut made)?;
-    Ok(made)
-}
-
-fn add_equations<'a>(
+/// Looks for the place of this index among those of the equations, of which the first one has the
+/// number.
+pub(crate) fn place_in_equations(
     alloc: Global,
     conclusion: bool,
-    equations: &'a [Equation],
-    made: &mut Vec<SpotRef<'a>>,
-) -> Result<(), OutOfMemory>
-    requires few { length equations.now ≤ 64 }
+    number: u16,
+    equations: &[Equation],
+    index: usize,
+) -> Result<Search, OutOfMemory>
+    requires few { number + length equations.now ≤ 65 }
     requires narrow { AllByRecursion IsNarrow (sides_of equations.now) }
-    ensures { OnOk result (spots_of made.new.items ≡
-        spots_of made.old.items ++ equation_spots conclusion 1 equations.now) }
+    ensures { IfOk result (Finds (equation_spots conclusion number equations.now) index) }
 {
-    for (index, equation) in equations.iter().enumerate() {
-        let number = index as u16 + 1;
-        let left = Side {
-            conclusion,
-            number,
-            left: true,
-        };
-        let right = Side {
-            conclusion,
-            number,
-            left: false,
-        };
-        add_side(alloc, left, &equation.left, made)?;
-        add_side(alloc, right, &equation.right, made)?;
-    }
-    Ok(())
-}
-
-fn add_side<'a>(
-    alloc: Global,
-    side: Side,
-    term: &'a Term,
-    made: &mut Vec<SpotRef<'a>>,
-) -> Result<(), OutOfMemory>
-    requires { IsNarrow term.now }
-    ensures { OnOk result (spots_of made.new.items ≡ spots_of made.old.items
-        ++ side_spots side.conclusion side.number side.left term.now) }
-{
-    let mut path = Vec::new(alloc);
-    add_term(alloc, side, term, &mut path, made)
-}
-
-/// Adds the spots of the term that stands at the path, those of its arguments before its own.
-#[cycle(walk)]
-fn add_term<'a>(
-    alloc: Global,
-    side: Side,
-    term: &'a Term,
-    path: &mut Vec<u8>,
-    made: &mut Vec<SpotRef<'a>>,
-) -> Result<(), OutOfMemory>
-    requires { IsNarrow term.now }
-    ensures path { OnOk result (path.new.items ≡ path.old.items) }
-    ensures made { OnOk result (spots_of made.new.items ≡
-        spots_of made.old.items ++ spots_below side path.old.items (paths term.now)) }
-{
-    match &term.node {
-        Node::Var(_) => add_spot(alloc, side, path.as_slice(), term, made),
-        Node::App(_, args) => {
-            add_arguments(alloc, side, args.as_slice(), path, made)?;
-            add_spot(alloc, side, path.as_slice(), term, made)
+    match equations {
+        [] => Ok(Search::Left(index)),
+        [first, others @ ..] => {
+            match place_in_equation(alloc, conclusion, number, first, index)? {
+                Search::Found(place) => Ok(Search::Found(place)),
+                Search::Left(left) => {
+                    place_in_equations(alloc, conclusion, number + 1, others, left)
+                }
+            }
         }
     }
 }
 
-#[cycle(walk)]
-fn add_arguments<'a>(
+fn place_in_equation(
     alloc: Global,
-    side: Side,
-    terms: &'a [Term],
-    path: &mut Vec<u8>,
-    made: &mut Vec<SpotRef<'a>>,
-) -> Result<(), OutOfMemory>
-    requires few { length terms.now ≤ 8 }
-    requires narrow { AreNarrow (trees_of terms.now) }
-    ensures path { OnOk result (path.new.items ≡ path.old.items) }
-    ensures made { OnOk result (spots_of made.new.items ≡ spots_of made.old.items
-        ++ spots_below side path.old.items (argument_paths 1 (trees_of terms.now))) }
+    conclusion: bool,
+    number: u16,
+    equation: &Equation,
+    index: usize,
+) -> Result<Search, OutOfMemory>
+    requires left { IsNarrow equation.now.left }
+    requires right { IsNarrow equation.now.right }
+    ensures { IfOk result (Finds (side_spots conclusion number true equation.now.left
+        ++ side_spots conclusion number false equation.now.right) index) }
 {
-    for (index, term) in terms.iter().enumerate() {
-        path.push(index as u8 + 1)?;
-        add_term(alloc, side, term, path, made)?;
-        path.pop();
+    let left = Side {
+        conclusion,
+        number,
+        left: true,
+    };
+    let right = Side {
+        conclusion,
+        number,
+        left: false,
+    };
+    match place_in_side(alloc, left, &equation.left, index)? {
+        Search::Found(place) => Ok(Search::Found(place)),
+        Search::Left(rest) => place_in_side(alloc, right, &equation.right, rest),
     }
-    Ok(())
 }
 
-fn add_spot<'a>(
+fn place_in_side(
     alloc: Global,
     side: Side,
-    path: &[u8],
-    term: &'a Term,
-    made: &mut Vec<SpotRef<'a>>,
-) -> Result<(), OutOfMemory>
-    ensures { OnOk result (spots_of made.new.items ≡
-        spots_of made.old.items ++ spot_at side path.now term.now ∷ []) }
+    term: &Term,
+    index: usize,
+) -> Result<Search, OutOfMemory>
+    requires { IsNarrow term.now }
+    ensures { IfOk result
+        (Finds (side_spots side.conclusion side.number side.left term.now) index) }
 {
-    let place = Place {
-        conclusion: side.conclusion,
-        number: side.number,
-        left: side.left,
-        path: Seq::from_vec(path.to_vec(alloc)?),
-    };
-    made.push(SpotRef { place, term })?;
-    Ok(())
+    let mut path = Vec::new(alloc);
+    match pass_term(term, index, &mut path)? {
+        Some(left) => Ok(Search::Left(left)),
+        None => Ok(Search::Found(Place {
+            conclusion: side.conclusion,
+            number: side.number,
+            left: side.left,
+            path: Seq::from_vec(path),
+        })),
+    }
+}
+
+/// Passes the paths of the term, and answers how far the index is behind them. None where it comes
+/// to the path of this index, which then stands behind the path that was given.
+#[cycle(pass)]
+fn pass_term(term: &Term, index: usize, path: &mut Vec<u8>) -> Result<Option<usize>, OutOfMemory>
+    requires { IsNarrow term.now }
+    ensures { IfOk result (Passes (paths term.now) index path.old.items path.new.items) }
+{
+    match &term.node {
+        Node::Var(_) => Ok(index.checked_sub(1)),
+        Node::App(_, args) => match pass_arguments(1, args.as_slice(), index, path)? {
+            Some(left) => Ok(left.checked_sub(1)),
+            None => Ok(None),
+        },
+    }
+}
+
+/// The same of arguments, of which the first one has the number.
+#[cycle(pass)]
+fn pass_arguments(
+    number: u8,
+    terms: &[Term],
+    index: usize,
+    path: &mut Vec<u8>,
+) -> Result<Option<usize>, OutOfMemory>
+    requires few { number + length terms.now ≤ 9 }
+    requires narrow { AreNarrow (trees_of terms.now) }
+    ensures { IfOk result (Passes (argument_paths number (trees_of terms.now)) index
+        path.old.items path.new.items) }
+{
+    match terms {
+        [] => Ok(Some(index)),
+        [first, others @ ..] => {
+            path.push(number)?;
+            match pass_term(first, index, path)? {
+                None => Ok(None),
+                Some(left) => {
+                    path.pop();
+                    pass_arguments(number + 1, others, left, path)
+                }
+            }
+        }
+    }
 }

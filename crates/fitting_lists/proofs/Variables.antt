@@ -1,6 +1,7 @@
--- The variables of a sorted clause are those of its leading equation, and those of each side that
--- may be rewritten.
-use Rattle.std.proofs.Common.{◌≡◌, suc, List, [], ◌∷◌, ◌++◌, Bool, true, false, Option, Some, None, inl, inr, refl, subst, length}
+-- The variables of a sorted clause are those of its leading equation, and those of each side of its
+-- only conclusion that has them all.
+use Rattle.std.proofs.Common.{◌≡◌, suc, List, [], ◌∷◌, ◌++◌, Bool, true, false, inl, inr, refl, ap, subst, length}
+use Rattle.std.specs.Prelude.{slice_get}
 use Rattle.std.specs.List.{AllByRecursion}
 use Rattle.term_core.specs.Tree.{Tree}
 use Rattle.term_core.specs.declared.ids.SortId.{SortId}
@@ -12,8 +13,9 @@ use Rattle.spec_core.specs.WellSorted.{EquationsAreSorted}
 use Rattle.spec_core.proofs.Determined.{occurs_within}
 use Rattle.clause_core.specs.declared.clauses.Clause.{Clause}
 use Rattle.clause_core.specs.Clauses.{ClauseIsSorted}
-use Rattle.fitting_lists.specs.Fitting.{Located, both_sides, has_all, located, leading, sides_of, rewritable}
-use Rattle.fitting_lists.specs.Answering.{AreVariables, sides_given}
+use Rattle.clause_core.specs.Places.{side}
+use Rattle.fitting_lists.specs.Fitting.{Located, both_sides, has_all, located, leading}
+use Rattle.fitting_lists.specs.Answering.{AreVariables}
 use Rattle.fitting_lists.specs.Bindings.{AreWithin}
 use Rattle.fitting_lists.proofs.AllItems.{all_taken, all_kept}
 use Rattle.fitting_lists.proofs.VariableTests.{all_occur}
@@ -43,14 +45,6 @@ module _ (sig : Sig) (ctx : List SortId) where
   located_within k (e ∷ es) h =
       (sides_within e (h 0 e refl), located_within k es (λ n d at. h (suc n) d at))
 
-  sides_of_within :
-      (es : List Equation) → EquationsAreSorted sig ctx es →
-      AllByRecursion (λ (s : Bool × Tree). AreWithin (length ctx) (s.1 ∷ [])) (sides_of es)
-  sides_of_within [] h = tt
-  sides_of_within (e ∷ []) h =
-      (left_within e (h 0 e refl), (right_within e (h 0 e refl), tt))
-  sides_of_within (e ∷ d ∷ es) h = tt
-
 module _ (sig : Sig) (c : Clause) (sorted : ClauseIsSorted sig c) where
   -- the terms have the variables of the clause
   abbrev HaveAll : List Tree → Type 0
@@ -79,24 +73,15 @@ module _ (sig : Sig) (c : Clause) (sorted : ClauseIsSorted sig c) where
       (e : Located) → leading c ≡ e ∷ [] → AreVariables (length c.ctx) (both_sides e.equation)
   leading_variables e is = (subst LeadersHaveAll is all_leading).0
 
-  abbrev SidesHaveAll : List (Bool × Tree) → Type 0
-  SidesHaveAll sides = AllByRecursion (λ (s : Bool × Tree). HaveAll (s.1 ∷ [])) sides
+  -- and those of a side of the only conclusion that has them all
+  pub side_variables :
+      (e : Equation) → c.conclusions ≡ e ∷ [] → (left : Bool) →
+      has_all c (side left e ∷ []) ≡ true → AreVariables (length c.ctx) (side left e ∷ [])
+  side_variables e alone left all = have_all (side left e ∷ []) (within left) all
+    where
+      is : IsSorted sig c.ctx e
+      is = sorted.conclusions 0 e (ap (λ (es : List Equation). slice_get es 0) alone)
 
-  -- and those of each side that may be rewritten
-  pub all_rewritable : SidesHaveAll (rewritable c)
-  all_rewritable =
-      all_kept (λ (s : Bool × Tree). AreWithin (length c.ctx) (s.1 ∷ [])) _
-      (λ s. has_all c (s.1 ∷ [])) (sides_of c.conclusions)
-      (λ s within all. have_all (s.1 ∷ []) within all)
-      (sides_of_within sig c.ctx c.conclusions sorted.conclusions)
-
-  pub left_variables :
-      (t : Tree) (right : Option Tree) → rewritable c ≡ sides_given (Some t) right →
-      AreVariables (length c.ctx) (t ∷ [])
-  left_variables t right is = (subst SidesHaveAll is all_rewritable).0
-
-  pub right_variables :
-      (left : Option Tree) (t : Tree) → rewritable c ≡ sides_given left (Some t) →
-      AreVariables (length c.ctx) (t ∷ [])
-  right_variables None t is = (subst SidesHaveAll is all_rewritable).0
-  right_variables (Some l) t is = (subst SidesHaveAll is all_rewritable).1.0
+      within : (left : Bool) → AreWithin (length c.ctx) (side left e ∷ [])
+      within true = left_within sig c.ctx e is
+      within false = right_within sig c.ctx e is

@@ -1,5 +1,5 @@
--- What is known of a question once it is answered, and which sides of an equation may rewrite.
-use Rattle.std.specs.Prelude.{◌≡◌, ◌↔◌, ℕ, ◌<◌, Bool, true, false, List, ◌++◌, Option, Some, None, map, option_to_list}
+-- What is known of a question once it is answered.
+use Rattle.std.specs.Prelude.{◌≡◌, ◌↔◌, ℕ, ◌<◌, List, Option, Some, None}
 use Rattle.term_core.specs.Tree.{Tree, trees_of}
 use Rattle.term_core.specs.Variables.{OccursAny}
 use Rattle.fitting_lists.specs.Questions.{Question, Answers}
@@ -13,9 +13,3 @@ abbrev pub IsOnlyAnswer : Question → Option (List Tree) → Type 0
 IsOnlyAnswer question (Some list) =
     Answers question list × ((other : List Tree) → Answers question other → other ≡ list)
 IsOnlyAnswer question None = (list : List Tree) → Answers question list → ⊥
-
--- the sides that are given, left before right; true is the left one
-abbrev pub sides_given : Option Tree → Option Tree → List (Bool × Tree)
-sides_given left right =
-    map (λ (t : Tree). (true, t)) (option_to_list left)
-    ++ map (λ (t : Tree). (false, t)) (option_to_list right)

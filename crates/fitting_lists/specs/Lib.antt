@@ -2,6 +2,8 @@
 -- them.
 pub mod Questions
 pub mod Fitting
+pub mod Leading
 pub mod Answering
 pub mod Examples
 pub mod Bindings
+pub mod Found

@@ -1,12 +1,13 @@
-ghost use Rattle.std.specs.Prelude.{◌≡◌, ◌<◌, None, IfOk, length, replicate};
+ghost use Rattle.std.specs.Prelude.{◌≡◌, ◌<◌, [], None, OnOk, length, replicate};
 ghost use Rattle.std.specs.Option.{option_copied};
+ghost use Rattle.term_core.specs.References.{terms_of};
 ghost use Rattle.substitutions.specs.Substitution.{entry};
 ghost use Rattle.substitutions.specs.Updates.{IsSetTo};
 ghost use Rattle.fitting_lists.specs.Bindings.{present};
 
 use std::alloc::Global;
 use std::marker::Model;
-use term_core::{OutOfMemory, Term, TermRefs};
+use term_core::{OutOfMemory, Term};
 
 /// References to the terms of variables, by variable number. Contracts see the list of entries.
 #[derive(Drop)]
@@ -29,15 +30,24 @@ impl<'a> Model for Bindings<'a> {
 }
 
 impl<'a> Bindings<'a> {
-    /// No entry yet for each of so many variables.
-    pub(crate) fn of_count(alloc: Global, count: usize) -> Result<Bindings<'a>, OutOfMemory>
-        ensures { IfOk result (λ made. made ≡ replicate count None) }
+    /// No variables.
+    pub(crate) fn new(alloc: Global) -> Bindings<'a>
+        ensures { result ≡ [] }
     {
-        let mut items = Vec::with_capacity(alloc, count)?;
-        for place in 0..count {
-            items.push(None)?;
+        Bindings {
+            items: Vec::new(alloc),
         }
-        Ok(Bindings { items })
+    }
+
+    /// So many variables, each without an entry, in the room that is there.
+    pub(crate) fn reset(&mut self, count: usize) -> Result<(), OutOfMemory>
+        ensures { OnOk result (self.new ≡ replicate count None) }
+    {
+        self.items.clear();
+        for place in 0..count {
+            self.items.push(None)?;
+        }
+        Ok(())
     }
 
     /// The entry of the variable of this number.
@@ -59,16 +69,16 @@ impl<'a> Bindings<'a> {
         self.items[number] = Some(term);
     }
 
-    /// The entries that are there, by the numbers of their variables.
-    pub(crate) fn terms(self, alloc: Global) -> Result<TermRefs<'a>, OutOfMemory>
-        ensures { IfOk result (λ made. made ≡ present self.entry) }
+    /// Makes of `found` the list of the entries that are there, by the numbers of their variables.
+    pub(crate) fn list(&self, found: &mut Vec<&'a Term>) -> Result<(), OutOfMemory>
+        ensures { OnOk result (terms_of found.new.items ≡ present self.now) }
     {
-        let mut made = TermRefs::with_capacity(alloc, self.items.len())?;
-        for entry in self.items {
+        found.clear();
+        for entry in &self.items {
             if let Some(term) = entry {
-                made.push(term)?;
+                found.push(*term)?;
             }
         }
-        Ok(made)
+        Ok(())
     }
 }

@@ -5,10 +5,10 @@
 //! stands in `specs/Fitting.antt`, as questions for a list (`specs/Questions.antt`): by a fitting
 //! list the leading equation of the clause becomes an equation of the clause here, by a rewriting
 //! list a side of its only conclusion becomes the term at a place. The layers above use that
-//! [`leading`] and [`rewritable`] are exact against these, and that [`fitting_match`] and
-//! [`rewriting_match`] answer the only list, or that there is none (`specs/Answering.antt`), as
-//! references into the terms, which [`fitting_terms`] and [`rewriting_terms`] copy and by which
-//! [`instance_by`] makes instances. [`may_become`] is a test without allocation: where symbols
+//! [`leading`] and [`has_all_variables`] are exact against these, and that a [`Matcher`] finds the
+//! only list, as references into the terms, or that there is none (`specs/Answering.antt`): it is
+//! used again from try to try, so that tries allocate nothing. [`copies`] copies what it found, and
+//! [`fitting_terms`] is one try with the copies. [`may_become`] goes by symbols alone: where they
 //! differ, there is no list. That each question has at most one answer stands in
 //! `proofs/Determined.antt`, and that sorted clauses meet the premise of these calls in
 //! `proofs/Variables.antt`.
@@ -16,18 +16,16 @@
 
 mod becoming;
 mod bindings;
-mod instances;
 mod laws;
 mod leading_equations;
+mod matcher;
 mod matching;
 mod occurring;
-mod rewritable_sides;
 mod term_lists;
 
 pub use becoming::may_become;
-pub use instances::instance_by;
 pub use laws::worked_examples;
-pub use leading_equations::{LeadingEquation, leading};
+pub use leading_equations::{LeadingPlace, leading};
+pub use matcher::Matcher;
 pub use occurring::has_all_variables;
-pub use rewritable_sides::{RewritableSides, rewritable};
-pub use term_lists::{copies, fitting_match, fitting_terms, rewriting_match, rewriting_terms};
+pub use term_lists::{copies, fitting_terms};

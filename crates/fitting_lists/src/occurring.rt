@@ -1,11 +1,12 @@
 ghost use Rattle.std.specs.Prelude.{◌≡◌, ◌↔◌, [], ◌∷◌, IsTrue};
 ghost use Rattle.term_core.specs.Tree.{trees_of};
-ghost use Rattle.term_core.specs.Variables.{Occurs, OccursAny};
+ghost use Rattle.term_core.specs.Variables.{OccursAny};
 ghost use Rattle.fitting_lists.specs.Fitting.{both_sides, has_all};
 
 use clause_core::Clause;
+use path_order::occurs;
 use spec_core::Equation;
-use term_core::{Node, Term};
+use term_core::Term;
 
 /// Whether all variables of the clause are in the term. The term is walked once for each variable,
 /// as far as its first occurrence.
@@ -37,28 +38,4 @@ fn occurs_in_equation(number: usize, equation: &Equation) -> bool
     ensures { IsTrue result ↔ OccursAny number (trees_of (both_sides equation.now)) }
 {
     occurs(number, &equation.left) || occurs(number, &equation.right)
-}
-
-/// Whether it is in the term.
-#[cycle(occurs)]
-fn occurs(number: usize, term: &Term) -> bool
-    ensures { IsTrue result ↔ Occurs number term.now }
-{
-    match &term.node {
-        Node::Var(var) => var.0 as usize == number,
-        Node::App(_, args) => occurs_in_any(number, args.as_slice()),
-    }
-}
-
-/// Whether it is in one of the terms.
-#[cycle(occurs)]
-fn occurs_in_any(number: usize, terms: &[Term]) -> bool
-    ensures { IsTrue result ↔ OccursAny number (trees_of terms.now) }
-{
-    for term in terms {
-        if occurs(number, term) {
-            return true;
-        }
-    }
-    false
 }

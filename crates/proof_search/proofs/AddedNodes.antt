@@ -50,3 +50,4 @@ pub record AddsNodes (old new : Building) (parent : ℕ) (clauses : List Clause)
   pub steps : new.steps.items ≡ old.steps.items
   pub leadings :
       ArePlaces old.nodes.items old.leadings.items → ArePlaces new.nodes.items new.leadings.items
+  pub sides : new.sides ≡ old.sides

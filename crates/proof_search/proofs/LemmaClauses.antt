@@ -1,6 +1,7 @@
 -- The clauses of lemmas are sorted.
-use Rattle.std.proofs.Common.{◌≡◌, ℕ, List, [], ◌∷◌, ◌++◌, Option, Some, None, refl, subst, map, length}
-use Rattle.std.specs.Prelude.{slice_get, option_to_list, ◌==◌, filter}
+use Rattle.std.proofs.Common.{◌≡◌, ℕ, List, [], ◌∷◌, ◌++◌, Option, Some, None, refl, ap, sym, ◌∙◌, map, length}
+use Rattle.std.specs.Prelude.{slice_get, option_map, option_to_list, ◌==◌, filter}
+use Rattle.std.proofs.lemmas.Option.{slice_get-map}
 use Rattle.std.specs.List.{AllByRecursion, flat_map, range_with_len, list_any}
 use Rattle.term_core.proofs.Items.{all_at}
 use Rattle.spec_core.specs.declared.records.Goal.{Goal}
@@ -8,6 +9,7 @@ use Rattle.spec_core.specs.declared.records.Spec.{Spec}
 use Rattle.spec_core.specs.declared.records.VarInfo.{VarInfo}
 use Rattle.spec_core.specs.WellSorted.{IsWellSorted, GoalIsSorted, sorts_of}
 use Rattle.spec_core.specs.Sig.{Sig, IsSort}
+use Rattle.clause_core.specs.declared.clauses.Clause.{Clause}
 use Rattle.clause_core.specs.Clauses.{ClauseIsSorted}
 use Rattle.clause_core.specs.ClauseLaws.{TidyingLaws}
 use Rattle.clause_core.specs.Tidied.{goal_clause, written_clause}
@@ -15,7 +17,7 @@ use Rattle.routine_proof.specs.Candidates.{each}
 use Rattle.routine_proof.specs.Entries.{lemma_goals}
 use Rattle.proof_search.specs.declared.setting.LemmaGoal.{LemmaGoal}
 use Rattle.proof_search.specs.declared.setting.Setting.{Setting}
-use Rattle.proof_search.specs.Settings.{IsSetting, lemma_goal}
+use Rattle.proof_search.specs.Settings.{IsSetting, named, lemma_goal}
 
 module _ (P : Goal → Type 0) (goals : List Goal)
     (each_is : (k : ℕ) (g : Goal) → slice_get goals k ≡ Some g → P g) where
@@ -50,30 +52,37 @@ sorted_goal spec laws fine goal sorted =
       conclusions = sorted.conclusions;
     })
 
+named_at : (s : Setting) → IsSetting s → (k : ℕ) (m : LemmaGoal) →
+    slice_get s.goals.items k ≡ Some m →
+    slice_get (map lemma_goal (lemma_goals s.spec.now s.lemmas.now)) k ≡ Some (named m)
+named_at s is k m at =
+    ap (λ (ps : List (List ℕ × Clause)). slice_get ps k) (sym is.goals)
+    ∙ slice_get-map named s.goals.items k
+    ∙ ap (λ (o : Option LemmaGoal). option_map named o) at
+
 pub lemma_sorted : (s : Setting) → TidyingLaws → IsSetting s → (k : ℕ) (m : LemmaGoal) →
     slice_get s.goals.items k ≡ Some m → ClauseIsSorted s.spec.now.sig m.clause
 unfolding each
 lemma_sorted s laws is k m at =
-    all_at (λ (m : LemmaGoal). ClauseIsSorted s.spec.now.sig m.clause)
+    all_at (λ (p : List ℕ × Clause). ClauseIsSorted s.spec.now.sig p.1)
     (map lemma_goal (lemma_goals s.spec.now s.lemmas.now))
-    (all_mapped (λ (m : LemmaGoal). ClauseIsSorted s.spec.now.sig m.clause) lemma_goal
+    (all_mapped (λ (p : List ℕ × Clause). ClauseIsSorted s.spec.now.sig p.1) lemma_goal
     (lemma_goals s.spec.now s.lemmas.now)
     (of_numbers (λ (g : Goal). ClauseIsSorted s.spec.now.sig (goal_clause g)) s.spec.now.goals
     (λ j g e. sorted_goal s.spec.now laws is.fine g (is.fine.goals j g e))
     (filter (λ k. list_any (λ n. n == k) s.lemmas.now)
     (range_with_len 0 (length s.spec.now.goals)))))
-    k m
-    (subst (λ (ms : List LemmaGoal). slice_get ms k ≡ Some m) is.goals at)
+    k (named m) (named_at s is k m at)
 
 -- each is the clause of a goal of its name
-pub record IsListedGoal (spec : Spec) (m : LemmaGoal) : Type 0 where
+pub record IsListedGoal (spec : Spec) (p : List ℕ × Clause) : Type 0 where
   pub number : ℕ
   pub goal : Goal
   pub is : slice_get spec.goals number ≡ Some goal
-  pub made : m ≡ lemma_goal goal
+  pub made : p ≡ lemma_goal goal
 
 pub lemma_listed : (s : Setting) → IsSetting s → (k : ℕ) (m : LemmaGoal) →
-    slice_get s.goals.items k ≡ Some m → IsListedGoal s.spec.now m
+    slice_get s.goals.items k ≡ Some m → IsListedGoal s.spec.now (named m)
 unfolding each
 lemma_listed s is k m at =
     all_at (IsListedGoal s.spec.now)
@@ -83,5 +92,4 @@ lemma_listed s is k m at =
     (λ j g e. record { number = j; goal = g; is = e; made = refl })
     (filter (λ k. list_any (λ n. n == k) s.lemmas.now)
     (range_with_len 0 (length s.spec.now.goals)))))
-    k m
-    (subst (λ (ms : List LemmaGoal). slice_get ms k ≡ Some m) is.goals at)
+    k (named m) (named_at s is k m at)

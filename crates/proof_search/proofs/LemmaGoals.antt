@@ -7,13 +7,13 @@ use Rattle.std.proofs.lemmas.Grind.{flat_map-append}
 use Rattle.std.proofs.lemmas.Option.{slice_get_read}
 use Rattle.spec_core.specs.declared.records.Goal.{Goal}
 use Rattle.spec_core.specs.declared.records.Spec.{Spec}
+use Rattle.clause_core.specs.declared.clauses.Clause.{Clause}
 use Rattle.routine_proof.specs.Candidates.{each}
 use Rattle.routine_proof.specs.Entries.{lemma_goals}
-use Rattle.proof_search.specs.declared.setting.LemmaGoal.{LemmaGoal}
 use Rattle.proof_search.specs.Settings.{lemma_goal}
 
 -- the lemmas among the first so many goals
-abbrev pub lemmas_before : List ℕ → List Goal → ℕ → List LemmaGoal
+abbrev pub lemmas_before : List ℕ → List Goal → ℕ → List (List ℕ × Clause)
 lemmas_before lemmas goals i =
     map lemma_goal
     (flat_map (λ k. option_to_list (slice_get goals k))
@@ -54,7 +54,7 @@ module _ (lemmas : List ℕ) (goals : List Goal) (i : ℕ) where
       (cond (p i) (i ∷ []) [])) ∙ map-append lemma_goal
       (flat_map g (filter p (range_with_len 0 i))) (flat_map g (cond (p i) (i ∷ []) []))
 
-  pub lemma_added : (goal : Goal) (made : List LemmaGoal) → slice_get goals i ≡ Some goal →
+  pub lemma_added : (goal : Goal) (made : List (List ℕ × Clause)) → slice_get goals i ≡ Some goal →
       list_any (λ n. n == i) lemmas ≡ true → made ≡ lemmas_before lemmas goals i →
       made ++ lemma_goal goal ∷ [] ≡ lemmas_before lemmas goals (i + 1)
   lemma_added goal made at is e =
@@ -64,7 +64,7 @@ module _ (lemmas : List ℕ) (goals : List Goal) (i : ℕ) where
       sym (more ∙ ap (λ l. lemmas_before lemmas goals i ++ l) here
       ∙ ap (λ l. l ++ lemma_goal goal ∷ []) (sym e))
 
-  pub lemma_skipped : (made : List LemmaGoal) → list_any (λ n. n == i) lemmas ≡ false →
+  pub lemma_skipped : (made : List (List ℕ × Clause)) → list_any (λ n. n == i) lemmas ≡ false →
       made ≡ lemmas_before lemmas goals i → made ≡ lemmas_before lemmas goals (i + 1)
   lemma_skipped made is e =
       let none : map lemma_goal (flat_map (λ k. option_to_list (slice_get goals k))
@@ -79,7 +79,7 @@ lemmas_all spec lemmas = refl
 
 -- the same at an index in the list of all goals
 module _ (lemmas : List ℕ) (items goals : List Goal) (i : ℕ) (e : items ≡ goals) where
-  pub added_at : (goal : Goal) (old new : List LemmaGoal) → i < length items →
+  pub added_at : (goal : Goal) (old new : List (List ℕ × Clause)) → i < length items →
       goal ≡ get_or items i goal → list_any (λ n. n == i) lemmas ≡ true →
       old ≡ lemmas_before lemmas goals i → new ≡ old ++ lemma_goal goal ∷ [] →
       new ≡ lemmas_before lemmas goals (i + 1)
@@ -90,7 +90,8 @@ module _ (lemmas : List ℕ) (items goals : List Goal) (i : ℕ) (e : items ≡ 
       (λ (xs : List Goal). slice_get xs i ≡ Some goal) e at in
       more ∙ lemma_added lemmas goals i goal old here listed before
 
-  pub all_lemmas : (spec : Spec) (made : List LemmaGoal) → goals ≡ spec.goals → length items ≤ i →
+  pub all_lemmas : (spec : Spec) (made : List (List ℕ × Clause)) → goals ≡ spec.goals →
+      length items ≤ i →
       i ≤ length items → made ≡ lemmas_before lemmas goals i →
       made ≡ map lemma_goal (lemma_goals spec lemmas)
   all_lemmas spec made are le ge before =

@@ -1,6 +1,7 @@
 -- Going through lists for the first item with a result, and steps that are taken.
 mod Tests
 mod Walking
+mod SpotsThere
 mod TakenSteps
 -- Rules by their functions, and goals that are lemmas.
 mod RuleTable
@@ -13,9 +14,8 @@ mod LemmaClauses
 mod FittingSteps
 mod LeadingPlaces
 mod LessSteps
-mod RewritingSteps
-mod PartsBelow
-mod RisingSides
+mod NeverRises
+mod FallingSteps
 mod CoverSteps
 mod ListedEntries
 -- Blocks that are built: their nodes, and how they go on.

@@ -19,11 +19,10 @@ use Rattle.routine_proof.specs.Routine.{makes}
 use Rattle.routine_proof.specs.Ways.{Node, ancestors}
 use Rattle.routine_proof.proofs.Built.{clauses_at}
 use Rattle.proof_search.specs.declared.at.At.{At}
-use Rattle.proof_search.specs.declared.setting.LemmaGoal.{LemmaGoal}
 use Rattle.proof_search.specs.Building.{nodes_in}
 use Rattle.proof_search.specs.Chosen.{ancestors_at, clause_of, subsumptions_by, lemma_instances_by, lemma_uses_by, candidates_of, all_entries}
-use Rattle.proof_search.specs.Referring.{node, closings, rewritings, rewritings_at}
-use Rattle.proof_search.specs.Settings.{lemma_goal}
+use Rattle.proof_search.specs.Referring.{node, goal, closings, rewritings, rewritings_at}
+use Rattle.proof_search.specs.Settings.{named, lemma_goal}
 use Rattle.proof_search.specs.Starting.{IsListed}
 use Rattle.proof_search.specs.Taking.{IsAt, SaysAt}
 use Rattle.proof_search.proofs.BuiltNodes.{nodes_clauses}
@@ -75,19 +74,27 @@ module _
       clause_at_number made j
       ∙ ap (λ (cs : List Clause). option_to_list (slice_get cs j)) nodes_are
 
+  abbrev closings_by : List ℕ × Clause → List Candidate
+  closings_by p = closings at.here.now (goal p.0) p.1
+
+  abbrev rewritings_by : List ℕ × Clause → List Candidate
+  rewritings_by p = rewritings at.here.now (goal p.0) p.1
+
   instances_are :
       lemma_instances goals here.clause
       ≡ each at.setting.now.goals.items (lemma_instances_by at)
   instances_are =
       (λ i. lemma_instances goals (clause_is i))
-      ∙ sym (each_mapped (lemma_instances_by at) lemma_goal goals)
-      ∙ ap (λ (gs : List LemmaGoal). each gs (lemma_instances_by at)) (sym is.setting.goals)
+      ∙ sym (each_mapped closings_by lemma_goal goals)
+      ∙ ap (λ (ps : List (List ℕ × Clause)). each ps closings_by) (sym is.setting.goals)
+      ∙ each_mapped closings_by named at.setting.now.goals.items
 
   uses_are : lemma_uses goals here.clause ≡ each at.setting.now.goals.items (lemma_uses_by at)
   uses_are =
       (λ i. lemma_uses goals (clause_is i))
-      ∙ sym (each_mapped (lemma_uses_by at) lemma_goal goals)
-      ∙ ap (λ (gs : List LemmaGoal). each gs (lemma_uses_by at)) (sym is.setting.goals)
+      ∙ sym (each_mapped rewritings_by lemma_goal goals)
+      ∙ ap (λ (ps : List (List ℕ × Clause)). each ps rewritings_by) (sym is.setting.goals)
+      ∙ each_mapped rewritings_by named at.setting.now.goals.items
 
   hypotheses_are :
       hypothesis_uses made here.clause ≡ each (clause_of at 0) (rewritings at.here.now (node 0))

@@ -9,10 +9,11 @@ use Rattle.clause_core.specs.Says.{Says}
 use Rattle.clause_core.specs.StepLaws.{OneAnswer}
 use Rattle.clause_core.specs.Steps.{row_of}
 use Rattle.inference_rules.specs.Answers.{clauses_of}
+use Rattle.fitting_lists.specs.Answering.{IsOnlyAnswer}
 use Rattle.fitting_lists.specs.Questions.{Question, Answers}
 use Rattle.routine_proof.specs.declared.moves.Move.{Move}
 use Rattle.routine_proof.specs.Candidates.{Asks, nothing, Meets, Candidate, Gives, certain}
-use Rattle.routine_proof.specs.First.{IsFirst}
+use Rattle.routine_proof.specs.First.{NoneIs, IsFirst}
 use Rattle.proof_search.specs.declared.at.At.{At}
 use Rattle.proof_search.specs.Taking.{IsAt, IsTaken, SaysAt}
 
@@ -67,6 +68,10 @@ module _ (says : Step → Children → Type 0) where
   module _ (question : Question) (step : List Tree → Step) (asks : Asks) where
     abbrev pub asked_for : List Candidate
     asked_for = record { question = question; step = step; asks = asks } ∷ []
+
+    -- a question without an answer gives nothing
+    pub none_answers : IsOnlyAnswer question None → NoneIs (Gives says) asked_for
+    none_answers only = (λ move g. only g.list g.answers, tt)
 
     -- the step of the one list that answers
     pub answered_found :

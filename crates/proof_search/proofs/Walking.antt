@@ -1,9 +1,8 @@
 -- Going through a list of items, each with candidates of its own, for the first that has a result.
-use Rattle.std.proofs.Common.{◌≡◌, ℕ, zero, suc, ◌+◌, ◌<◌, ◌≤◌, List, ◌++◌, true, false, Some, None, Option, refl, ap, sym, ◌∙◌, subst, arith, length, map, drop, get_or}
-use Rattle.std.specs.Prelude.{slice_get, option_map, is_some}
+use Rattle.std.proofs.Common.{◌≡◌, ℕ, zero, suc, ◌+◌, ◌<◌, ◌≤◌, List, ◌++◌, true, false, Some, None, Option, refl, ap, ◌∙◌, subst, arith, length, map, drop, get_or}
+use Rattle.std.specs.Prelude.{slice_get, is_some}
 use Rattle.std.specs.List.{range_with_len}
-use Rattle.std.proofs.lemmas.Option.{slice_get_read, slice_get-map}
-use Rattle.std.proofs.lemmas.List.{length-map}
+use Rattle.std.proofs.lemmas.Option.{slice_get_read}
 use Rattle.std.proofs.lemmas.List.Folds.{flat_map-map}
 use Rattle.term_core.proofs.Items.{drop_here, drop_past}
 use Rattle.routine_proof.specs.Candidates.{each}
@@ -34,24 +33,6 @@ item_at {X} xs ys k x e h is =
 
 pub past_all : {X : Type 0} (xs ys : List X) (k : ℕ) → xs ≡ ys → length xs ≤ k → length ys ≤ k
 past_all {X} xs ys k e h = subst (λ (l : List X). length l ≤ k) e h
-
--- the same where the items stand for those of the other list
-pub item_of : {X Y : Type 0} (f : X → Y) (xs : List X) (ys : List Y) (k : ℕ) (x : X) →
-    map f xs ≡ ys → k < length xs → x ≡ get_or xs k x → slice_get ys k ≡ Some (f x)
-item_of f xs ys k x e h is =
-    ap (λ l. slice_get l k) (sym e)
-    ∙ slice_get-map f xs k
-    ∙ ap (λ o. option_map f o) (slice_get_read xs (length xs) k x refl h is)
-
-pub past_items : {X Y : Type 0} (f : X → Y) (xs : List X) (ys : List Y) (k : ℕ) → map f xs ≡ ys →
-    length xs ≤ k → length ys ≤ k
-past_items {X} {Y} f xs ys k e h =
-    let n : length xs ≡ length ys = sym (length-map xs f) ∙ ap (λ (l : List Y). length l) e in
-    omega (arith, n, h)
-
-pub all_items : {X Y : Type 0} (f : X → Y) (read items : List X) (ys : List Y) → read ≡ items →
-    map f items ≡ ys → map f read ≡ ys
-all_items f read items ys e is = ap (λ l. map f l) e ∙ is
 
 -- the candidates of items that stand for others
 pub each_mapped : {X Y Z : Type 0} (h : Y → List Z) (v : X → Y) (xs : List X) →

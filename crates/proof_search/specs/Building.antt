@@ -68,3 +68,4 @@ pub record Takes (old new : Building) (move : Move) : Type 0 where
   pub links : new.links.items ≡ old.links.items ++ links_of move.made ∷ []
   pub leadings :
       ArePlaces old.nodes.items old.leadings.items → ArePlaces new.nodes.items new.leadings.items
+  pub sides : new.sides ≡ old.sides

@@ -2,6 +2,7 @@
 pub mod Guided
 -- What only this crate's own contracts speak of: a block that is being built, and the step that a
 -- node of it takes.
+pub mod FallingSides
 pub mod Settings
 pub mod Leading
 pub mod Building

@@ -1,15 +1,18 @@
 -- The entries of the list that refer to a clause: to that of a node, or to that of a goal.
-use Rattle.std.specs.Prelude.{ℕ, Bool, List, [], ◌∷◌, map, length, option_to_list, Option}
+use Rattle.std.specs.Prelude.{ℕ, Bool, true, false, cond, List, [], ◌∷◌, ◌++◌, length}
 use Rattle.term_core.specs.Tree.{Tree}
 use Rattle.spec_core.specs.declared.records.Equation.{Equation}
 use Rattle.clause_core.specs.declared.clauses.Clause.{Clause}
 use Rattle.clause_core.specs.declared.steps.Place.{Place}
+use Rattle.clause_core.specs.Places.{side}
 use Rattle.clause_core.specs.declared.steps.Step.{Step}
 use Rattle.clause_core.specs.declared.steps.Step.TheVariants.{Subsume, ByLemma, Hyp, Lemma}
 use Rattle.fitting_lists.specs.Fitting.{both_sides}
 use Rattle.clause_places.specs.Spots.{Spot, spots}
 use Rattle.routine_proof.specs.Candidates.{Asks, nothing, reference_not_neither, all_less, Candidate, each}
 use Rattle.routine_proof.specs.Entries.{by_fitting, by_rewriting}
+use Rattle.proof_search.specs.declared.falling_sides.FallingSides.{FallingSides}
+use Rattle.proof_search.specs.FallingSides.{marked}
 use Rattle.proof_search.specs.declared.referring.Referral.{Referral}
 use Rattle.proof_search.specs.declared.referring.Referral.TheVariants.{Node, Goal}
 
@@ -70,7 +73,15 @@ rewriting_by target d place term left side = record {
   asks = all_less;
 }
 
--- that for a side where it is given
-abbrev pub rewritings_by : Target → Clause → Place → Tree → Bool → Option Tree → List Candidate
-rewritings_by target d place term left side =
-    map (rewriting_by target d place term left) (option_to_list side)
+-- those for one side of the equation, the left one where true, if it may fall
+abbrev pub falling_rewriting :
+    Target → Clause → Place → Tree → Equation → FallingSides → Bool → List Candidate
+falling_rewriting target d place term e sides left =
+    cond (marked left sides) (rewriting_by target d place term left (side left e) ∷ []) []
+
+-- those for both sides
+abbrev pub falling_rewritings :
+    Target → Clause → Place → Tree → Equation → FallingSides → List Candidate
+falling_rewritings target d place term e sides =
+    falling_rewriting target d place term e sides true
+    ++ falling_rewriting target d place term e sides false

@@ -1,5 +1,5 @@
 -- What a step makes at a node over the nodes so far, with what is asked of its relations.
-use Rattle.std.specs.Prelude.{◌≡◌, ◌⊎◌, ◌<◌, List, Option, Some, None, length, slice_get}
+use Rattle.std.specs.Prelude.{◌≡◌, ℕ, ◌⊎◌, ◌<◌, List, Option, Some, None, length, slice_get}
 use Rattle.term_core.specs.Tree.{Tree}
 use Rattle.clause_core.specs.declared.answers.Children.{Children}
 use Rattle.clause_core.specs.declared.answers.Reference.{Reference}
@@ -8,11 +8,9 @@ use Rattle.clause_core.specs.declared.steps.Step.{Step}
 use Rattle.descent.specs.SortedChildren.{IsNode}
 use Rattle.inference_rules.specs.Answers.{clauses_of}
 use Rattle.inference_rules.specs.Nodes.{AreNodes}
-use Rattle.clause_places.specs.Spots.{spots}
-use Rattle.clause_places.specs.Walk.{spots_of}
-use Rattle.clause_places.specs.declared.walk.SpotRef.{SpotRef}
 use Rattle.clause_core.specs.Places.{TermAt}
-use Rattle.clause_core.specs.declared.clauses.Clause.{Clause}
+use Rattle.clause_core.specs.declared.steps.Place.{Place}
+use Rattle.clause_places.specs.Spots.{spots, spot_of_index}
 use Rattle.routine_proof.specs.declared.moves.Move.{Move}
 use Rattle.routine_proof.specs.Candidates.{Asks, nothing, reference_not_neither, all_less, Meets, Candidate, Gives}
 use Rattle.routine_proof.specs.First.{IsFirst}
@@ -39,11 +37,20 @@ pub record IsAt (at : At) : Type 0 where
   pub nodes : AreNodes at.setting.now.spec.now.sig (clauses_of at.nodes.now)
   pub here : slice_get (clauses_of at.nodes.now) at.number ≡ Some at.here.now
   pub node : IsNode at.setting.now.spec.now.sig at.here.now
-  pub spots : spots_of at.spots.items ≡ spots at.here.now
+  pub spots : at.spots ≡ spots at.here.now
 
--- the place is there, with this term
-abbrev pub IsThere : Clause → SpotRef → Type 0
-IsThere c spot = (p : TermAt c spot.place) × (p.term ≡ spot.term.now)
+-- the place of the spot of this index, and the term there
+abbrev pub place_of : At → ℕ → Place
+place_of at k = (spot_of_index at.spots k).place
+
+abbrev pub term_of : At → ℕ → Tree
+term_of at k = (spot_of_index at.spots k).term
+
+-- there is a spot of this index, and its term is at its place
+pub record IsThere (at : At) (k : ℕ) : Type 0 where
+  pub listed : k < length at.spots
+  pub place : TermAt at.here.now (place_of at k)
+  pub term : place.term ≡ term_of at k
 
 -- what the table says at the node
 abbrev pub SaysAt : (Tree → Tree → Type 0) → At → Step → Children → Type 0

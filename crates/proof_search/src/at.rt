@@ -13,7 +13,7 @@ ghost use Rattle.proof_search.specs.Taking.{IsAt, IsTaken, SaysAt, asks_of, IsNo
 use crate::building::Building;
 use crate::setting::Setting;
 use clause_core::{Child, Children, Clause, Reference, Relation, Step, one_answer};
-use clause_places::{SpotRef, places_are_there, spots};
+use clause_places::{Spots, places_are_there};
 use inference_rules::{Node, StepError, children};
 use path_order::TermOrder;
 use routine_proof::Move;
@@ -29,7 +29,7 @@ pub(crate) struct At<'a> {
     pub(crate) building: &'a Building,
     pub(crate) number: u32,
     pub(crate) here: &'a Clause,
-    pub(crate) spots: Vec<SpotRef<'a>>,
+    pub(crate) spots: Spots<'a>,
 }
 
 impl<'a> At<'a> {
@@ -51,7 +51,7 @@ impl<'a> At<'a> {
         places_are_there();
         let nodes = building.nodes.as_slice();
         let here = &nodes[number as usize].clause;
-        let spots = spots(alloc, here)?;
+        let spots = Spots::of(alloc, here)?;
         Ok(At {
             setting,
             nodes,

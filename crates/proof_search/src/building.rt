@@ -1,11 +1,14 @@
 ghost use Rattle.std.specs.Prelude.{◌≡◌, ◌<◌, ◌^◌, Some, IfOk, OnOk, length, slice_get};
 ghost use Rattle.routine_proof.specs.Ways.{Node as WayNode, ancestors as ancestors_of, is_cover as is_cover_of};
 ghost use Rattle.proof_search.specs.Building.{IsWhole, nodes_in, Begins, Takes};
+ghost use Rattle.proof_search.specs.FallingSides.{AreFalling};
 
-use crate::leading_places::{LeadingPlace, leading_place};
+use crate::falling_sides::{FallingSides, falling_sides};
 use block_links::apart;
 use clause_core::{Children, Clause, Step};
+use fitting_lists::{LeadingPlace, leading};
 use inference_rules::Node;
+use path_order::TermOrder;
 use routine_proof::Move;
 use std::alloc::Global;
 use term_core::OutOfMemory;
@@ -21,15 +24,23 @@ pub(crate) struct Building {
     pub links: Vec<Children>,
     /// For each node the place of its leading equation, where it has one.
     pub leadings: Vec<Option<LeadingPlace>>,
+    /// The falling sides of node 0.
+    pub sides: FallingSides,
 }
 
 impl Building {
     /// The node of the clause alone, without a step.
-    pub fn new(alloc: Global, clause: Clause) -> Result<Building, OutOfMemory>
-        ensures { IfOk result (Begins clause) }
+    pub fn new<O: TermOrder>(
+        alloc: Global,
+        order: &O,
+        clause: Clause,
+    ) -> Result<Building, OutOfMemory>
+        ensures begins { IfOk result (Begins clause) }
+        ensures sides { IfOk result (λ made. AreFalling (O.above order.now) clause made.sides) }
     {
+        let sides = falling_sides(order, &clause);
         let mut leadings = Vec::new(alloc);
-        leadings.push(leading_place(&clause))?;
+        leadings.push(leading(&clause))?;
         let mut nodes = Vec::new(alloc);
         nodes.push(Node { clause })?;
         let mut parents = Vec::new(alloc);
@@ -40,6 +51,7 @@ impl Building {
             steps: Vec::new(alloc),
             links: Vec::new(alloc),
             leadings,
+            sides,
         })
     }
 
@@ -54,7 +66,7 @@ impl Building {
         self.steps.push(step)?;
         self.links.push(links)?;
         for clause in clauses {
-            self.leadings.push(leading_place(&clause))?;
+            self.leadings.push(leading(&clause))?;
             self.nodes.push(Node { clause })?;
             self.parents.push(parent)?;
         }

@@ -9,6 +9,7 @@ ghost use Rattle.routine_proof.specs.Routine.{makes};
 ghost use Rattle.routine_proof.specs.Ways.{Node as WayNode};
 ghost use Rattle.proof_search.specs.Building.{IsWhole};
 ghost use Rattle.proof_search.specs.Chosen.{all_entries, candidates_of};
+ghost use Rattle.proof_search.specs.FallingSides.{KeepsSides};
 ghost use Rattle.proof_search.specs.Settings.{IsSetting};
 ghost use Rattle.proof_search.specs.Starting.{IsListed};
 ghost use Rattle.proof_search.specs.Taking.{IsAt, IsFound};
@@ -71,7 +72,8 @@ impl Entry {
         order: &O,
         at: &At,
     ) -> Result<Option<Move>, OutOfMemory>
-        requires { IsAt at.now }
+        requires at { IsAt at.now }
+        requires sides { KeepsSides (O.above order.now) at.now.setting.now at.now.building.now }
         ensures { IfOk result (IsFound (O.above order.now) at.now (candidates_of at.now self)) }
     {
         match self {
@@ -110,6 +112,7 @@ pub(crate) fn chosen<'a, O: TermOrder>(
     requires whole { IsWhole building.now }
     requires in_range { node < length building.now.nodes.items }
     requires nodes { AreNodes setting.now.spec.now.sig (clauses_of building.now.nodes.items) }
+    requires sides { KeepsSides (O.above order.now) setting.now building.now }
     ensures { IfOk result (IsListed (O.above order.now) setting.now.spec.now setting.now.lemmas.now
         building.now node) }
 {
@@ -144,7 +147,8 @@ pub(crate) fn covered<'a, O: TermOrder>(
 
 /// The first of the steps of all entries that is defined.
 fn first_entry<O: TermOrder>(alloc: Global, order: &O, at: &At) -> Result<Option<Move>, OutOfMemory>
-    requires { IsAt at.now }
+    requires at { IsAt at.now }
+    requires sides { KeepsSides (O.above order.now) at.now.setting.now at.now.building.now }
     ensures { IfOk result (IsFound (O.above order.now) at.now
         (each all_entries (candidates_of at.now))) }
 {

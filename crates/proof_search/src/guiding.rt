@@ -37,7 +37,7 @@ pub fn guided<O: TermOrder>(
     if !within(&clause) {
         return Ok(Guided::Unfinished);
     }
-    let setting = Setting::new(alloc, spec, lemmas)?;
+    let setting = Setting::new(alloc, order, spec, lemmas)?;
     let first = match proof_from(alloc, order, &setting, goal, Start::NoSplit, nodes)? {
         Tried::Proof(block) => return Ok(Guided::Block(block)),
         Tried::Not { first } => first,

@@ -1,9 +1,9 @@
-ghost use Rattle.proof_search.specs.Falling.{NoPartIsAbove};
+ghost use Rattle.proof_search.specs.Falling.{NeverRises};
 
 use path_order::TermOrder;
 
-/// A sorted term isn't above one in which it stands below the root: its ground instances would rank
-/// both higher and lower.
-pub(crate) fn no_part_is_above<O: TermOrder>(order: &O)
-    ensures { NoPartIsAbove (O.above order.now) }
+/// Where a term is above another one, no sorted instance of the other one is above that of the
+/// term: their ground instances would rank both higher and lower.
+pub(crate) fn never_rises<O: TermOrder>(order: &O)
+    ensures { NeverRises (O.above order.now) }
 {}

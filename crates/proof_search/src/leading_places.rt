@@ -1,31 +1,15 @@
-ghost use Rattle.std.specs.Prelude.{◌≡◌, ◌↔◌, ℕ, Some, IsTrue, MatchOption, slice_get};
-ghost use Rattle.proof_search.specs.Leading.{IsLeading, IsPlace};
+ghost use Rattle.proof_search.specs.Leading.{IsLeading};
+ghost use Rattle.fitting_lists.specs.Leading.{IsPlace};
 
 use clause_core::Clause;
-use fitting_lists::{LeadingEquation, leading};
+use fitting_lists::LeadingPlace;
 use spec_core::Equation;
 
-/// Where the leading equation of a clause stands: its index in the conclusions or in the premises.
+/// An equation of a clause, and whether it is a conclusion.
 #[derive(Clone, Copy)]
-pub(crate) struct LeadingPlace {
+pub(crate) struct LeadingEquation<'a> {
     pub(crate) conclusion: bool,
-    pub(crate) index: usize,
-}
-
-/// The place of the clause's leading equation, where it has one.
-pub(crate) fn leading_place(clause: &Clause) -> Option<LeadingPlace>
-    ensures { IsPlace clause.now result }
-{
-    let Some(first) = leading(clause) else {
-        return None;
-    };
-    match index_of(clause.equations(first.conclusion), first.equation) {
-        Some(index) => Some(LeadingPlace {
-            conclusion: first.conclusion,
-            index,
-        }),
-        None => None,
-    }
+    pub(crate) equation: &'a Equation,
 }
 
 /// The leading equation, whose place is known.
@@ -46,23 +30,4 @@ pub(crate) fn leading_at(
             })
         }
     }
-}
-
-/// The index of the first of the equations that is this one.
-fn index_of(equations: &[Equation], equation: &Equation) -> Option<usize>
-    ensures { MatchOption result ((k : ℕ) → slice_get equations.now k ≡ Some equation.now → ⊥)
-        (λ k. slice_get equations.now k ≡ Some equation.now) }
-{
-    for index in 0..equations.len() {
-        if is_same(&equations[index], equation) {
-            return Some(index);
-        }
-    }
-    None
-}
-
-fn is_same(equation: &Equation, other: &Equation) -> bool
-    ensures { IsTrue result ↔ (equation.now ≡ other.now) }
-{
-    equation.left.same(&other.left) && equation.right.same(&other.right)
 }

@@ -8,10 +8,11 @@
 //! first routine proof of a goal over some lemmas, or that there is none.
 //!
 //! `choosing` finds the step that a node takes: it goes through the entries of the list in their
-//! order, of which each kind has a file. What cannot fit is passed over before the table of steps is
-//! asked: rules of another function, clauses whose symbols differ, and a side of an equation that is
-//! a variable of the other side. Which equation of a node leads is found once, when the node is added
-//! (`leading_places`), since each node below asks for it.
+//! order, of which each kind has a file. What cannot fit is passed over before the table of steps
+//! is asked: rules of another function, clauses whose symbols differ, and a side of an equation
+//! that the other side is above. What each node asks anew is found once: which equation of a node
+//! leads, when the node is added, and of a lemma, for a whole goal (`leading_places`); which sides
+//! of lemmas may fall, for a whole goal, and of node 0, when a block begins (`falling_sides`).
 #![tactic(auto)]
 
 mod answers;
@@ -19,6 +20,7 @@ mod at;
 mod building;
 mod choosing;
 mod covering;
+mod falling_sides;
 mod guiding;
 mod laws;
 mod leading_places;

@@ -3,6 +3,7 @@ ghost use Rattle.spec_core.specs.WellSorted.{GoalIsSorted};
 ghost use Rattle.clause_core.specs.Limits.{IsWithin};
 ghost use Rattle.clause_core.specs.Tidied.{goal_clause};
 ghost use Rattle.proof_script.specs.Ranges.{ClaimIsInRange};
+ghost use Rattle.proof_search.specs.FallingSides.{LemmasFall};
 ghost use Rattle.proof_search.specs.Proving.{IsShortBlock, IsTried, proved_by};
 ghost use Rattle.proof_search.specs.Settings.{IsSetting};
 ghost use Rattle.proof_search.specs.Starting.{start_of};
@@ -40,6 +41,7 @@ pub(crate) fn proof_from<O: TermOrder>(
     most: u32,
 ) -> Result<Tried, OutOfMemory>
     requires setting { IsSetting setting.now }
+    requires sides { LemmasFall (O.above order.now) setting.now }
     requires sorted { GoalIsSorted setting.now.spec.now.sig goal.now }
     requires within { IsWithin (goal_clause goal.now) }
     ensures { IfOk result (IsTried (O.above order.now) setting.now.spec.now

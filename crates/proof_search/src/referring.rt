@@ -9,10 +9,9 @@ ghost use Rattle.proof_search.specs.Taking.{IsAt, IsFound, asks_of};
 ghost use Rattle.proof_search.specs.Referring.{target_of, closing_step, closing_asks, rewriting_step, closings, closing, closing_pair};
 
 use crate::at::{Asked, At, taken};
-use crate::leading_places::leading_at;
-use crate::ruling::copy_place;
+use crate::leading_places::{LeadingEquation, leading_at};
 use clause_core::{Clause, Place, Step, tidying_laws};
-use fitting_lists::{LeadingEquation, fitting_terms, leading};
+use fitting_lists::{Matcher, copies};
 use path_order::TermOrder;
 use routine_proof::Move;
 use spec_core::Equation;
@@ -53,16 +52,15 @@ impl<'a> Referral<'a> {
         &self,
         alloc: Global,
         terms: Seq<Term>,
-        place: &Place,
+        place: Place,
         left: bool,
     ) -> Result<Step, OutOfMemory>
         ensures { IfOk result (λ made.
-            made ≡ rewriting_step (target_of self.now) place.now terms left) }
+            made ≡ rewriting_step (target_of self.now) place terms left) }
     {
-        let at = copy_place(alloc, place)?;
         match self {
-            Referral::Node(number) => Ok(Step::Hyp(*number, terms, at, left)),
-            Referral::Goal(name) => Ok(Step::Lemma(name.copy(alloc)?, terms, at, left)),
+            Referral::Node(number) => Ok(Step::Hyp(*number, terms, place, left)),
+            Referral::Goal(name) => Ok(Step::Lemma(name.copy(alloc)?, terms, place, left)),
         }
     }
 }
@@ -86,8 +84,9 @@ pub(crate) fn first_subsumption<O: TermOrder>(
         (each (ancestors_at at.now) (subsumptions_by at.now))) }
 {
     let ancestors = at.building.ancestors(alloc, at.number)?;
+    let mut matcher = Matcher::new(alloc);
     for number in ancestors.as_slice() {
-        let found = subsumption_by(alloc, order, at, *number)?;
+        let found = subsumption_by(alloc, order, at, &mut matcher, *number)?;
         if found.is_some() {
             return Ok(found);
         }
@@ -96,10 +95,11 @@ pub(crate) fn first_subsumption<O: TermOrder>(
 }
 
 /// The first step by the node of this number that closes the node.
-fn subsumption_by<O: TermOrder>(
+fn subsumption_by<'a, O: TermOrder>(
     alloc: Global,
     order: &O,
-    at: &At,
+    at: &At<'a>,
+    matcher: &mut Matcher<'a>,
     number: u32,
 ) -> Result<Option<Move>, OutOfMemory>
     requires { IsAt at.now }
@@ -111,7 +111,7 @@ fn subsumption_by<O: TermOrder>(
             let referral = Referral::Node(number);
             let place = at.building.leadings[number as usize];
             let first = leading_at(&node.clause, place);
-            first_closing(alloc, order, at, &referral, &node.clause, first)
+            first_closing(alloc, order, at, matcher, &referral, &node.clause, first)
         }
     }
 }
@@ -128,10 +128,19 @@ pub(crate) fn first_lemma_instance<O: TermOrder>(
 {
     tidying_laws();
     let setting = at.setting;
+    let mut matcher = Matcher::new(alloc);
     for goal in &setting.goals {
         let referral = Referral::Goal(&goal.name);
-        let first = leading(&goal.clause);
-        let found = first_closing(alloc, order, at, &referral, &goal.clause, first)?;
+        let first = leading_at(&goal.clause, goal.leading);
+        let found = first_closing(
+            alloc,
+            order,
+            at,
+            &mut matcher,
+            &referral,
+            &goal.clause,
+            first,
+        )?;
         if found.is_some() {
             return Ok(found);
         }
@@ -144,10 +153,11 @@ pub(crate) fn first_lemma_instance<O: TermOrder>(
 fn first_closing<'a, O: TermOrder>(
     alloc: Global,
     order: &O,
-    at: &At,
-    referral: &'a Referral<'a>,
-    clause: &'a Clause,
-    first: Option<LeadingEquation<'a>>,
+    at: &At<'a>,
+    matcher: &mut Matcher<'a>,
+    referral: &Referral,
+    clause: &Clause,
+    first: Option<LeadingEquation>,
 ) -> Result<Option<Move>, OutOfMemory>
     requires at { IsAt at.now }
     requires sorted { ClauseIsSorted at.now.setting.now.spec.now.sig clause.now }
@@ -163,8 +173,9 @@ fn first_closing<'a, O: TermOrder>(
         clause,
         equation: first.equation,
     };
-    for equation in at.here.equations(first.conclusion) {
-        let found = closing_either_way(alloc, order, at, &by, equation)?;
+    let here = at.here;
+    for equation in here.equations(first.conclusion) {
+        let found = closing_either_way(alloc, order, at, matcher, &by, equation)?;
         if found.is_some() {
             return Ok(found);
         }
@@ -174,12 +185,13 @@ fn first_closing<'a, O: TermOrder>(
 
 /// The step by which the leading equation becomes this one, as written or else with its sides
 /// swapped.
-fn closing_either_way<O: TermOrder>(
+fn closing_either_way<'a, O: TermOrder>(
     alloc: Global,
     order: &O,
-    at: &At,
+    at: &At<'a>,
+    matcher: &mut Matcher<'a>,
     by: &Closing,
-    equation: &Equation,
+    equation: &'a Equation,
 ) -> Result<Option<Move>, OutOfMemory>
     requires at { IsAt at.now }
     requires variables { let clause = by.now.clause.now in
@@ -190,21 +202,38 @@ fn closing_either_way<O: TermOrder>(
         IfOk result (IsFound (O.above order.now) at.now
         (closing_pair target clause e equation.now)) }
 {
-    let found = closing_by(alloc, order, at, by, &equation.left, &equation.right)?;
+    let found = closing_by(
+        alloc,
+        order,
+        at,
+        matcher,
+        by,
+        &equation.left,
+        &equation.right,
+    )?;
     if found.is_some() {
         return Ok(found);
     }
-    closing_by(alloc, order, at, by, &equation.right, &equation.left)
+    closing_by(
+        alloc,
+        order,
+        at,
+        matcher,
+        by,
+        &equation.right,
+        &equation.left,
+    )
 }
 
 /// The step by which the sides of the leading equation become these.
-fn closing_by<O: TermOrder>(
+fn closing_by<'a, O: TermOrder>(
     alloc: Global,
     order: &O,
-    at: &At,
+    at: &At<'a>,
+    matcher: &mut Matcher<'a>,
     by: &Closing,
-    left: &Term,
-    right: &Term,
+    left: &'a Term,
+    right: &'a Term,
 ) -> Result<Option<Move>, OutOfMemory>
     requires at { IsAt at.now }
     requires variables { let clause = by.now.clause.now in
@@ -215,9 +244,10 @@ fn closing_by<O: TermOrder>(
         (closing target clause by.now.equation.now left.now right.now ∷ [])) }
 {
     let count = by.clause.ctx.len();
-    let Some(terms) = fitting_terms(alloc, count, by.equation, left, right)? else {
+    if !matcher.fitting(count, by.equation, left, right)? {
         return Ok(None);
-    };
+    }
+    let terms = copies(alloc, matcher.terms())?;
     let step = by.referral.closing_step(alloc, terms)?;
     taken(alloc, order, at, step, by.referral.closing_asks())
 }

@@ -1,36 +1,35 @@
-ghost use Rattle.std.specs.Prelude.{◌≡◌, [], ◌∷◌, ◌++◌, true, false, not, IfOk, IsTrue, length};
-ghost use Rattle.std.specs.Option.{IfSome, option_copied};
+ghost use Rattle.std.specs.Prelude.{◌≡◌, IfOk};
+ghost use Rattle.term_core.specs.References.{terms_of};
 ghost use Rattle.clause_core.specs.Clauses.{ClauseIsSorted};
 ghost use Rattle.clause_core.specs.Places.{side as side_of};
-ghost use Rattle.spec_core.specs.declared.records.Equation.{Equation as EquationOf};
-ghost use Rattle.term_core.specs.Tree.{instance};
-ghost use Rattle.fitting_lists.specs.Answering.{AreVariables};
 ghost use Rattle.routine_proof.specs.Candidates.{all_less, each};
 ghost use Rattle.proof_search.specs.Chosen.{clause_of, lemma_uses_by};
-ghost use Rattle.proof_search.specs.Taking.{IsAt, IsTaken, IsFound, SaysAt};
-ghost use Rattle.proof_search.specs.Referring.{node, target_of, rewritings, rewriting_by, rewritings_by, rewriting_step as step_by};
-ghost use Rattle.proof_search.specs.Falling.{IsReferred, CanRewrite, FallsTo, rises as rises_to, unless_rising as unless_rising_of};
+ghost use Rattle.proof_search.specs.FallingSides.{AreFalling, KeepsSides};
+ghost use Rattle.proof_search.specs.Taking.{IsAt, IsThere, IsTaken, IsFound, SaysAt, place_of, term_of};
+ghost use Rattle.proof_search.specs.Referring.{node, target_of, rewritings, falling_rewriting, falling_rewritings, rewriting_step as step_by};
+ghost use Rattle.proof_search.specs.Falling.{IsReferred, CanRewrite};
 
 use crate::at::{Asked, At, taken};
-use crate::laws::no_part_is_above;
+use crate::falling_sides::{FallingSides, only_conclusion};
+use crate::laws::never_rises;
 use crate::referring::Referral;
 use clause_core::{Clause, tidying_laws};
-use clause_places::{SpotRef, places_are_there};
-use fitting_lists::{
-    RewritableSides, copies, instance_by, may_become, rewritable, rewriting_match,
-};
+use clause_places::places_are_there;
+use fitting_lists::{Matcher, copies};
 use path_order::TermOrder;
 use place_comparison::place_decides;
 use routine_proof::Move;
+use spec_core::Equation;
 use std::alloc::Global;
-use term_core::{Node, OutOfMemory, Term, TermRefs, front};
+use term_core::{OutOfMemory, Term};
 
-/// A clause that is to rewrite the term at a place.
+/// A clause that is to rewrite by its only conclusion, from those of the sides that may fall.
 #[derive(Drop)]
-struct Rewriting<'a, 'b> {
+struct Rewriting<'a> {
     referral: &'a Referral<'a>,
     clause: &'a Clause,
-    spot: &'b SpotRef<'b>,
+    equation: &'a Equation,
+    sides: FallingSides,
 }
 
 /// The first step that rewrites by node 0 as a hypothesis.
@@ -39,14 +38,26 @@ pub(crate) fn first_hypothesis_use<O: TermOrder>(
     order: &O,
     at: &At,
 ) -> Result<Option<Move>, OutOfMemory>
-    requires { IsAt at.now }
+    requires at { IsAt at.now }
+    requires sides { KeepsSides (O.above order.now) at.now.setting.now at.now.building.now }
     ensures { IfOk result (IsFound (O.above order.now) at.now
         (each (clause_of at.now 0) (rewritings at.now.here.now (node 0)))) }
 {
-    match at.nodes.first() {
-        None => Ok(None),
-        Some(first) => first_rewriting(alloc, order, at, &Referral::Node(0), &first.clause),
-    }
+    let Some(first) = at.nodes.first() else {
+        return Ok(None);
+    };
+    let mut matcher = Matcher::new(alloc);
+    let referral = Referral::Node(0);
+    let sides = at.building.sides;
+    first_rewriting(
+        alloc,
+        order,
+        at,
+        &mut matcher,
+        &referral,
+        &first.clause,
+        sides,
+    )
 }
 
 /// The first step that rewrites by a lemma.
@@ -55,15 +66,26 @@ pub(crate) fn first_lemma_use<O: TermOrder>(
     order: &O,
     at: &At,
 ) -> Result<Option<Move>, OutOfMemory>
-    requires { IsAt at.now }
+    requires at { IsAt at.now }
+    requires sides { KeepsSides (O.above order.now) at.now.setting.now at.now.building.now }
     ensures { IfOk result (IsFound (O.above order.now) at.now
         (each at.now.setting.now.goals.items (lemma_uses_by at.now))) }
 {
     tidying_laws();
     let setting = at.setting;
+    let mut matcher = Matcher::new(alloc);
     for goal in &setting.goals {
         let referral = Referral::Goal(&goal.name);
-        let found = first_rewriting(alloc, order, at, &referral, &goal.clause)?;
+        let sides = goal.sides;
+        let found = first_rewriting(
+            alloc,
+            order,
+            at,
+            &mut matcher,
+            &referral,
+            &goal.clause,
+            sides,
+        )?;
         if found.is_some() {
             return Ok(found);
         }
@@ -75,31 +97,33 @@ pub(crate) fn first_lemma_use<O: TermOrder>(
 fn first_rewriting<'a, O: TermOrder>(
     alloc: Global,
     order: &O,
-    at: &At,
-    referral: &'a Referral<'a>,
-    clause: &'a Clause,
+    at: &At<'a>,
+    matcher: &mut Matcher<'a>,
+    referral: &Referral,
+    clause: &Clause,
+    sides: FallingSides,
 ) -> Result<Option<Move>, OutOfMemory>
     requires at { IsAt at.now }
     requires sorted { ClauseIsSorted at.now.setting.now.spec.now.sig clause.now }
     requires referred { IsReferred at.now (target_of referral.now) clause.now }
+    requires falling { AreFalling (O.above order.now) clause.now sides }
     ensures { IfOk result (IsFound (O.above order.now) at.now
         (rewritings at.now.here.now (target_of referral.now) clause.now)) }
 {
     places_are_there();
     place_decides(order);
-    no_part_is_above(order);
-    let sides = rewritable(clause);
-    let sides = RewritableSides {
-        left: unless_rising(sides.left, sides.right),
-        right: unless_rising(sides.right, sides.left),
+    never_rises(order);
+    let Some(equation) = only_conclusion(clause) else {
+        return Ok(None);
     };
-    for spot in &at.spots {
-        let rewriting = Rewriting {
-            referral,
-            clause,
-            spot,
-        };
-        let found = rewriting_at(alloc, order, at, &rewriting, sides)?;
+    let rewriting = Rewriting {
+        referral,
+        clause,
+        equation,
+        sides,
+    };
+    for index in 0..at.spots.len() {
+        let found = rewriting_at(alloc, order, at, matcher, &rewriting, index)?;
         if found.is_some() {
             return Ok(found);
         }
@@ -107,115 +131,81 @@ fn first_rewriting<'a, O: TermOrder>(
     Ok(None)
 }
 
-/// The side, unless it rises to the other one. Both have all variables of the clause, so where the
-/// side is a variable, each instance of it stands in that of the other one, and isn't above it.
-fn unless_rising<'a>(side: Option<&'a Term>, other: Option<&'a Term>) -> Option<&'a Term>
-    ensures { option_copied result
-        ≡ unless_rising_of (option_copied side.entry) (option_copied other.entry) }
-{
-    match (side, other) {
-        (Some(side), Some(other)) if rises(side, other) => None,
-        _ => side,
-    }
-}
-
-/// Whether the side is a variable, and the other one isn't.
-fn rises(side: &Term, other: &Term) -> bool
-    ensures { result ≡ rises_to side.now other.now }
-{
-    match (&side.node, &other.node) {
-        (Node::Var(_), Node::App(_, _)) => true,
-        _ => false,
-    }
-}
-
-/// The step that rewrites by the left side, or else by the right one, where they are given.
-fn rewriting_at<O: TermOrder>(
+/// The step that rewrites the term of the spot of this index from the left side, or else from the
+/// right one, where they may fall.
+fn rewriting_at<'a, O: TermOrder>(
     alloc: Global,
     order: &O,
-    at: &At,
+    at: &At<'a>,
+    matcher: &mut Matcher<'a>,
     rewriting: &Rewriting,
-    sides: RewritableSides,
+    index: usize,
 ) -> Result<Option<Move>, OutOfMemory>
     requires at { IsAt at.now }
-    requires able { CanRewrite at.now rewriting.now }
-    requires left { IfSome (option_copied sides.left)
-        (λ t. AreVariables (length rewriting.now.clause.now.ctx) (t ∷ [])) }
-    requires right { IfSome (option_copied sides.right)
-        (λ t. AreVariables (length rewriting.now.clause.now.ctx) (t ∷ [])) }
-    ensures { let clause = rewriting.now.clause.now in
-        let target = target_of rewriting.now.referral.now in
-        let place = rewriting.now.spot.now.place in
-        let term = rewriting.now.spot.now.term.now in
+    requires able { CanRewrite (O.above order.now) at.now rewriting.now }
+    requires there { IsThere at.now index }
+    ensures { let target = target_of rewriting.now.referral.now in
+        let place = place_of at.now index in
+        let term = term_of at.now index in
         IfOk result (IsFound (O.above order.now) at.now
-        (rewritings_by target clause place term true (option_copied sides.entry.left)
-        ++ rewritings_by target clause place term false (option_copied sides.entry.right))) }
+        (falling_rewritings target rewriting.now.clause.now place term
+        rewriting.now.equation.now rewriting.now.sides)) }
 {
-    let found = rewriting_from(alloc, order, at, rewriting, sides.left, true)?;
+    let found = rewriting_from(alloc, order, at, matcher, rewriting, index, true)?;
     if found.is_some() {
         return Ok(found);
     }
-    rewriting_from(alloc, order, at, rewriting, sides.right, false)
+    rewriting_from(alloc, order, at, matcher, rewriting, index, false)
 }
 
-/// The step that rewrites by the side, where it is given.
-fn rewriting_from<O: TermOrder>(
+/// The step that rewrites it from the left side where true, from the right one where false, if that
+/// side may fall. Where the term isn't above what it becomes, the clause that holds the other term
+/// there isn't less: whole clauses needn't be compared.
+fn rewriting_from<'a, O: TermOrder>(
     alloc: Global,
     order: &O,
-    at: &At,
+    at: &At<'a>,
+    matcher: &mut Matcher<'a>,
     rewriting: &Rewriting,
-    side: Option<&Term>,
+    index: usize,
     left: bool,
 ) -> Result<Option<Move>, OutOfMemory>
     requires at { IsAt at.now }
-    requires able { CanRewrite at.now rewriting.now }
-    requires variables { IfSome (option_copied side)
-        (λ t. AreVariables (length rewriting.now.clause.now.ctx) (t ∷ [])) }
-    ensures { let clause = rewriting.now.clause.now in
-        let target = target_of rewriting.now.referral.now in
-        let place = rewriting.now.spot.now.place in
-        let term = rewriting.now.spot.now.term.now in
+    requires able { CanRewrite (O.above order.now) at.now rewriting.now }
+    requires there { IsThere at.now index }
+    ensures { let target = target_of rewriting.now.referral.now in
+        let place = place_of at.now index in
+        let term = term_of at.now index in
         IfOk result (IsFound (O.above order.now) at.now
-        (rewritings_by target clause place term left (option_copied side.entry))) }
+        (falling_rewriting target rewriting.now.clause.now place term
+        rewriting.now.equation.now rewriting.now.sides left)) }
 {
-    match side {
-        None => Ok(None),
-        Some(side) => rewriting_side(alloc, order, at, rewriting, side, left),
-    }
-}
-
-/// The step that rewrites by the side.
-fn rewriting_side<O: TermOrder>(
-    alloc: Global,
-    order: &O,
-    at: &At,
-    rewriting: &Rewriting,
-    side: &Term,
-    left: bool,
-) -> Result<Option<Move>, OutOfMemory>
-    requires at { IsAt at.now }
-    requires able { CanRewrite at.now rewriting.now }
-    requires variables { AreVariables (length rewriting.now.clause.now.ctx) (side.now ∷ []) }
-    ensures { let clause = rewriting.now.clause.now in
-        let target = target_of rewriting.now.referral.now in
-        let place = rewriting.now.spot.now.place in
-        let term = rewriting.now.spot.now.term.now in
-        IfOk result (IsFound (O.above order.now) at.now
-        (rewriting_by target clause place term left side.now ∷ [])) }
-{
-    let spot = rewriting.spot;
-    if !may_become(side, spot.term) {
-        return Ok(None);
-    }
-    let count = rewriting.clause.ctx.len();
-    let Some(list) = rewriting_match(alloc, count, side, spot.term)? else {
-        return Ok(None);
-    };
     place_decides(order);
-    if !falls(alloc, order, rewriting, left, &list)? {
+    if !rewriting.sides.has(left) {
         return Ok(None);
     }
-    rewriting_by_list(alloc, order, at, rewriting, left, &list)
+    let from = side(rewriting.equation, left);
+    let to = side(rewriting.equation, !left);
+    let count = rewriting.clause.ctx.len();
+    if !matcher.rewriting(count, from, at.spots.term(index))? {
+        return Ok(None);
+    }
+    let list = matcher.terms();
+    if !order.greater_under(list, from, to) {
+        return Ok(None);
+    }
+    rewriting_by_list(alloc, order, at, rewriting.referral, index, left, list)
+}
+
+/// The left side of the equation where true, the right one where false.
+fn side(equation: &Equation, left: bool) -> &Term
+    ensures { result.now ≡ side_of left equation.now }
+{
+    if left {
+        &equation.left
+    } else {
+        &equation.right
+    }
 }
 
 /// The step that rewrites by the instance with these terms.
@@ -223,45 +213,19 @@ fn rewriting_by_list<O: TermOrder>(
     alloc: Global,
     order: &O,
     at: &At,
-    rewriting: &Rewriting,
+    referral: &Referral,
+    index: usize,
     left: bool,
-    list: &TermRefs,
+    list: &[&Term],
 ) -> Result<Option<Move>, OutOfMemory>
-    requires { IsAt at.now }
-    ensures { let target = target_of rewriting.now.referral.now in
-        let place = rewriting.now.spot.now.place in
-        IfOk result (IsTaken (SaysAt (O.above order.now) at.now)
-        (step_by target place list.now left) all_less) }
+    requires at { IsAt at.now }
+    requires there { IsThere at.now index }
+    ensures { let step = step_by (target_of referral.now) (place_of at.now index)
+        (terms_of list.now) left in
+        IfOk result (IsTaken (SaysAt (O.above order.now) at.now) step all_less) }
 {
     let terms = copies(alloc, list)?;
-    let spot = rewriting.spot;
-    let referral = rewriting.referral;
-    let step = referral.rewriting_step(alloc, terms, &spot.place, left)?;
+    let place = at.spots.place(alloc, index)?;
+    let step = referral.rewriting_step(alloc, terms, place, left)?;
     taken(alloc, order, at, step, Asked::AllLess)
-}
-
-/// Whether the term at the place is above what it becomes. Where it isn't, the clause that holds
-/// the other term there isn't less: whole clauses needn't be compared.
-fn falls<O: TermOrder>(
-    alloc: Global,
-    order: &O,
-    rewriting: &Rewriting,
-    left: bool,
-    list: &TermRefs,
-) -> Result<bool, OutOfMemory>
-    ensures { IfOk result (λ yes. (e : EquationOf) →
-        rewriting.now.clause.now.conclusions ≡ e ∷ [] →
-        FallsTo (O.above order.now) rewriting.now.spot.now.term.now
-        (instance list.now (side_of (not left) e)) → IsTrue yes) }
-{
-    let Some((equation, _)) = front(rewriting.clause.conclusions.as_slice()) else {
-        return Ok(false);
-    };
-    let other = if left {
-        &equation.right
-    } else {
-        &equation.left
-    };
-    let new = instance_by(alloc, other, list)?;
-    Ok(order.greater(rewriting.spot.term, &new))
 }

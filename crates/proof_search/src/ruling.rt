@@ -1,11 +1,12 @@
 ghost use Rattle.std.specs.Prelude.{◌≡◌, IfOk};
+ghost use Rattle.std.specs.Option.{IfSome};
 ghost use Rattle.routine_proof.specs.Entries.{rules};
-ghost use Rattle.proof_search.specs.Taking.{IsAt, IsThere, IsFound};
+ghost use Rattle.proof_search.specs.Taking.{IsAt, IsThere, IsFound, place_of};
 ghost use Rattle.proof_search.specs.Ruling.{ruling_step, rulings_by, rulings};
 
 use crate::at::{Asked, At, taken};
 use clause_core::{Place, Step};
-use clause_places::{SpotRef, places_are_there};
+use clause_places::places_are_there;
 use path_order::TermOrder;
 use routine_proof::Move;
 use std::alloc::Global;
@@ -41,8 +42,8 @@ pub(crate) fn first_ruling<O: TermOrder>(
         (rulings entry at.now.setting.now.spec.now at.now.here.now)) }
 {
     places_are_there();
-    for spot in &at.spots {
-        let found = ruling_at(alloc, order, at, entry, spot)?;
+    for index in 0..at.spots.len() {
+        let found = ruling_at(alloc, order, at, entry, index)?;
         if found.is_some() {
             return Ok(found);
         }
@@ -57,19 +58,19 @@ fn ruling_at<O: TermOrder>(
     order: &O,
     at: &At,
     entry: ByRule,
-    spot: &SpotRef,
+    index: usize,
 ) -> Result<Option<Move>, OutOfMemory>
     requires at { IsAt at.now }
-    requires there { IsThere at.now.here.now spot.now }
+    requires there { IsThere at.now index }
     ensures { IfOk result (IsFound (O.above order.now) at.now
-        (rulings_by entry spot.now.place (rules at.now.setting.now.spec.now))) }
+        (rulings_by entry (place_of at.now index) (rules at.now.setting.now.spec.now))) }
 {
-    let term = spot.term;
+    let term = at.spots.term(index);
     let Node::App(sym, _) = &term.node else {
         return Ok(None);
     };
     let setting = at.setting;
-    ruling_by(alloc, order, at, entry, spot, setting.rules_of(*sym))
+    ruling_by(alloc, order, at, entry, index, setting.rules_of(*sym))
 }
 
 /// The first of them at the place by a rule of these numbers. The table is asked only where the
@@ -79,20 +80,24 @@ fn ruling_by<O: TermOrder>(
     order: &O,
     at: &At,
     entry: ByRule,
-    spot: &SpotRef,
+    index: usize,
     numbers: &[u32],
 ) -> Result<Option<Move>, OutOfMemory>
     requires at { IsAt at.now }
-    requires there { IsThere at.now.here.now spot.now }
+    requires there { IsThere at.now index }
     ensures { IfOk result (IsFound (O.above order.now) at.now
-        (rulings_by entry spot.now.place numbers.now)) }
+        (rulings_by entry (place_of at.now index) numbers.now)) }
 {
     let setting = at.setting;
+    let term = at.spots.term(index);
+    let mut known = None;
     for number in numbers {
-        if !setting.may_fit(*number, spot.term) {
+        if !setting.may_fit(*number, term) {
             continue;
         }
-        let step = entry.step(copy_place(alloc, &spot.place)?, *number);
+        let place = place_at(alloc, at, index, known)?;
+        let step = entry.step(copy_place(alloc, &place)?, *number);
+        known = Some(place);
         let found = taken(alloc, order, at, step, Asked::Nothing)?;
         if found.is_some() {
             return Ok(found);
@@ -101,8 +106,26 @@ fn ruling_by<O: TermOrder>(
     Ok(None)
 }
 
+/// The place of the spot of this index: the one that is known, or else it is found. It takes a walk
+/// along the clause.
+fn place_at(
+    alloc: Global,
+    at: &At,
+    index: usize,
+    known: Option<Place>,
+) -> Result<Place, OutOfMemory>
+    requires there { IsThere at.now index }
+    requires known { IfSome known (λ place. place ≡ place_of at.now index) }
+    ensures { IfOk result (λ place. place ≡ place_of at.now index) }
+{
+    match known {
+        Some(place) => Ok(place),
+        None => at.spots.place(alloc, index),
+    }
+}
+
 /// A copy of the place.
-pub(crate) fn copy_place(alloc: Global, place: &Place) -> Result<Place, OutOfMemory>
+fn copy_place(alloc: Global, place: &Place) -> Result<Place, OutOfMemory>
     ensures { IfOk result (λ made. made ≡ place.now) }
 {
     Ok(Place {

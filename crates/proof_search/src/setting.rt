@@ -1,12 +1,14 @@
 ghost use Rattle.std.specs.Prelude.{◌≡◌, [], IfOk, IsTrue, OnOk, map};
 ghost use Rattle.spec_core.specs.WellSorted.{IsWellSorted};
 ghost use Rattle.clause_core.specs.RuleInstances.{RuleAt, IsInstance};
-ghost use Rattle.routine_proof.specs.Entries.{lemma_goals};
-ghost use Rattle.proof_search.specs.Settings.{IsSetting, IsTable, IsTableOf, AddsNumber, lemma_goal, numbers_of};
+ghost use Rattle.proof_search.specs.FallingSides.{LemmasFall};
+ghost use Rattle.proof_search.specs.Settings.{IsSetting, IsTable, IsTableOf, AddsNumber, AreLemmas, IsLemma, numbers_of};
 
+use crate::falling_sides::{FallingSides, falling_sides};
 use clause_core::{Clause, of_goal};
-use fitting_lists::may_become;
-use spec_core::Spec;
+use fitting_lists::{LeadingPlace, leading, may_become};
+use path_order::TermOrder;
+use spec_core::{Goal, Spec};
 use std::alloc::Global;
 use term_core::{Name, Node, OutOfMemory, Seq, SymId, Term};
 
@@ -20,24 +22,28 @@ pub(crate) struct Setting<'a> {
     pub(crate) rules: Vec<Seq<u32>>,
 }
 
-/// A goal that is a lemma: its name and its tidied clause.
+/// A goal that is a lemma: its name, its tidied clause, and what is asked of it at each node.
 #[derive(Drop)]
 pub(crate) struct LemmaGoal {
     pub(crate) name: Name,
     pub(crate) clause: Clause,
+    /// The place of the clause's leading equation, where it has one.
+    pub(crate) leading: Option<LeadingPlace>,
+    pub(crate) sides: FallingSides,
 }
 
 impl<'a> Setting<'a> {
-    pub(crate) fn new(
+    pub(crate) fn new<O: TermOrder>(
         alloc: Global,
+        order: &O,
         spec: &'a Spec,
         lemmas: &'a [u32],
     ) -> Result<Setting<'a>, OutOfMemory>
         requires { IsWellSorted spec.now }
         ensures { IfOk result (λ made. IsSetting made × (made.spec.now ≡ spec.now)
-            × (made.lemmas.now ≡ lemmas.now)) }
+            × (made.lemmas.now ≡ lemmas.now) × LemmasFall (O.above order.now) made) }
     {
-        let goals = goals_of(alloc, spec, lemmas)?;
+        let goals = goals_of(alloc, order, spec, lemmas)?;
         let rules = rules_by_function(alloc, spec)?;
         Ok(Setting {
             spec,
@@ -76,22 +82,40 @@ impl<'a> Setting<'a> {
 }
 
 /// The goals of these numbers, in the order of the specification.
-fn goals_of(alloc: Global, spec: &Spec, lemmas: &[u32]) -> Result<Vec<LemmaGoal>, OutOfMemory>
+fn goals_of<O: TermOrder>(
+    alloc: Global,
+    order: &O,
+    spec: &Spec,
+    lemmas: &[u32],
+) -> Result<Vec<LemmaGoal>, OutOfMemory>
     requires { IsWellSorted spec.now }
-    ensures { IfOk result (λ made. made.items ≡
-        map lemma_goal (lemma_goals spec.now lemmas.now)) }
+    ensures { IfOk result (λ made.
+        AreLemmas (O.above order.now) spec.now lemmas.now made.items) }
 {
     let mut made = Vec::new(alloc);
     for (number, goal) in spec.goals.as_slice().iter().enumerate() {
         if !lemmas.contains(&(number as u32)) {
             continue;
         }
-        made.push(LemmaGoal {
-            name: goal.name.copy(alloc)?,
-            clause: of_goal(alloc, goal)?,
-        })?;
+        made.push(lemma_of(alloc, order, goal)?)?;
     }
     Ok(made)
+}
+
+/// The goal as a lemma.
+fn lemma_of<O: TermOrder>(alloc: Global, order: &O, goal: &Goal) -> Result<LemmaGoal, OutOfMemory>
+    ensures { IfOk result (IsLemma (O.above order.now) goal.now) }
+{
+    let name = goal.name.copy(alloc)?;
+    let clause = of_goal(alloc, goal)?;
+    let leading = leading(&clause);
+    let sides = falling_sides(order, &clause);
+    Ok(LemmaGoal {
+        name,
+        clause,
+        leading,
+        sides,
+    })
 }
 
 /// For each symbol the numbers of its rules, in their order.

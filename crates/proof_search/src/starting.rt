@@ -3,6 +3,7 @@ ghost use Rattle.descent.specs.SortedChildren.{IsNode};
 ghost use Rattle.inference_rules.specs.Answers.{clauses_of};
 ghost use Rattle.inference_rules.specs.Nodes.{AreNodes};
 ghost use Rattle.proof_search.specs.Building.{IsWhole};
+ghost use Rattle.proof_search.specs.FallingSides.{KeepsSides, LemmasFall};
 ghost use Rattle.proof_search.specs.Settings.{IsSetting};
 ghost use Rattle.proof_search.specs.Starting.{IsBlock, IsNext, start_of};
 
@@ -42,13 +43,14 @@ pub(crate) fn block<O: TermOrder>(
     most: u32,
 ) -> Result<Built, OutOfMemory>
     requires setting { IsSetting setting.now }
+    requires sides { LemmasFall (O.above order.now) setting.now }
     requires node { IsNode setting.now.spec.now.sig clause }
     ensures { IfOk result (IsBlock (O.above order.now) setting.now.spec.now setting.now.lemmas.now
         (start_of start) clause most) }
 {
     clause_core::one_answer(order);
     descent::children_are_sorted(order);
-    let mut building = Building::new(alloc, clause)?;
+    let mut building = Building::new(alloc, order, clause)?;
     while building.steps.len() < building.nodes.len() {
         if building.nodes.len() > most as usize {
             return Ok(Built::Not {
@@ -80,6 +82,7 @@ fn next_move<O: TermOrder>(
     requires nodes { AreNodes setting.now.spec.now.sig (clauses_of building.now.nodes.items) }
     requires next { length building.now.steps.items < length building.now.nodes.items }
     requires few { length building.now.steps.items < 2 ^ 32 }
+    requires sides { KeepsSides (O.above order.now) setting.now building.now }
     ensures { IfOk result (IsNext (O.above order.now) setting.now.spec.now setting.now.lemmas.now
         (start_of start) building.now) }
 {

@@ -5,8 +5,6 @@ use Rattle.spec_core.specs.declared.records.Equation.{Equation}
 use Rattle.fitting_lists.specs.Fitting.{both_sides, has_all}
 use Rattle.fitting_lists.proofs.leading_equations.first_with_all.Given as goal
 
-abbrev pub invariant-loop-equation : goal.invariant-loop-equation
-invariant-loop-equation l =
-    filter (λ (e : Equation). has_all l.clause (both_sides e))
-    (take l.equation-index l.equations)
-    ≡ []
+abbrev pub invariant-loop-index : goal.invariant-loop-index
+invariant-loop-index l =
+    filter (λ (e : Equation). has_all l.clause (both_sides e)) (take l.index l.equations) ≡ []

@@ -7,4 +7,4 @@ use Rattle.proof_search.proofs.referring.first_closing.Given as goal
 abbrev pub invariant-loop-equation : goal.invariant-loop-equation
 invariant-loop-equation g l =
     Passed (Gives (SaysAt (g.O.TermOrder.above l.order) l.at)) l.equation-items
-    (closing_pair (target_of l.referral) l.clause l.by.equation.now) l.equation-index
+    (closing_pair (target_of l.fn.referral) l.fn.clause l.by.equation.now) l.equation-index

@@ -1,6 +1,9 @@
 use Rattle.std.proofs.Common.{◌≡◌, true, false}
 use Rattle.std.specs.Prelude.{is_some}
+use Rattle.term_core.proofs.Items.{all_at}
 use Rattle.routine_proof.specs.Candidates.{Gives}
+use Rattle.proof_search.specs.declared.setting.LemmaGoal.{LemmaGoal}
+use Rattle.fitting_lists.specs.Leading.{IsPlace}
 use Rattle.proof_search.specs.Taking.{SaysAt}
 use Rattle.proof_search.proofs.Walking.{found_at, passed_at, none_found, item_at, past_all}
 use Rattle.proof_search.specs.Chosen.{lemma_instances_by}
@@ -47,3 +50,12 @@ returns g c =
     (lemma_instances_by c.args.at.now) k (past_all c.deref-goal-items.result.now
     c.args.at.now.setting.now.goals.items k c.deref-goal-items.ensures.value
     c.loop-goal-test.false) c.loop-goal.invariant
+
+pub leading_at-first-requires : goal.leading_at-first-requires
+leading_at-first-requires g c =
+    let goals = c.args.at.now.setting.now.goals.items in
+    let k = c.loop-goal.goal-index in
+    all_at (λ (m : LemmaGoal). IsPlace m.clause m.leading) goals c.requires.setting.leadings k
+    c.goal-item.result
+    (item_at c.deref-goal-items.result.now goals k c.goal-item.result
+    c.deref-goal-items.ensures.value c.loop-goal-test.true c.goal-item.is)

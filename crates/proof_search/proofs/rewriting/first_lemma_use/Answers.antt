@@ -1,5 +1,8 @@
-use Rattle.std.proofs.Common.{◌≡◌, true, false, ap, sym}
+use Rattle.std.proofs.Common.{◌≡◌, ℕ, List, true, false, ap, sym}
 use Rattle.std.specs.Prelude.{is_some}
+use Rattle.clause_core.specs.declared.clauses.Clause.{Clause}
+use Rattle.term_core.proofs.Items.{all_at}
+use Rattle.proof_search.specs.FallingSides.{AreFalling}
 use Rattle.routine_proof.specs.Candidates.{Gives}
 use Rattle.proof_search.specs.Taking.{SaysAt}
 use Rattle.proof_search.proofs.Walking.{found_at, passed_at, none_found, item_at, past_all}
@@ -10,7 +13,7 @@ use Rattle.proof_search.proofs.rewriting.first_lemma_use.Goals as goal
 
 pub first_rewriting-requires-clause-sorted : goal.first_rewriting-requires-clause-sorted
 first_rewriting-requires-clause-sorted g c =
-    lemma_sorted c.args.at.now.setting.now c.tidying_laws.ensures c.requires.setting
+    lemma_sorted c.args.at.now.setting.now c.tidying_laws.ensures c.requires.at.setting
     c.loop-goal.goal-index c.goal-item.result
     (item_at c.deref-goal-items.result.now c.args.at.now.setting.now.goals.items
     c.loop-goal.goal-index c.goal-item.result c.deref-goal-items.ensures.value
@@ -51,7 +54,8 @@ returns g c =
 pub first_rewriting-requires-clause-referred : goal.first_rewriting-requires-clause-referred
 first_rewriting-requires-clause-referred g c =
     let m = c.goal-item.result in
-    let listed = lemma_listed c.args.at.now.setting.now c.requires.setting c.loop-goal.goal-index m
+    let listed =
+    lemma_listed c.args.at.now.setting.now c.requires.at.setting c.loop-goal.goal-index m
     (item_at c.deref-goal-items.result.now c.args.at.now.setting.now.goals.items
     c.loop-goal.goal-index m c.deref-goal-items.ensures.value
     c.loop-goal-test.true c.goal-item.is) in
@@ -59,6 +63,15 @@ first_rewriting-requires-clause-referred g c =
       number = listed.number;
       goal = listed.goal;
       is = listed.is;
-      named = sym (ap (λ (x : LemmaGoal). x.name) listed.made);
-      clause = ap (λ (x : LemmaGoal). x.clause) listed.made;
+      named = sym (ap (λ (x : List ℕ × Clause). x.0) listed.made);
+      clause = ap (λ (x : List ℕ × Clause). x.1) listed.made;
     }
+
+pub first_rewriting-requires-clause-falling : goal.first_rewriting-requires-clause-falling
+first_rewriting-requires-clause-falling g c =
+    let goals = c.args.at.now.setting.now.goals.items in
+    let k = c.loop-goal.goal-index in
+    all_at (λ (m : LemmaGoal). AreFalling (g.O.TermOrder.above c.args.order.now) m.clause m.sides)
+    goals c.requires.sides.lemmas k c.goal-item.result
+    (item_at c.deref-goal-items.result.now goals k c.goal-item.result
+    c.deref-goal-items.ensures.value c.loop-goal-test.true c.goal-item.is)

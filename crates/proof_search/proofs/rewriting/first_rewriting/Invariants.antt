@@ -5,7 +5,7 @@ use Rattle.proof_search.specs.Taking.{SaysAt}
 use Rattle.proof_search.proofs.Walking.{Passed}
 use Rattle.proof_search.proofs.rewriting.first_rewriting.Given as goal
 
-abbrev pub invariant-loop-spot : goal.invariant-loop-spot
-invariant-loop-spot g l =
+abbrev pub invariant-loop-index : goal.invariant-loop-index
+invariant-loop-index g l =
     Passed (Gives (SaysAt (g.O.TermOrder.above l.order) l.at)) (spots l.at.here.now)
-    (rewritings_at (target_of l.referral) l.clause) l.spot-index
+    (rewritings_at (target_of l.fn.referral) l.fn.clause) l.index

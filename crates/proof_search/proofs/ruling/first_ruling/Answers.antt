@@ -1,9 +1,8 @@
-use Rattle.std.proofs.Common.{◌≡◌, List, Option, None, true, false, sym, subst}
+use Rattle.std.proofs.Common.{◌≡◌, ◌<◌, List, Option, None, true, false, sym, subst, arith, length}
 use Rattle.std.specs.Prelude.{is_some}
 use Rattle.clause_core.specs.declared.clauses.Clause.{Clause}
 use Rattle.clause_core.specs.declared.steps.Place.{Place}
-use Rattle.clause_places.specs.Spots.{Spot, spots}
-use Rattle.clause_places.specs.Walk.{spot_of}
+use Rattle.clause_places.specs.Spots.{Spot, spots, spot_of_index}
 use Rattle.spec_core.specs.declared.records.Spec.{Spec}
 use Rattle.routine_proof.specs.Candidates.{Candidate, Gives, each}
 use Rattle.routine_proof.specs.Entries.{rules}
@@ -11,7 +10,8 @@ use Rattle.routine_proof.specs.First.{IsFirst}
 use Rattle.proof_search.specs.declared.ruling.ByRule.{ByRule}
 use Rattle.proof_search.specs.Ruling.{rulings_by, rulings}
 use Rattle.proof_search.specs.Taking.{SaysAt}
-use Rattle.proof_search.proofs.Walking.{found_at, passed_at, none_found, item_of, past_items, all_items, each_mapped}
+use Rattle.proof_search.proofs.SpotsThere.{spot_listed, spot_there, spots_past}
+use Rattle.proof_search.proofs.Walking.{found_at, passed_at, none_found, each_mapped}
 use Rattle.proof_search.proofs.ruling.first_ruling.Goals as goal
 
 by_spots : {R : Type 0} (is : Candidate → R → Type 0) (entry : ByRule) (spec : Spec) (c : Clause)
@@ -25,54 +25,46 @@ by_spots is entry spec c found first =
 
 pub ruling_at-requires-clause-there : goal.ruling_at-requires-clause-there
 ruling_at-requires-clause-there g c =
-    c.places_are_there.ensures.there c.args.at.now.here.now c.loop-spot.spot-index
-    (spot_of c.spot-item.result)
-    (item_of spot_of c.deref-spot-items.result.now (spots c.args.at.now.here.now)
-    c.loop-spot.spot-index c.spot-item.result (all_items spot_of c.deref-spot-items.result.now c.args.at.now.spots.items (spots c.args.at.now.here.now) c.deref-spot-items.ensures.value c.requires.spots) c.loop-spot-test.true c.spot-item.is)
+    let lt : c.loop-index.index < length c.args.at.now.spots =
+    omega (arith, c.loop-index-test.true, c.len-index-end.ensures) in
+    spot_there c.args.at.now c.requires.spots c.loop-index.index c.places_are_there.ensures lt
 
 pub returns-then-is_some : goal.returns-then-is_some
 returns-then-is_some g c =
-    let says = SaysAt (g.O.TermOrder.above c.args.order.now) c.args.at.now in
-    let here = c.args.at.now.here.now in
-    let spec = c.args.at.now.setting.now.spec.now in
-    let k = c.loop-spot.spot-index in
+    let at = c.args.at.now in
+    let says = SaysAt (g.O.TermOrder.above c.args.order.now) at in
+    let spec = at.setting.now.spec.now in
+    let k = c.loop-index.index in
     let found = c.in_ok-found.found in
+    let lt : k < length at.spots = omega (arith, c.loop-index-test.true, c.len-index-end.ensures) in
     let there : is_some found ≡ true = cc (c.is_some.ensures, c.if-is_some.true) in
-    by_spots (Gives says) c.args.entry spec here found
-    (found_at (Gives says) (spots here)
-    (λ (s : Spot). rulings_by c.args.entry s.place (rules spec)) k
-    (spot_of c.spot-item.result) found
-    (item_of spot_of c.deref-spot-items.result.now (spots here) k c.spot-item.result
-    (all_items spot_of c.deref-spot-items.result.now c.args.at.now.spots.items (spots here)
-    c.deref-spot-items.ensures.value c.requires.spots)
-    c.loop-spot-test.true c.spot-item.is) c.loop-spot.invariant there c.in_ok-found.ensures)
+    by_spots (Gives says) c.args.entry spec at.here.now found
+    (found_at (Gives says) (spots at.here.now)
+    (λ (s : Spot). rulings_by c.args.entry s.place (rules spec)) k (spot_of_index at.spots k) found
+    (spot_listed at c.requires.spots k lt) c.loop-index.invariant there c.in_ok-found.ensures)
 
-pub loop-spot-preserved : goal.loop-spot-preserved
-loop-spot-preserved g c =
-    let says = SaysAt (g.O.TermOrder.above c.args.order.now) c.args.at.now in
-    let here = c.args.at.now.here.now in
-    let spec = c.args.at.now.setting.now.spec.now in
-    let k = c.loop-spot.spot-index in
+pub loop-index-preserved : goal.loop-index-preserved
+loop-index-preserved g c =
+    let at = c.args.at.now in
+    let says = SaysAt (g.O.TermOrder.above c.args.order.now) at in
+    let spec = at.setting.now.spec.now in
+    let k = c.loop-index.index in
     let found = c.in_ok-found.found in
+    let lt : k < length at.spots = omega (arith, c.loop-index-test.true, c.len-index-end.ensures) in
     let there : is_some found ≡ false = cc (c.is_some.ensures, c.if-is_some.false) in
-    passed_at (Gives says) (spots here)
-    (λ (s : Spot). rulings_by c.args.entry s.place (rules spec)) k
-    (spot_of c.spot-item.result) found
-    (item_of spot_of c.deref-spot-items.result.now (spots here) k c.spot-item.result
-    (all_items spot_of c.deref-spot-items.result.now c.args.at.now.spots.items (spots here)
-    c.deref-spot-items.ensures.value c.requires.spots)
-    c.loop-spot-test.true c.spot-item.is) c.loop-spot.invariant there c.in_ok-found.ensures
+    passed_at (Gives says) (spots at.here.now)
+    (λ (s : Spot). rulings_by c.args.entry s.place (rules spec)) k (spot_of_index at.spots k) found
+    (spot_listed at c.requires.spots k lt) c.loop-index.invariant there c.in_ok-found.ensures
 
 pub returns : goal.returns
 returns g c =
-    let says = SaysAt (g.O.TermOrder.above c.args.order.now) c.args.at.now in
-    let here = c.args.at.now.here.now in
-    let spec = c.args.at.now.setting.now.spec.now in
-    let k = c.loop-spot.spot-index in
-    by_spots (Gives says) c.args.entry spec here None
-    (none_found (Gives says) (spots here)
+    let at = c.args.at.now in
+    let says = SaysAt (g.O.TermOrder.above c.args.order.now) at in
+    let spec = at.setting.now.spec.now in
+    let k = c.loop-index.index in
+    by_spots (Gives says) c.args.entry spec at.here.now None
+    (none_found (Gives says) (spots at.here.now)
     (λ (s : Spot). rulings_by c.args.entry s.place (rules spec)) k
-    (past_items spot_of c.deref-spot-items.result.now (spots here) k
-    (all_items spot_of c.deref-spot-items.result.now c.args.at.now.spots.items (spots here)
-    c.deref-spot-items.ensures.value c.requires.spots)
-    c.loop-spot-test.false) c.loop-spot.invariant)
+    (spots_past at c.requires.spots k
+    (omega (arith, c.loop-index-test.false, c.len-index-end.ensures)))
+    c.loop-index.invariant)

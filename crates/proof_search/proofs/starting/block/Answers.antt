@@ -1,15 +1,35 @@
-use Rattle.std.proofs.Common.{◌<◌, ◌≤◌, [], ◌∷◌, length, length-append, ap, ◌∙◌, subst, arith}
-use Rattle.std.specs.Prelude.{None}
+use Rattle.std.proofs.Common.{◌<◌, ◌≤◌, List, [], ◌∷◌, length, length-append, ap, sym, ◌∙◌, subst, arith}
+use Rattle.std.specs.Prelude.{None, slice_get}
+use Rattle.std.proofs.lemmas.Option.{same_Some}
+use Rattle.clause_core.specs.declared.clauses.Clause.{Clause}
+use Rattle.proof_search.specs.FallingSides.{AreFalling}
 use Rattle.proof_search.specs.Starting.{start_of, IsNext}
 use Rattle.routine_proof.proofs.OneProofs.{chosen_one}
 use Rattle.proof_search.proofs.BuiltBlocks.{part_begins, part_long, part_stops, part_takes, part_ends}
 use Rattle.proof_search.proofs.starting.block.Goals as goal
 
 pub loop-alloc-init : goal.loop-alloc-init
-loop-alloc-init g c =
-    part_begins (g.O.TermOrder.above c.args.order.now) c.args.setting.now.spec.now
-    c.args.setting.now.lemmas.now (start_of c.args.start) c.args.clause c.args.most
-    c.in_ok-building.building c.requires.node c.in_ok-building.ensures
+loop-alloc-init g c = record {
+  part =
+      part_begins (g.O.TermOrder.above c.args.order.now) c.args.setting.now.spec.now
+      c.args.setting.now.lemmas.now (start_of c.args.start) c.args.clause c.args.most
+      c.in_ok-building.building c.requires.node c.in_ok-building.ensures.begins;
+  sides = c.in_ok-building.ensures.sides;
+}
+
+pub next_move-requires-clause-sides : goal.next_move-requires-clause-sides
+next_move-requires-clause-sides g c =
+    let all = c.loop-alloc.invariant in
+    record {
+      lemmas = c.requires.sides;
+      first = λ d at.
+          subst
+          (λ (x : Clause).
+          AreFalling (g.O.TermOrder.above c.args.order.now) x c.loop-alloc.building.sides)
+          (same_Some c.args.clause d
+          (ap (λ (cs : List Clause). slice_get cs 0) (sym all.part.are) ∙ at))
+          all.sides;
+    }
 
 pub returns-then-len-most : goal.returns-then-len-most
 returns-then-len-most g c =
@@ -22,7 +42,7 @@ returns-then-len-most g c =
     ) in
     part_long (g.O.TermOrder.above c.args.order.now) c.args.setting.now.spec.now
     c.args.setting.now.lemmas.now (start_of c.args.start) c.args.clause c.args.most
-    c.loop-alloc.building c.loop-alloc.invariant more c.first_step.result c.first_step.ensures
+    c.loop-alloc.building c.loop-alloc.invariant.part more c.first_step.result c.first_step.ensures
 
 pub returns-in-None : goal.returns-in-None
 returns-in-None g c =
@@ -43,7 +63,7 @@ returns-in-None g c =
     c.in-None.is c.in_ok-next_move.ensures in
     part_stops (g.O.TermOrder.above c.args.order.now) c.args.setting.now.spec.now
     c.args.setting.now.lemmas.now (start_of c.args.start) c.args.clause c.args.most
-    c.loop-alloc.building c.loop-alloc.invariant lt next c.first_step-in-None.result
+    c.loop-alloc.building c.loop-alloc.invariant.part lt next c.first_step-in-None.result
     c.first_step-in-None.ensures
 
 pub loop-alloc-preserved : goal.loop-alloc-preserved
@@ -69,18 +89,24 @@ loop-alloc-preserved g c =
     (λ o. IsNext (g.O.TermOrder.above c.args.order.now) c.args.setting.now.spec.now
     c.args.setting.now.lemmas.now (start_of c.args.start) c.loop-alloc.building o)
     c.in-Some.is c.in_ok-next_move.ensures in
-    part_takes (g.O.TermOrder.above c.args.order.now) c.args.setting.now.spec.now
-    c.args.setting.now.lemmas.now (start_of c.args.start) c.args.clause c.args.most
-    c.loop-alloc.building c.loop-alloc.invariant lt
-    c.children_are_sorted.ensures c.requires.setting.fine
-    (chosen_one (g.O.TermOrder.above c.args.order.now) c.one_answer.ensures
-    c.args.setting.now.spec.now c.requires.setting.fine c.args.setting.now.lemmas.now
-    (start_of c.args.start))
-    le c.take.new.self c.in-Some.next next c.in_ok-take-in-Some.ensures
+    record {
+      part =
+          part_takes (g.O.TermOrder.above c.args.order.now) c.args.setting.now.spec.now
+          c.args.setting.now.lemmas.now (start_of c.args.start) c.args.clause c.args.most
+          c.loop-alloc.building c.loop-alloc.invariant.part lt
+          c.children_are_sorted.ensures c.requires.setting.fine
+          (chosen_one (g.O.TermOrder.above c.args.order.now) c.one_answer.ensures
+          c.args.setting.now.spec.now c.requires.setting.fine c.args.setting.now.lemmas.now
+          (start_of c.args.start))
+          le c.take.new.self c.in-Some.next next c.in_ok-take-in-Some.ensures;
+      sides =
+          subst (AreFalling (g.O.TermOrder.above c.args.order.now) c.args.clause)
+          (sym c.in_ok-take-in-Some.ensures.sides) c.loop-alloc.invariant.sides;
+    }
 
 pub loop-alloc-smaller : goal.loop-alloc-smaller
 loop-alloc-smaller g c =
-    let few = (loop-alloc-preserved g c).few in
+    let few = (loop-alloc-preserved g c).part.few in
     let steps =
     ap length c.in_ok-take-in-Some.ensures.steps
     ∙ length-append c.loop-alloc.building.steps.items (c.in-Some.next.step ∷ []) in
@@ -99,4 +125,4 @@ returns g c =
     ) in
     part_ends (g.O.TermOrder.above c.args.order.now) c.args.setting.now.spec.now
     c.args.setting.now.lemmas.now (start_of c.args.start) c.args.clause c.args.most
-    c.loop-alloc.building c.loop-alloc.invariant le
+    c.loop-alloc.building c.loop-alloc.invariant.part le

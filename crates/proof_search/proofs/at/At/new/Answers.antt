@@ -4,8 +4,8 @@ use Rattle.inference_rules.specs.Nodes.{AreNodes}
 use Rattle.proof_search.proofs.ListedNodes.{clause_read}
 use Rattle.proof_search.proofs.at.At.new.Goals as goal
 
-pub spots-requires : goal.spots-requires
-spots-requires c =
+pub of-requires : goal.of-requires
+of-requires c =
     let sig = c.args.setting.now.spec.now.sig in
     let ns = c.as_slice-nodes.result.now in
     let own = c.as_slice-nodes.ensures.value in

@@ -28,8 +28,9 @@ loop-clause-preserved c =
       steps = adds.steps;
       leadings = λ kept.
           places_more now.nodes.items c.push-in-loop-clause-2.new.self.items now.leadings.items
-          c.push-in-loop-clause.new.self.items node c.leading_place.result (adds.leadings kept)
-          c.leading_place.ensures c.in_ok-push-4.ensures.items c.in_ok-push-3.ensures.items;
+          c.push-in-loop-clause.new.self.items node c.leading.result (adds.leadings kept)
+          c.leading.ensures c.in_ok-push-4.ensures.items c.in_ok-push-3.ensures.items;
+      sides = adds.sides;
     }
 
 pub returns : goal.returns
@@ -62,4 +63,5 @@ returns c =
           adds.links ∙ c.in_ok-push-2.ensures.items
           ∙ ap (λ l. old.links.items ++ l ∷ []) c.in_ok-clauses.ensures.links;
       leadings = adds.leadings;
+      sides = adds.sides;
     }

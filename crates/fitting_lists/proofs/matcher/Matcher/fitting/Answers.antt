@@ -1,0 +1,51 @@
+-- What matching finds is the only list, and where a side has no match there is none.
+use Rattle.std.proofs.Common.{◌∷◌, [], ◌∙◌, ap, length, subst}
+use Rattle.std.proofs.lemmas.List.{length-replicate}
+use Rattle.term_core.specs.References.{terms_of}
+use Rattle.unifier.specs.Extending.{BindsAll}
+use Rattle.fitting_lists.specs.Fitting.{both_sides}
+use Rattle.fitting_lists.proofs.TermLists.{first_fails, two_patterns, no_list, only_list}
+use Rattle.fitting_lists.proofs.matcher.Matcher.fitting.Goals as goal
+
+pub returns-then-not-bind : goal.returns-then-not-bind
+returns-then-not-bind c =
+    let equation = c.args.equation.now in
+    let left = c.args.left.now in
+    let right = c.args.right.now in
+    let old = c.reset.new.self in
+    let new = c.bind.new.bindings in
+    no_list c.args.count (both_sides equation) (left ∷ right ∷ []) old new c.in_ok-reset.ensures
+    (first_fails old new equation.left left (equation.right ∷ []) (right ∷ []) c.bind.result
+    c.if-not-bind.true c.bind.ensures.bound)
+
+pub returns-then-not-bind-2 : goal.returns-then-not-bind-2
+returns-then-not-bind-2 c =
+    let equation = c.args.equation.now in
+    let left = c.args.left.now in
+    let right = c.args.right.now in
+    let old = c.reset.new.self in
+    let mid = c.bind.new.bindings in
+    let new = c.bind-2.new.bindings in
+    let binds = two_patterns old mid new equation.left equation.right left right c.bind.result
+    c.bind-2.result c.if-not-bind.false c.bind.ensures.bound c.bind-2.ensures.bound in
+    let terms = left ∷ right ∷ [] in
+    no_list c.args.count (both_sides equation) terms old new c.in_ok-reset.ensures
+    (subst (λ b. BindsAll old (both_sides equation) terms new b) c.if-not-bind-2.true binds)
+
+pub returns : goal.returns
+returns c =
+    let equation = c.args.equation.now in
+    let left = c.args.left.now in
+    let right = c.args.right.now in
+    let old = c.reset.new.self in
+    let mid = c.bind.new.bindings in
+    let new = c.bind-2.new.bindings in
+    only_list c.args.count (both_sides equation) (left ∷ right ∷ []) c.requires old new
+    c.bind-2.result (terms_of c.list.new.found.items)
+    (c.bind-2.ensures.same_length ∙ c.bind.ensures.same_length
+    ∙ ap (λ es. length es) c.in_ok-reset.ensures
+    ∙ length-replicate c.args.count _)
+    c.if-not-bind-2.false
+    (two_patterns old mid new equation.left equation.right left right c.bind.result
+    c.bind-2.result c.if-not-bind.false c.bind.ensures.bound c.bind-2.ensures.bound)
+    c.in_ok-list.ensures

@@ -1,0 +1,63 @@
+ghost use Rattle.std.specs.Prelude.{◌≡◌, [], ◌∷◌, MatchOption};
+ghost use Rattle.spec_core.specs.declared.records.Equation.{Equation as EquationOf};
+ghost use Rattle.proof_search.specs.FallingSides.{AreFalling, MayFall, marked};
+
+use clause_core::Clause;
+use fitting_lists::has_all_variables;
+use path_order::TermOrder;
+use spec_core::Equation;
+use term_core::{Term, front};
+
+/// The sides of a clause's only conclusion whose instances may be above those of the other side.
+#[derive(Clone, Copy)]
+pub(crate) struct FallingSides {
+    pub(crate) left: bool,
+    pub(crate) right: bool,
+}
+
+impl FallingSides {
+    /// Whether the left side, where true, or the right one is among them.
+    pub(crate) fn has(self, left: bool) -> bool
+        ensures { result ≡ marked left self }
+    {
+        if left { self.left } else { self.right }
+    }
+}
+
+/// The sides that have all variables of the clause, and that the other side isn't above. Where the
+/// other side is above, so are its instances: no step by the side rewrites to what is less.
+pub(crate) fn falling_sides<O: TermOrder>(order: &O, clause: &Clause) -> FallingSides
+    ensures { AreFalling (O.above order.now) clause.now result }
+{
+    match only_conclusion(clause) {
+        None => FallingSides {
+            left: false,
+            right: false,
+        },
+        Some(equation) => FallingSides {
+            left: may_fall(order, clause, &equation.left, &equation.right),
+            right: may_fall(order, clause, &equation.right, &equation.left),
+        },
+    }
+}
+
+/// Whether the side has all variables of the clause, and the other side isn't above it.
+fn may_fall<O: TermOrder>(order: &O, clause: &Clause, side: &Term, other: &Term) -> bool
+    ensures { MayFall (O.above order.now) clause.now side.now other.now result }
+{
+    if !has_all_variables(clause, side) {
+        return false;
+    }
+    !order.greater(other, side)
+}
+
+/// The clause's conclusion, where it has one alone.
+pub(crate) fn only_conclusion(clause: &Clause) -> Option<&Equation>
+    ensures { MatchOption result ((e : EquationOf) → clause.now.conclusions ≡ e ∷ [] → ⊥)
+        (λ e. clause.now.conclusions ≡ e.now ∷ []) }
+{
+    match front(clause.conclusions.as_slice()) {
+        Some((equation, others)) if others.is_empty() => Some(equation),
+        _ => None,
+    }
+}
