@@ -1,5 +1,5 @@
 -- The sides of a goal under values of its variables.
-use Rattle.std.proofs.Common.{◌≡◌, ℕ, zero, suc, List, [], ◌∷◌, Some, None, refl, get_or, subst}
+use Rattle.std.proofs.Common.{◌≡◌, ◌≢◌, ℕ, zero, suc, List, [], ◌∷◌, Some, None, refl, get_or, subst}
 use Rattle.std.specs.Prelude.{slice_get}
 use Rattle.std.specs.List.{AllByRecursion}
 use Rattle.term_core.specs.Tree.{Tree, var, instance}
@@ -8,15 +8,16 @@ use Rattle.spec_core.specs.declared.records.Equation.{Equation}
 use Rattle.spec_core.specs.declared.records.Goal.{Goal}
 use Rattle.spec_core.specs.declared.records.Spec.{Spec}
 use Rattle.spec_core.specs.declared.records.Verdict.{Verdict}
+use Rattle.spec_core.specs.declared.records.Verdict.TheVariants.{Holds, Fails, Spent}
 use Rattle.spec_core.specs.Sorts.{Sorted, IsBuilt}
 use Rattle.spec_core.specs.WellSorted.{IsWellSorted, EquationsAreSorted, sorts_of}
 use Rattle.spec_core.specs.Overlap.{NoOverlap}
 use Rattle.spec_core.specs.Groups.{GroupsAreWhole}
-use Rattle.spec_core.specs.Truth.{AreValuesOf}
+use Rattle.spec_core.specs.Truth.{AreValuesOf, GoalFails}
 use Rattle.spec_core.specs.Verdict.{IsVerdict}
 use Rattle.spec_core.proofs.Instances.{sorted_instance}
 use Rattle.spec_core.proofs.OneVerdict.{AreReady, one_verdict}
-use Rattle.ground_eval.specs.Sides.{HasOneSort}
+use Rattle.ground_eval.specs.Sides.{HasOneSort, IsDecided}
 
 pub values_built : (spec : Spec) (ss : List SortId) (vs : List Tree) → AreValuesOf spec ss vs → AllByRecursion (IsBuilt spec.sig) vs
 values_built spec [] [] h = tt
@@ -56,3 +57,20 @@ module _ (spec : Spec) (fine : IsWellSorted spec) (apart : NoOverlap spec) (whol
   goal_verdict-unique goal k at v p q a b =
       let here = fine.goals k goal at in
       one_verdict spec fine apart whole values budget goal.premises goal.conclusions (sides_ready (sorts_of goal.vars) goal.premises v here.premises) (sides_ready (sorts_of goal.vars) goal.conclusions v here.conclusions) p q a b
+
+-- what a decided verdict says, in any case and by itself
+module _ (spec : Spec) (values : List Tree) (budget : ℕ) (goal : Goal) where
+  pub decided_verdict : (r : Verdict) → IsDecided spec values budget goal r → NoOverlap spec → GroupsAreWhole spec → IsVerdict spec values budget goal r
+  decided_verdict Holds h apart whole = h
+  decided_verdict Fails h apart whole = h.0
+  decided_verdict Spent h apart whole = h apart whole
+
+  pub decided_sure : (r : Verdict) → IsDecided spec values budget goal r → r ≢ Spent → IsVerdict spec values budget goal r
+  decided_sure Holds h sure = h
+  decided_sure Fails h sure = h.0
+  decided_sure Spent h sure = absurd (sure refl)
+
+  pub decided_fails : (r : Verdict) → IsDecided spec values budget goal r → r ≡ Fails → GoalFails spec values goal
+  decided_fails Holds h is = absurd (let q : Holds ≡ Fails = is in cc)
+  decided_fails Fails h is = h.1
+  decided_fails Spent h is = absurd (let q : Spent ≡ Fails = is in cc)

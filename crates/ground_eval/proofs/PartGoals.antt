@@ -43,7 +43,7 @@ use Rattle.ground_eval.proofs.GoalSides.{values_built}
 use Rattle.ground_eval.proofs.OpenGoals.{setting, are_values, can_open, values_still, values_few, item_there}
 use Rattle.ground_eval.proofs.OpenTerms.{not_both}
 use Rattle.ground_eval.proofs.OpenWalking.{NoneIsBoth, one_open_verdict}
-use Rattle.ground_eval.proofs.SharedSides.{can_compare, values_count}
+use Rattle.ground_eval.proofs.SharedSides.{can_compare, goal_ready, values_count}
 
 take_whole : {X : Type 0} (xs : List X) (n : ℕ) → length xs ≤ n → take n xs ≡ xs
 take_whole [] zero le = refl
@@ -103,10 +103,7 @@ module _ (old : Spec) (goal : Goal) (p : Program) (shifted : Goal) (constants : 
   module _ (terms : List Tree) where
     -- the goal's sides can be compared under values of all variables
     pub whole_ready : (cells : List Cell) (ids : List ValueId) → StandAt cells ids terms → AreValuesOf p.spec ctx terms → CanCompareAll p cells premises ids there.premises terms × CanCompareAll p cells conclusions ids there.conclusions terms
-    whole_ready cells ids stand are = (
-      can_compare p there there.premises sorted_there.premises cells premises ids terms prepared.of_premises stand are,
-      can_compare p there there.conclusions sorted_there.conclusions cells conclusions ids terms prepared.of_conclusions stand are,
-    )
+    whole_ready cells ids stand are = goal_ready p there sorted_there premises conclusions prepared cells ids terms stand are
 
     module _ (first : AreFirstValues old goal terms) where
       pub no_more_than : length terms ≤ n

@@ -12,7 +12,7 @@ use Rattle.spec_core.specs.declared.records.Spec.{Spec}
 use Rattle.spec_core.specs.Gives.{Gives}
 use Rattle.spec_core.specs.Sorts.{IsBuilt, AreBuilt}
 use Rattle.spec_core.specs.Sig.{Sig}
-use Rattle.spec_core.specs.WellSorted.{EquationsAreSorted, sorts_of}
+use Rattle.spec_core.specs.WellSorted.{EquationsAreSorted, GoalIsSorted, sorts_of}
 use Rattle.value_bank.specs.Cells.{Cell, IsTerm, AreTerms, AddsCells}
 use Rattle.value_bank.specs.Ground.{IsGround, AreGround}
 use Rattle.bank_machine.proofs.Homes.{get_either}
@@ -28,7 +28,7 @@ use Rattle.bank_machine.specs.Runs.{StandAt, CanRun, IsBankEval}
 use Rattle.bank_machine.proofs.Placed.{code_kept}
 use Rattle.ground_eval.specs.declared.answers.Sides.TheVariants.{Same, Differ, Spent as SidesAreSpent}
 use Rattle.ground_eval.specs.declared.comparing.SidePair.{SidePair}
-use Rattle.ground_eval.specs.Prepared.{HasCode, HaveCode, CanCompare, CanCompareAll}
+use Rattle.ground_eval.specs.Prepared.{HasCode, HaveCode, IsPrepared, CanCompare, CanCompareAll}
 use Rattle.ground_eval.specs.Sides.{HasOneSort, SidesAre}
 use Rattle.ground_eval.proofs.GoalSides.{values_built, have_one_sort}
 use Rattle.bank_machine.proofs.Testing.{terms_count}
@@ -127,6 +127,19 @@ can_compare p goal es sorted cells pairs ids values code stand are =
   where
     mapped : (xs : List ValueId) → length (map (λ (id : ValueId). id.0) xs) ≡ length xs
     mapped xs = length-map xs _
+
+-- and so can both sides of a goal whose sides are compiled
+pub goal_ready : (p : Program) (goal : Goal) → GoalIsSorted p.spec.sig goal → (premises conclusions : List SidePair) → IsPrepared p goal premises conclusions → (cells : List Cell) (ids : List ValueId) (values : List Tree) → StandAt cells ids values → AreValuesOf p.spec (sorts_of goal.vars) values → CanCompareAll p cells premises ids goal.premises values × CanCompareAll p cells conclusions ids goal.conclusions values
+goal_ready p goal sorted premises conclusions code cells ids values stand are = (
+  can_compare p goal goal.premises sorted.premises cells premises ids values code.of_premises stand are,
+  can_compare p goal goal.conclusions sorted.conclusions cells conclusions ids values code.of_conclusions stand are,
+)
+
+-- the same over a machine of the specification, where calls were handed the compiled sides and the places
+pub compiled_ready : (spec : Spec) (goal : Goal) → GoalIsSorted spec.sig goal → (p : Program) → p.spec ≡ spec → {premises conclusions lefts rights : List SidePair} → IsPrepared p goal premises conclusions → (values : List Tree) → AreValuesOf spec (sorts_of goal.vars) values → {cells : List Cell} {ids places : List ValueId} → StandAt cells ids values → lefts ≡ premises → rights ≡ conclusions → places ≡ ids → CanCompareAll p cells lefts places goal.premises values × CanCompareAll p cells rights places goal.conclusions values
+compiled_ready spec goal sorted p same {premises} {conclusions} code values are {cells} {ids} stand left right at =
+    let ready = goal_ready p goal (subst (λ (s : Spec). GoalIsSorted s.sig goal) (sym same) sorted) premises conclusions code cells ids values stand (subst (λ (s : Spec). AreValuesOf s (sorts_of goal.vars) values) (sym same) are) in
+    rw (left, right, at) ready
 
 -- one more equation with its code
 pub pair_added : (p : Program) (count : ℕ) (es : List Equation) (i : ℕ) (e : Equation) (pairs new : List SidePair) (pair : SidePair) → slice_get es i ≡ Some e → HaveCode p count (take i es) pairs → HasCode p count e pair → new ≡ pairs ++ pair ∷ [] → HaveCode p count (take (i + 1) es) new

@@ -4,7 +4,6 @@ use Rattle.std.specs.List.{AllByRecursion}
 use Rattle.term_core.specs.Tree.{Tree}
 use Rattle.spec_core.specs.declared.records.Equation.{Equation}
 use Rattle.spec_core.specs.declared.records.Goal.{Goal}
-use Rattle.spec_core.specs.declared.records.Spec.{Spec}
 use Rattle.spec_core.specs.Sorts.{IsBuilt}
 use Rattle.value_bank.specs.Cells.{Cell}
 use Rattle.value_bank.specs.declared.bank.ValueId.{ValueId}
@@ -15,13 +14,6 @@ use Rattle.ground_eval.specs.Sides.{HasOneSort}
 
 abbrev pub pair_of : ℕ → ℕ → SidePair
 pair_of left right = record { left = left; right = right }
-
-pub record Prepared : Type 0 where
-  pub spec : Spec
-  pub goal : Goal
-
-abbrev pub prepared : Spec → Goal → Prepared
-prepared spec goal = record { spec = spec; goal = goal }
 
 -- the code of an equation's sides begins at these places
 pub record HasCode (p : Program) (variables : ℕ) (e : Equation) (pair : SidePair) : Type 0 where

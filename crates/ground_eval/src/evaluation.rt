@@ -9,7 +9,7 @@ ghost use Rattle.spec_core.specs.Verdict.{IsVerdict};
 ghost use Rattle.ground_eval.specs.Evals.{IsEval, IsOnly};
 
 use crate::answers::Eval;
-use crate::prepared::PreparedGoal;
+use crate::prepared::{compile_goal, place_values, whole_verdict};
 use bank_machine::{BankEval, KeptCalls, Machine};
 use spec_core::{Goal, Spec, Verdict};
 use std::alloc::Global;
@@ -37,8 +37,7 @@ pub fn eval(alloc: Global, spec: &Spec, term: &Term, budget: u32) -> Result<Eval
     }
 }
 
-/// The verdict of a goal of the specification under these values of its variables. Who asks for
-/// more than one verdict makes a [`PreparedGoal`] and a bank.
+/// The verdict of a goal of the specification under these values of its variables.
 pub fn verdict(
     alloc: Global,
     spec: &Spec,
@@ -55,7 +54,19 @@ pub fn verdict(
         → IsVerdict spec.now values.now budget goal.now r) }
     ensures fails { IfOk result (λ r. r ≡ Verdict.Fails → GoalFails spec.now values.now goal.now) }
 {
-    let prepared = PreparedGoal::new(alloc, spec, goal)?;
+    let machine = Machine::new(alloc, spec)?;
+    let (machine, premises, conclusions) = compile_goal(alloc, machine, goal)?;
     let mut bank = Bank::new(alloc)?;
-    prepared.verdict(alloc, &mut bank, values, budget)
+    let ids = place_values(alloc, &mut bank, values)?;
+    let mut kept = KeptCalls::new(alloc);
+    whole_verdict(
+        alloc,
+        &machine,
+        &mut bank,
+        &mut kept,
+        &premises,
+        &conclusions,
+        &ids,
+        budget,
+    )
 }

@@ -4,9 +4,9 @@
 //! It stands on term_core, spec_core, value_bank, bank_machine, and, for verdicts where only the
 //! first variables have values, on constants and open_walk. Its contracts say against
 //! spec_core's definitions that a value and its cost are right, that Spent comes only where nothing
-//! fits the budget, and that a verdict is the goal's. The layer above makes one [`PreparedGoal`] and
-//! one bank for the verdicts of a goal and uses the clauses of [`PreparedGoal::verdict`]. A
-//! [`PartialGoal`] answers for all lists of values that begin alike: [`PartialGoal::verdict_part`].
+//! fits the budget, and that a verdict is the goal's. Who wants one verdict calls [`verdict`]. A
+//! search makes one [`PartialGoal`] and one bank for the verdicts of a goal and uses the clauses of
+//! [`PartialGoal::verdict_part`], which answers for all lists of values that begin alike.
 #![tactic(auto)]
 
 mod answers;
@@ -25,5 +25,4 @@ pub use laws::one_verdict;
 pub use marks::ConstantMarks;
 pub use open_spec::OpenSpec;
 pub use parts::{Part, PartialGoal};
-pub use prepared::PreparedGoal;
 pub use spec_core::Verdict;

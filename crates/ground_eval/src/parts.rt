@@ -9,15 +9,13 @@ ghost use Rattle.ground_eval.specs.Constants.{AreMarks};
 ghost use Rattle.ground_eval.specs.Entries.{AreEntriesAt, SayOfAll};
 ghost use Rattle.ground_eval.specs.Opened.{partial, IsOpened, AreFirstValues, AreMarksOf, IsPart};
 ghost use Rattle.ground_eval.specs.OpenSides.{Setting, IsSet, CanOpenAll, GoalOpens};
-ghost use Rattle.ground_eval.specs.Prepared.{CanCompareAll};
-ghost use Rattle.ground_eval.specs.Sides.{IsDecided};
 
-use crate::answers::{OpenSides, Sides};
-use crate::comparing::{SidePair, compare_conclusions, compare_premises};
+use crate::answers::OpenSides;
+use crate::comparing::SidePair;
 use crate::marks::{ConstantMarks, Constants};
 use crate::open_sides::{compare_open_conclusions, compare_open_premises};
 use crate::open_spec::OpenSpec;
-use crate::prepared::compile_sides;
+use crate::prepared::{compile_goal, whole_verdict};
 use bank_machine::{KeptCalls, Machine};
 use spec_core::{Goal, Spec, Verdict};
 use std::alloc::Global;
@@ -76,21 +74,8 @@ impl<'a> PartialGoal<'a> {
         requires opened { IsOpened spec.now goal.now opened.now.spec opened.now.goal }
         ensures { IfOk result (λ made. made ≡ partial spec.now goal.now opened.now.spec) }
     {
-        let shifted = &opened.goal;
-        let variables = shifted.vars.len();
         let machine = Machine::new(alloc, &opened.spec)?;
-        let (machine, premises) = compile_sides(
-            alloc,
-            machine,
-            shifted.premises.as_slice(),
-            variables,
-        )?;
-        let (machine, conclusions) = compile_sides(
-            alloc,
-            machine,
-            shifted.conclusions.as_slice(),
-            variables,
-        )?;
+        let (machine, premises, conclusions) = compile_goal(alloc, machine, &opened.goal)?;
         let constants = Constants {
             from: spec.sig.constructors(),
             to: opened.spec.sig.constructors(),
@@ -261,38 +246,6 @@ fn add_symbol(
     let place = bank.add(symbol, &[])?;
     ids.push(ValueId(place as usize))?;
     Ok(ids)
-}
-
-/// The verdict where all variables have values.
-fn whole_verdict(
-    alloc: Global,
-    machine: &Machine,
-    bank: &mut Bank,
-    kept: &mut KeptCalls,
-    premises: &[SidePair],
-    conclusions: &[SidePair],
-    values: &[ValueId],
-    budget: u32,
-) -> Result<Verdict, OutOfMemory>
-    requires fine { IsWellSorted machine.now.spec }
-    requires kept { AreRight machine.now.spec bank.old kept.old }
-    requires ready { (goal : Goal) × (terms : List Tree)
-        × CanCompareAll machine.now bank.old premises.now values.now goal.premises terms
-        × CanCompareAll machine.now bank.old conclusions.now values.now goal.conclusions terms }
-    ensures decided { IfOk result (λ verdict. (goal : Goal) (terms : List Tree)
-        → CanCompareAll machine.now bank.old premises.now values.now goal.premises terms
-        → CanCompareAll machine.now bank.old conclusions.now values.now goal.conclusions terms
-        → IsDecided machine.now.spec terms budget goal verdict) }
-    ensures adds { AddsCells bank.old bank.new }
-    ensures kept { IfOk result (λ _. AreRight machine.now.spec bank.new kept.new) }
-{
-    match compare_premises(alloc, machine, bank, kept, premises, values, budget)? {
-        Sides::Spent => Ok(Verdict::Spent),
-        Sides::Differ => Ok(Verdict::Holds),
-        Sides::Same => {
-            compare_conclusions(alloc, machine, bank, kept, conclusions, values, budget)
-        }
-    }
 }
 
 /// The verdict where some variables have no value, if there is one whatever they are.

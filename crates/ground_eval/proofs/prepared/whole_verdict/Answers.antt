@@ -3,7 +3,7 @@ use Rattle.term_core.proofs.Items.{if_ok_map}
 use Rattle.ground_eval.specs.Sides.{PremisesAre}
 use Rattle.ground_eval.proofs.Comparable.{compared_still}
 use Rattle.ground_eval.proofs.Walks.{conclusions_decide}
-use Rattle.ground_eval.proofs.parts.whole_verdict.Goals as goal
+use Rattle.ground_eval.proofs.prepared.whole_verdict.Goals as goal
 
 pub compare_premises-requires-clause-ready : goal.compare_premises-requires-clause-ready
 compare_premises-requires-clause-ready c =
