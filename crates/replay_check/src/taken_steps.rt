@@ -1,18 +1,18 @@
 ghost use Rattle.std.specs.Prelude.{◌≡◌, ◌<◌, ◌≤◌, ◌++◌, [], ◌∷◌, IfOk, OnOk, Contains, length};
 ghost use Rattle.inference_rules.specs.Answers.{clauses_of};
 ghost use Rattle.inference_rules.specs.Nodes.{AreNodes, clauses_made};
-ghost use Rattle.block_links.specs.Links.{links_of, without_sides};
+ghost use Rattle.block_links.specs.Links.{links_of};
 ghost use Rattle.replay_check.specs.Kept.{IsNeededBehind, LetsGo};
 ghost use Rattle.replay_check.specs.Taken.{TakesStep};
 
 use crate::last_uses::referred_node;
-use block_links::apart;
+use block_links::{apart, clause_without_sides};
 use clause_core::{Children, Clause, Step, Why};
 use inference_rules::{Node, StepError, children};
 use path_order::TermOrder;
 use spec_admit::Admitted;
 use std::alloc::Global;
-use term_core::{OutOfMemory, Seq};
+use term_core::OutOfMemory;
 
 /// The nodes of a block so far, and the links from those whose steps are taken.
 #[derive(Drop)]
@@ -103,15 +103,5 @@ impl TakenSteps {
             let clause = clause_without_sides(alloc);
             self.nodes[node] = Node { clause };
         }
-    }
-}
-
-fn clause_without_sides(alloc: Global) -> Clause
-    ensures { result ≡ without_sides }
-{
-    Clause {
-        ctx: Seq::new(alloc),
-        premises: Seq::new(alloc),
-        conclusions: Seq::new(alloc),
     }
 }
