@@ -1,4 +1,4 @@
-ghost use Rattle.std.specs.Prelude.{◌≡◌, ◌<◌, ◌↔◌, ◌∷◌, ◌++◌, [], Some, IsTrue, IfOk, OnOk, OnErr, MatchOption, length, slice_get};
+ghost use Rattle.std.specs.Prelude.{◌≡◌, ◌≤◌, ◌<◌, ◌↔◌, suc, ◌∷◌, ◌++◌, [], Some, IsTrue, IfOk, OnOk, OnErr, MatchOption, length, slice_get};
 ghost use Rattle.term_core.specs.Tree.{Tree};
 ghost use Rattle.value_bank.specs.Cells.{cell, IsTerm, AreBelow, IsNowhere, AddsCells};
 ghost use Rattle.value_bank.specs.Hashing.{hash_of};
@@ -105,6 +105,7 @@ impl Bank {
         requires { AreBelow (length self.old) args.now }
         ensures found { IfOk result (λ p. slice_get self.new p ≡ Some (cell sym args.now)) }
         ensures adds { AddsCells self.old self.new }
+        ensures few { length self.new ≤ suc (length self.old) }
     {
         let hash = hash_cell(sym, args);
         match self.find(sym, args, hash) {
@@ -121,6 +122,7 @@ impl Bank {
         requires nowhere { IsNowhere self.old (cell sym args.now) }
         ensures found { IfOk result (λ p. slice_get self.new p ≡ Some (cell sym args.now)) }
         ensures adds { AddsCells self.old self.new }
+        ensures few { length self.new ≤ suc (length self.old) }
     {
         let place = self.cells.len();
         // A place has 32 bits, and so has the number after it by which a link names it.

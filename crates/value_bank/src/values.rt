@@ -1,5 +1,5 @@
-ghost use Rattle.std.specs.Prelude.{◌≡◌, ◌++◌, IfOk};
-ghost use Rattle.term_core.specs.Tree.{trees_of};
+ghost use Rattle.std.specs.Prelude.{◌≡◌, ◌≤◌, ◌+◌, ◌++◌, IfOk, length};
+ghost use Rattle.term_core.specs.Tree.{trees_of, tree_size, sizes};
 ghost use Rattle.value_bank.specs.Cells.{IsTerm, AreTerms, AddsCells};
 ghost use Rattle.value_bank.specs.Ground.{IsGround, AreGround};
 ghost use Rattle.value_bank.specs.Placing.{AddsPlaces};
@@ -15,6 +15,7 @@ impl Bank {
         requires { IsGround value.now }
         ensures placed { IfOk result (λ id. IsTerm self.new id.0 value.now) }
         ensures adds { AddsCells self.old self.new }
+        ensures few { length self.new ≤ length self.old + tree_size value.now }
     {
         let place = self.place(alloc, value)?;
         Ok(ValueId(place as usize))
@@ -25,6 +26,7 @@ impl Bank {
         requires { IsGround value.now }
         ensures placed { IfOk result (λ p. IsTerm self.new p value.now) }
         ensures adds { AddsCells self.old self.new }
+        ensures few { length self.new ≤ length self.old + tree_size value.now }
     {
         match &value.node {
             Node::Var(_) => unreachable!(),
@@ -47,6 +49,7 @@ impl Bank {
         requires { AreGround (trees_of values.now) }
         ensures placed { IfOk result (λ _. AddsPlaces self.new (trees_of values.now) places.old.items places.new.items) }
         ensures adds { AddsCells self.old self.new }
+        ensures few { length self.new ≤ length self.old + sizes (trees_of values.now) }
     {
         match front(values) {
             None => Ok(()),
