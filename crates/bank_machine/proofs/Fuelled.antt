@@ -1,19 +1,20 @@
 -- The moves that are left fall at each move.
-use Rattle.std.proofs.Common.{◌≡◌, inl, inr, ℕ, zero, suc, ◌+◌, ◌*◌, ◌-◌, ◌<◌, ◌≤◌, List, [], ◌∷◌, Some, None, refl, ap, ◌∙◌, arith, length, drop}
+use Rattle.std.proofs.Common.{◌≡◌, inl, inr, ℕ, zero, suc, ◌+◌, ◌*◌, ◌-◌, ◌<◌, ◌≤◌, List, [], ◌∷◌, Some, None, refl, ap, sym, ◌∙◌, arith, length, drop}
 use Rattle.std.specs.Prelude.{slice_get, reverse}
-use Rattle.std.proofs.Math.Nat.{suc-mul, mul-le-mul_right}
+use Rattle.std.proofs.Math.Nat.{suc-mul, mul-suc, mul_comm, mul-le-mul_right}
 use Rattle.std.proofs.lemmas.Option.{slice_get_within}
 use Rattle.term_core.proofs.Items.{drop_here}
+use Rattle.term_core.specs.Tree.{Tree}
 use Rattle.spec_core.specs.Sig.{Sig}
 use Rattle.spec_core.specs.declared.records.Rule.{Rule}
 use Rattle.value_bank.specs.Cells.{Cell}
 use Rattle.bank_machine.specs.declared.held.Held.{Held}
 use Rattle.bank_machine.specs.Code.{Step, End, slot, last, decide}
-use Rattle.bank_machine.specs.Compiled.{IsNext}
-use Rattle.bank_machine.specs.Fuel.{most_guards, behind, moves_from, held_moves, block_moves, frames_moves, state_moves, stack_moves, call_moves, fuel}
+use Rattle.bank_machine.specs.Compiled.{IsBody, IsNext}
+use Rattle.bank_machine.specs.Fuel.{most_guards, behind, moves_from, held_moves, block_moves, frames_moves, state_moves, stack_moves, call_moves, fuel, most_added}
 use Rattle.bank_machine.specs.Instructions.{Instruction, does, ends, IsCodeAt}
 use Rattle.bank_machine.specs.Programs.{Program}
-use Rattle.bank_machine.specs.Stacks.{Stack, Waits, IsAt}
+use Rattle.bank_machine.specs.Stacks.{Stack, stack, Waits, IsAt}
 use Rattle.bank_machine.specs.States.{Frame, State, Moves, builds, enters, enters_last, returns, decides, recalls}
 use Rattle.bank_machine.proofs.Branching.{goes_within}
 
@@ -64,6 +65,12 @@ behind_next most room sig homes number rule k n steps (decide s m j hs) (inr (g,
     let r : j ≡ k = cc in
     omega (arith, ap (λ z. (most - z) * room) r)
 
+-- the code of a term ends with no test
+body_behind : (most room : ℕ) (sig : Sig) (homes : List ℕ) (term : Tree) (next : ℕ) (steps : List Step) (end : End) → IsBody sig homes term next steps end → behind most room end ≡ 0
+body_behind most room sig homes term next steps (slot s) h = refl
+body_behind most room sig homes term next steps (last f ss) h = refl
+body_behind most room sig homes term next steps (decide s number k hs) h = absurd h
+
 -- what falls by one at least
 both : (a b c x : ℕ) → a < b → (c ≡ 0 → a < b) × (a < b + x)
 both a b c x h = (λ e. h, omega (arith, h))
@@ -108,3 +115,22 @@ module _ (p : Program) where
   move_falls old new before after s next left (suc c) le a b m =
       let t : suc (left - suc c) * call_moves p ≤ left * call_moves p = mul-le-mul_right (call_moves p) (omega (arith, le)) in
       omega (arith, t, suc-mul (left - suc c) (call_moves p), stack_is old before s a, stack_is new after next b, (state_falls new after m b).1)
+
+  -- some fuel is left in each state
+  pub some_fuel : (cells : List Cell) (stack : Stack) (s : State) (left : ℕ) → IsAt p.code cells stack s → 0 < fuel p stack left
+  some_fuel cells stack s left at = omega (arith, stack_is cells stack s at)
+
+  call_is : call_moves p ≡ suc (length p.code) * suc (most_guards p.spec.rules)
+  call_is =
+      let a = mul-suc (suc (length p.code)) (most_guards p.spec.rules) in
+      let b = mul_comm (suc (length p.code)) (most_guards p.spec.rules) in
+      omega (arith, a, b)
+
+  -- the fuel of a run that begins with the code of a term
+  pub first_fuel : (homes places : List ℕ) (term : Tree) (next side budget : ℕ) (steps : List Step) (end : End) → IsCodeAt p.code side steps end → IsBody p.spec.sig homes term next steps end → fuel p (stack places 0 side []) budget ≤ most_added p budget
+  unfolding most_added
+  first_fuel homes places term next side budget steps end at body =
+      let b = block_is (most_guards p.spec.rules) (suc (length p.code)) p.code side steps end at in
+      let c = body_behind (most_guards p.spec.rules) (suc (length p.code)) p.spec.sig homes term next steps end body in
+      let m : suc budget * (suc (length p.code) * suc (most_guards p.spec.rules)) ≡ budget * call_moves p + call_moves p = ap (λ n. suc budget * n) (sym call_is) ∙ suc-mul budget (call_moves p) in
+      omega (arith, b, c, m, code_short p.code side steps end at)

@@ -1,5 +1,5 @@
 -- A run of the machine, move by move.
-use Rattle.std.proofs.Common.{◌≡◌, ℕ, ◌+◌, ◌-◌, ◌<◌, List, [], refl, sym, subst, arith}
+use Rattle.std.proofs.Common.{◌≡◌, ℕ, suc, ◌+◌, ◌-◌, ◌<◌, ◌≤◌, List, [], refl, sym, subst, arith, length}
 use Rattle.term_core.specs.Tree.{var, instance}
 use Rattle.term_core.specs.declared.ids.SortId.{SortId}
 use Rattle.spec_core.specs.WellSorted.{IsWellSorted}
@@ -16,7 +16,7 @@ use Rattle.bank_machine.specs.Stacks.{Stack, IsAt}
 use Rattle.bank_machine.specs.States.{State, state, Moves, Runs, stays, then}
 use Rattle.bank_machine.specs.Turns.{Works, Turns}
 use Rattle.bank_machine.proofs.Fitting.{moves_sound}
-use Rattle.bank_machine.proofs.Fuelled.{move_falls}
+use Rattle.bank_machine.proofs.Fuelled.{move_falls, some_fuel}
 use Rattle.bank_machine.proofs.Ranging.{move_ranged}
 
 -- how far a run has come from a state that the stack stood for
@@ -31,6 +31,16 @@ pub record HasRun (p : Program) (cells : List Cell) (stack : Stack) (from : Stat
 abbrev pub HaveRun : Program → List Cell → List Cell → Stack → Stack → ℕ → ℕ → Type 0
 HaveRun p old cells start stack budget left = (s : State) (sort : SortId) → Works p old start s sort → Pays p budget start s → HasRun p cells stack s sort budget left
 
+-- the cells that were added are paid by the fuel that was used
+abbrev pub HasAddedFew : Program → List Cell → List Cell → Stack → Stack → ℕ → ℕ → Type 0
+HasAddedFew p old cells start stack budget left = length cells + fuel p stack left ≤ length old + fuel p start budget
+
+pub few_yet : (old mid new start before after : ℕ) → mid + before ≤ old + start → new ≤ suc mid → after < before → new + after ≤ old + start
+few_yet old mid new start before after h one less = omega (arith, h, one, less)
+
+few_at_end : (old mid new start now : ℕ) → mid + now ≤ old + start → new ≤ suc mid → 0 < now → new ≤ old + start
+few_at_end old mid new start now h one some = omega (arith, h, one, some)
+
 pub run_begins : (p : Program) (cells : List Cell) (stack : Stack) (budget left : ℕ) → left ≡ budget → HaveRun p cells cells stack stack budget left
 run_begins p cells stack budget left e s sort w pays = record { now = s; cost = 0; ran = stays; works = w; pays = subst (λ n. Pays p n stack s) (sym e) pays; paid = omega (arith, e) }
 
@@ -43,6 +53,9 @@ module _ (p : Program) (fine : IsWellSorted p.spec) (cells new : List Cell) (sta
 
   pub moves_fall : (c : ℕ) → Turns p new left after h.now (Moved c) → fuel p after (left - c) < fuel p stack left
   moves_fall c t = move_falls p cells new stack after h.now t.1.0 left c t.0 h.works.at t.1.2 t.1.1
+
+  pub few_added : (old : List Cell) (start : Stack) → HasAddedFew p old cells start stack budget left → length new ≤ suc (length cells) → length new ≤ length old + fuel p start budget
+  few_added old start few one = few_at_end (length old) (length cells) (length new) (fuel p start budget) (fuel p stack left) few one (some_fuel p cells stack h.now left h.works.at)
 
   pub run_ends : (id : ValueId) (steps place : ℕ) → id.0 ≡ place → steps ≡ budget - left → Turns p new left after h.now (Done place) → Ran p.spec new from budget (Value id steps)
   run_ends id steps place e k (env, i, is, term) =

@@ -1,4 +1,4 @@
--- How many moves are left before the next use of a rule, at most.
+-- How many moves are left before the next use of a rule, at most, and how many cells a run adds.
 use Rattle.std.specs.Prelude.{ℕ, suc, ◌+◌, ◌*◌, ◌-◌, max, List, [], ◌∷◌, length, drop, reverse}
 use Rattle.spec_core.specs.declared.records.Rule.{Rule}
 use Rattle.bank_machine.specs.declared.held.Held.{Held}
@@ -51,3 +51,8 @@ call_moves p = suc (length p.code + most_guards p.spec.rules * suc (length p.cod
 -- falls at each move, where so many uses of rules are left
 abbrev pub fuel : Program → Stack → ℕ → ℕ
 fuel p s left = left * call_moves p + stack_moves p s
+
+-- the most cells that a run within the budget adds: the term, and then each use of a rule, runs through at most so many
+-- instructions, of which each adds one cell at most
+unfoldable pub most_added : Program → ℕ → ℕ
+most_added p budget = suc budget * (suc (length p.code) * suc (most_guards p.spec.rules))

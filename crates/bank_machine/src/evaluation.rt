@@ -1,8 +1,9 @@
-ghost use Rattle.std.specs.Prelude.{ℕ, List, IfOk};
+ghost use Rattle.std.specs.Prelude.{ℕ, ◌≤◌, ◌+◌, List, IfOk, length};
 ghost use Rattle.term_core.specs.Tree.{Tree, instance};
 ghost use Rattle.term_core.specs.declared.ids.SortId.{SortId};
 ghost use Rattle.spec_core.specs.WellSorted.{IsWellSorted};
 ghost use Rattle.value_bank.specs.Cells.{AddsCells};
+ghost use Rattle.bank_machine.specs.Fuel.{fuel, most_added};
 ghost use Rattle.bank_machine.specs.KeptCalls.{AreRight};
 ghost use Rattle.bank_machine.specs.Owed.{Pays};
 ghost use Rattle.bank_machine.specs.Stacks.{shown};
@@ -40,6 +41,7 @@ impl<'a> Machine<'a> {
             → IsBankEval self.now.spec bank.new (instance terms term) budget found) }
         ensures adds { AddsCells bank.old bank.new }
         ensures kept { IfOk result (λ _. AreRight self.now.spec bank.new kept.new) }
+        ensures few { IfOk result (λ _. length bank.new ≤ length bank.old + most_added self.now budget) }
     {
         let mut slots = Vec::with_capacity(alloc, values.len())?;
         for value in values {
@@ -64,6 +66,7 @@ impl<'a> Machine<'a> {
             → Pays self.now budget (shown stack) s → Ran self.now.spec bank.new s budget found) }
         ensures adds { AddsCells bank.old bank.new }
         ensures kept { IfOk result (λ _. AreRight self.now.spec bank.new kept.new) }
+        ensures few { IfOk result (λ _. length bank.new ≤ length bank.old + fuel self.now (shown stack) budget) }
     {
         let mut args = Vec::new(alloc);
         let mut left = budget;

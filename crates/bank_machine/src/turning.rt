@@ -1,4 +1,4 @@
-ghost use Rattle.std.specs.Prelude.{ℕ, List, ◌≡◌, ◌<◌, ◌≤◌, ◌+◌, ◌^◌, Some, IfOk, slice_get};
+ghost use Rattle.std.specs.Prelude.{ℕ, suc, List, ◌≡◌, ◌<◌, ◌≤◌, ◌+◌, ◌^◌, Some, IfOk, length, slice_get};
 ghost use Rattle.spec_core.specs.WellSorted.{IsWellSorted};
 ghost use Rattle.value_bank.specs.Cells.{AddsCells};
 ghost use Rattle.bank_machine.specs.Code.{build as build_step, call as call_step, slot as slot_end, last as last_end, decide as decide_end};
@@ -31,6 +31,7 @@ impl<'a> Machine<'a> {
         requires works { IsUnderWay self.now bank.old left (shown stack.old) }
         ensures turn { IfOk result (IsTurn self.now bank.old bank.new left (shown stack.old) (shown stack.new)) }
         ensures adds { AddsCells bank.old bank.new }
+        ensures few { length bank.new ≤ suc (length bank.old) }
         ensures kept { IfOk result (λ _. AreRight self.now.spec bank.new kept.new) }
     {
         let (kind, slots) = self.code.at(stack.next);
@@ -61,6 +62,7 @@ impl<'a> Machine<'a> {
         requires works { IsWorking self.now bank.old (shown stack.old) }
         ensures turn { IfOk result (λ turn. (left : ℕ) → IsTurn self.now bank.old bank.new left (shown stack.old) (shown stack.new) turn) }
         ensures adds { AddsCells bank.old bank.new }
+        ensures few { length bank.new ≤ suc (length bank.old) }
     {
         stack.gather(slots, args)?;
         let place = bank.add(sym, args)?;

@@ -1,12 +1,14 @@
-use Rattle.std.proofs.Common.{[], ap, sym, ◌∙◌, subst, arith, map}
+use Rattle.std.proofs.Common.{◌≤◌, [], ap, sym, ◌∙◌, subst, arith, map}
 use Rattle.std.proofs.lemmas.List.{take_all}
 use Rattle.std.proofs.lemmas.Option.{slice_get-get_or}
 use Rattle.term_core.proofs.Items.{if_ok_map}
 use Rattle.value_bank.specs.declared.bank.ValueId.{ValueId}
+use Rattle.bank_machine.specs.Fuel.{fuel, most_added}
 use Rattle.bank_machine.specs.Owed.{Pays}
 use Rattle.bank_machine.specs.Stacks.{shown}
 use Rattle.bank_machine.specs.States.{state}
 use Rattle.bank_machine.specs.Turns.{IsUnderWay, Works}
+use Rattle.bank_machine.proofs.Fuelled.{first_fuel}
 use Rattle.bank_machine.proofs.Starting.{id_within, starts, evaluated}
 use Rattle.bank_machine.proofs.machine.Machine.run.Goals as goal
 
@@ -32,3 +34,9 @@ returns-clause-found c =
     let pays : Pays c.args.self.now c.args.budget (shown c.new.result) (state terms can.code.0 can.code.1 []) = subst (λ z. Pays c.args.self.now c.args.budget z (state terms can.code.0 can.code.1 [])) (sym c.new.ensures) tt in
     evaluated c.args.self.now c.requires.fine c.args.bank.now c.args.side c.args.values.now term terms sort can c.run_on.new.bank c.args.budget found (h (state terms can.code.0 can.code.1 []) sort works pays))
     c.run_on.ensures.ran
+
+pub returns-clause-few : goal.returns-clause-few
+returns-clause-few c =
+    let q = c.requires.sorted in
+    let first : fuel c.args.self.now (shown c.new.result) c.args.budget ≤ most_added c.args.self.now c.args.budget = subst (λ z. fuel c.args.self.now z c.args.budget ≤ most_added c.args.self.now c.args.budget) (sym c.new.ensures) (first_fuel c.args.self.now _ c.loop-value.slots.items q.0 _ c.args.side c.args.budget q.3.code.0 q.3.code.1 q.3.code.2 q.3.code.3) in
+    if_ok_map c.run_on.result _ _ (λ found h. omega (arith, h, first)) c.run_on.ensures.few

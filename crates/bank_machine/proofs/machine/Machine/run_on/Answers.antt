@@ -1,13 +1,13 @@
-use Rattle.std.proofs.Common.{◌-◌, refl, subst, arith}
+use Rattle.std.proofs.Common.{◌-◌, refl, subst, arith, length}
 use Rattle.value_bank.specs.declared.bank.ValueId.{ValueId}
 use Rattle.value_bank.proofs.Placed.{adds_nothing, adds_both}
 use Rattle.bank_machine.specs.Stacks.{shown}
 use Rattle.bank_machine.specs.Turns.{IsTurn}
-use Rattle.bank_machine.proofs.RunsOn.{run_begins, run_moves, moves_fall, run_ends, run_stuck}
+use Rattle.bank_machine.proofs.RunsOn.{run_begins, run_moves, moves_fall, few_yet, few_added, run_ends, run_stuck}
 use Rattle.bank_machine.proofs.machine.Machine.run_on.Goals as goal
 
 pub moves-init : goal.moves-init
-moves-init c = record { runs = run_begins c.args.self.now c.args.bank.now (shown c.args.stack) c.args.budget c.args.budget refl; adds = adds_nothing c.args.bank.now; kept = c.requires.kept }
+moves-init c = record { runs = run_begins c.args.self.now c.args.bank.now (shown c.args.stack) c.args.budget c.args.budget refl; adds = adds_nothing c.args.bank.now; kept = c.requires.kept; few = omega arith }
 
 pub turn-requires-clause-works : goal.turn-requires-clause-works
 turn-requires-clause-works c =
@@ -38,6 +38,11 @@ moves-preserved c =
           run_moves c.args.self.now c.requires.fine c.moves.bank c.turn.new.bank (shown c.moves.stack) (shown c.turn.new.stack) s sort c.args.budget c.moves.left h c.in-Moved.cost (t h.now sort h.works h.pays);
       adds = adds_both c.args.bank.now c.moves.bank c.turn.new.bank c.moves.invariant.adds c.in_ok-cost.ensures.adds;
       kept = c.in_ok-cost.ensures.kept;
+      few =
+          let q = c.requires.works in
+          let h = c.moves.invariant.runs q.0 q.1 q.2 q.3 in
+          let fall = moves_fall c.args.self.now c.requires.fine c.moves.bank c.turn.new.bank (shown c.moves.stack) (shown c.turn.new.stack) q.0 q.1 c.args.budget c.moves.left h c.in-Moved.cost (t h.now q.1 h.works h.pays) in
+          few_yet (length c.args.bank.now) (length c.moves.bank) (length c.turn.new.bank) _ _ _ c.moves.invariant.few c.in_ok-cost.ensures.few fall;
     }
 
 pub overflow_sub-result : goal.overflow_sub-result
@@ -64,3 +69,15 @@ returns-in-Done-clause-adds c = adds_both c.args.bank.now c.moves.bank c.turn.ne
 
 pub returns-in-Stuck-clause-adds : goal.returns-in-Stuck-clause-adds
 returns-in-Stuck-clause-adds c = adds_both c.args.bank.now c.moves.bank c.turn.new.bank c.moves.invariant.adds c.in_ok-cost.ensures.adds
+
+pub returns-in-Done-clause-few : goal.returns-in-Done-clause-few
+returns-in-Done-clause-few c =
+    let q = c.requires.works in
+    let h = c.moves.invariant.runs q.0 q.1 q.2 q.3 in
+    few_added c.args.self.now c.requires.fine c.moves.bank c.turn.new.bank (shown c.moves.stack) (shown c.turn.new.stack) q.0 q.1 c.args.budget c.moves.left h c.args.bank.now (shown c.args.stack) c.moves.invariant.few c.in_ok-cost.ensures.few
+
+pub returns-in-Stuck-clause-few : goal.returns-in-Stuck-clause-few
+returns-in-Stuck-clause-few c =
+    let q = c.requires.works in
+    let h = c.moves.invariant.runs q.0 q.1 q.2 q.3 in
+    few_added c.args.self.now c.requires.fine c.moves.bank c.turn.new.bank (shown c.moves.stack) (shown c.turn.new.stack) q.0 q.1 c.args.budget c.moves.left h c.args.bank.now (shown c.args.stack) c.moves.invariant.few c.in_ok-cost.ensures.few
