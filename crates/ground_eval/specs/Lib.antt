@@ -4,6 +4,7 @@ pub mod Sides
 pub mod Prepared
 pub mod Laws
 pub mod Opened
+pub mod Looked
 -- What only this crate's own contracts speak of, where some variables have no value.
 pub mod Constants
 pub mod OpenSides

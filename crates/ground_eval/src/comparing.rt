@@ -1,10 +1,12 @@
-ghost use Rattle.std.specs.Prelude.{◌≡◌, ℕ, List, IfOk};
+ghost use Rattle.std.specs.Prelude.{◌≡◌, ◌≤◌, ◌+◌, ◌*◌, ℕ, List, IfOk, length};
 ghost use Rattle.std.specs.List.{AllByRecursion};
 ghost use Rattle.term_core.specs.Tree.{Tree};
 ghost use Rattle.spec_core.specs.WellSorted.{IsWellSorted};
 ghost use Rattle.spec_core.specs.declared.records.Equation.{Equation};
 ghost use Rattle.value_bank.specs.Cells.{AddsCells};
+ghost use Rattle.bank_machine.specs.Fuel.{most_added};
 ghost use Rattle.bank_machine.specs.KeptCalls.{AreRight};
+ghost use Rattle.ground_eval.specs.Looked.{most_compared};
 ghost use Rattle.ground_eval.specs.Prepared.{CanCompare, CanCompareAll};
 ghost use Rattle.ground_eval.specs.Sides.{SidesAre, PremisesAre, ConclusionsAre};
 
@@ -40,6 +42,7 @@ pub(crate) fn compare_premises(
         → PremisesAre machine.now.spec terms budget es r) }
     ensures adds { AddsCells bank.old bank.new }
     ensures kept { IfOk result (λ _. AreRight machine.now.spec bank.new kept.new) }
+    ensures few { IfOk result (λ _. length bank.new ≤ length bank.old + most_compared machine.now (length premises.now) budget) }
 {
     for premise in premises {
         match compare_sides(alloc, machine, bank, kept, *premise, values, budget)? {
@@ -69,6 +72,7 @@ pub(crate) fn compare_conclusions(
         → ConclusionsAre machine.now.spec terms budget es r) }
     ensures adds { AddsCells bank.old bank.new }
     ensures kept { IfOk result (λ _. AreRight machine.now.spec bank.new kept.new) }
+    ensures few { IfOk result (λ _. length bank.new ≤ length bank.old + most_compared machine.now (length conclusions.now) budget) }
 {
     for conclusion in conclusions {
         match compare_sides(alloc, machine, bank, kept, *conclusion, values, budget)? {
@@ -98,6 +102,7 @@ fn compare_sides(
         → SidesAre machine.now.spec terms budget e r) }
     ensures adds { AddsCells bank.old bank.new }
     ensures kept { IfOk result (λ _. AreRight machine.now.spec bank.new kept.new) }
+    ensures few { IfOk result (λ _. length bank.new ≤ length bank.old + 2 * most_added machine.now budget) }
 {
     match machine.run(alloc, bank, kept, sides.left, values, budget)? {
         BankEval::Spent => Ok(Sides::Spent),

@@ -1,9 +1,11 @@
-ghost use Rattle.std.specs.Prelude.{List, IfOk};
+ghost use Rattle.std.specs.Prelude.{◌≤◌, ◌+◌, ◌*◌, List, IfOk, length};
 ghost use Rattle.spec_core.specs.WellSorted.{IsWellSorted};
 ghost use Rattle.spec_core.specs.declared.records.Equation.{Equation};
 ghost use Rattle.value_bank.specs.Cells.{AddsCells};
+ghost use Rattle.bank_machine.specs.Fuel.{most_added};
 ghost use Rattle.bank_machine.specs.KeptCalls.{AreRight};
 ghost use Rattle.ground_eval.specs.Constants.{AreMarks};
+ghost use Rattle.ground_eval.specs.Looked.{most_compared};
 ghost use Rattle.ground_eval.specs.OpenSides.{Setting, IsSet, CanOpen, CanOpenAll, SidesOpen, PremisesOpen, ConclusionsOpen};
 
 use crate::answers::OpenSides;
@@ -37,6 +39,7 @@ pub(crate) fn compare_open_premises(
     ensures adds { AddsCells bank.old bank.new }
     ensures kept { IfOk result (λ _. AreRight machine.now.spec bank.new kept.new) }
     ensures marks { IfOk result (λ _. AreMarks constants.from constants.to bank.new marks.new.marks.items) }
+    ensures few { IfOk result (λ _. length bank.new ≤ length bank.old + most_compared machine.now (length premises.now) budget) }
 {
     for premise in premises {
         match compare_open_sides(
@@ -72,6 +75,7 @@ pub(crate) fn compare_open_conclusions(
     ensures adds { AddsCells bank.old bank.new }
     ensures kept { IfOk result (λ _. AreRight machine.now.spec bank.new kept.new) }
     ensures marks { IfOk result (λ _. AreMarks constants.from constants.to bank.new marks.new.marks.items) }
+    ensures few { IfOk result (λ _. length bank.new ≤ length bank.old + most_compared machine.now (length conclusions.now) budget) }
 {
     for conclusion in conclusions {
         match compare_open_sides(
@@ -115,6 +119,7 @@ fn compare_open_sides(
     ensures adds { AddsCells bank.old bank.new }
     ensures kept { IfOk result (λ _. AreRight machine.now.spec bank.new kept.new) }
     ensures marks { IfOk result (λ _. AreMarks constants.from constants.to bank.new marks.new.marks.items) }
+    ensures few { IfOk result (λ _. length bank.new ≤ length bank.old + 2 * most_added machine.now budget) }
 {
     match machine.run(alloc, bank, kept, sides.left, values, budget)? {
         BankEval::Spent => Ok(OpenSides::Unknown),

@@ -1,4 +1,4 @@
-ghost use Rattle.std.specs.Prelude.{◌≡◌, ◌≢◌, ◌++◌, ℕ, List, [], ◌∷◌, IfOk, Some, MatchOption, length, slice_get};
+ghost use Rattle.std.specs.Prelude.{◌≡◌, ◌≢◌, ◌≤◌, ◌+◌, ◌-◌, ◌++◌, ℕ, suc, List, [], ◌∷◌, IfOk, Some, MatchOption, length, slice_get};
 ghost use Rattle.term_core.specs.Tree.{Tree, app, none};
 ghost use Rattle.spec_core.specs.declared.records.Goal.{Goal};
 ghost use Rattle.spec_core.specs.WellSorted.{IsWellSorted};
@@ -7,6 +7,7 @@ ghost use Rattle.bank_machine.specs.KeptCalls.{AreRight};
 ghost use Rattle.bank_machine.specs.Runs.{StandAt};
 ghost use Rattle.ground_eval.specs.Constants.{AreMarks};
 ghost use Rattle.ground_eval.specs.Entries.{AreEntriesAt, SayOfAll};
+ghost use Rattle.ground_eval.specs.Looked.{most_compared, most_evaluated, most_over, most_looked};
 ghost use Rattle.ground_eval.specs.Opened.{partial, IsOpened, AreFirstValues, AreMarksOf, IsPart};
 ghost use Rattle.ground_eval.specs.OpenSides.{Setting, IsSet, CanOpenAll, GoalOpens};
 
@@ -56,7 +57,7 @@ impl<'a> Model for PartialGoal<'a> {
 
     ghost coded = { Prim.hlevel (codes, spec_contract.the_row.coded, goal_contract.the_row.coded) };
 
-    ghost view = { λ p. partial p.spec.now p.goal.now p.machine.spec };
+    ghost view = { λ p. partial p.spec.now p.goal.now p.machine.spec p.machine.code };
 
     ghost invariant = { λ p. IsPartial p.spec.now p.goal.now p.machine p.opened.now.goal p.constants p.premises.items p.conclusions.items };
 }
@@ -72,7 +73,7 @@ impl<'a> PartialGoal<'a> {
         requires fine { IsWellSorted spec.now }
         requires listed { (k : ℕ) × (slice_get spec.now.goals k ≡ Some goal.now) }
         requires opened { IsOpened spec.now goal.now opened.now.spec opened.now.goal }
-        ensures { IfOk result (λ made. made ≡ partial spec.now goal.now opened.now.spec) }
+        ensures { IfOk result (λ made. made ≡ partial spec.now goal.now opened.now.spec made.code) }
     {
         let machine = Machine::new(alloc, &opened.spec)?;
         let (machine, premises, conclusions) = compile_goal(alloc, machine, &opened.goal)?;
@@ -117,6 +118,7 @@ impl<'a> PartialGoal<'a> {
         ensures adds { AddsCells bank.old bank.new }
         ensures kept { IfOk result (λ _. AreRight self.now.extended bank.new kept.new) }
         ensures marks { IfOk result (λ _. AreMarksOf self.now bank.new marks.new) }
+        ensures few { IfOk result (λ _. length bank.new ≤ length bank.old + most_looked self.now budget) }
     {
         let count = self.goal.vars.len();
         let machine = &self.machine;
@@ -163,6 +165,8 @@ impl<'a> PartialGoal<'a> {
         ensures adds { AddsCells bank.old bank.new }
         ensures kept { IfOk result (λ _. AreRight self.now.extended bank.new kept.new) }
         ensures marks { IfOk result (λ _. AreMarksOf self.now bank.new marks.new) }
+        ensures few { IfOk result (λ _. 2 + length bank.new ≤ length bank.old
+            + most_over self.now (length self.now.goal.vars - length entries.now) budget) }
     {
         let vars = self.goal.vars.as_slice();
         let number = entries.len();
@@ -208,6 +212,7 @@ impl<'a> PartialGoal<'a> {
         ensures adds { AddsCells bank.old bank.new }
         ensures kept { IfOk result (λ _. AreRight self.now.extended bank.new kept.new) }
         ensures marks { IfOk result (λ _. AreMarksOf self.now bank.new marks.new) }
+        ensures few { IfOk result (λ _. length bank.new ≤ length bank.old + most_evaluated self.now budget) }
     {
         open_verdict(
             alloc,
@@ -240,7 +245,9 @@ fn add_symbol(
 ) -> Result<Vec<ValueId>, OutOfMemory>
     ensures stand { IfOk result (λ ids. (terms : List Tree) → StandAt bank.old places.now terms
         → StandAt bank.new ids.items (terms ++ app symbol none ∷ [])) }
+    ensures longer { IfOk result (λ ids. length ids.items ≡ suc (length places.now)) }
     ensures adds { AddsCells bank.old bank.new }
+    ensures few { length bank.new ≤ suc (length bank.old) }
 {
     let mut ids = Vec::from_slice(alloc, places)?;
     let place = bank.add(symbol, &[])?;
@@ -274,6 +281,8 @@ fn open_verdict(
     ensures adds { AddsCells bank.old bank.new }
     ensures kept { IfOk result (λ _. AreRight machine.now.spec bank.new kept.new) }
     ensures marks { IfOk result (λ _. AreMarks constants.from constants.to bank.new marks.new.marks.items) }
+    ensures few { IfOk result (λ _. length bank.new ≤ length bank.old
+        + most_compared machine.now (length premises.now + length conclusions.now) budget) }
 {
     match compare_open_premises(
         alloc, machine, constants, bank, kept, marks, premises, values, budget,

@@ -1,5 +1,5 @@
-ghost use Rattle.std.specs.Prelude.{◌≡◌, ℕ, List, IfOk, length};
-ghost use Rattle.term_core.specs.Tree.{Tree};
+ghost use Rattle.std.specs.Prelude.{◌≡◌, ◌≤◌, ◌+◌, ℕ, List, IfOk, length};
+ghost use Rattle.term_core.specs.Tree.{Tree, trees_of, sizes};
 ghost use Rattle.term_core.specs.declared.ids.SortId.{SortId};
 ghost use Rattle.spec_core.specs.declared.records.Goal.{Goal};
 ghost use Rattle.spec_core.specs.WellSorted.{IsWellSorted, GoalIsSorted, EquationsAreSorted};
@@ -9,6 +9,7 @@ ghost use Rattle.value_bank.specs.Ground.{IsGround};
 ghost use Rattle.bank_machine.specs.Blocks.{AddsCode};
 ghost use Rattle.bank_machine.specs.KeptCalls.{AreRight};
 ghost use Rattle.bank_machine.specs.Runs.{StandAt};
+ghost use Rattle.ground_eval.specs.Looked.{most_compared};
 ghost use Rattle.ground_eval.specs.Prepared.{HaveCode, IsPrepared, CanCompareAll};
 ghost use Rattle.ground_eval.specs.Sides.{IsDecided};
 
@@ -73,6 +74,7 @@ pub(crate) fn place_values(
     requires { AllByRecursion IsGround values.now }
     ensures stand { IfOk result (λ ids. StandAt bank.new ids.items values.now) }
     ensures adds { AddsCells bank.old bank.new }
+    ensures few { length bank.new ≤ length bank.old + sizes (trees_of values.now) }
 {
     let mut ids = Vec::with_capacity(alloc, values.len())?;
     for value in values {
@@ -103,6 +105,8 @@ pub(crate) fn whole_verdict(
         → IsDecided machine.now.spec terms budget goal verdict) }
     ensures adds { AddsCells bank.old bank.new }
     ensures kept { IfOk result (λ _. AreRight machine.now.spec bank.new kept.new) }
+    ensures few { IfOk result (λ _. length bank.new ≤ length bank.old
+        + most_compared machine.now (length premises.now + length conclusions.now) budget) }
 {
     match compare_premises(alloc, machine, bank, kept, premises, values, budget)? {
         Sides::Spent => Ok(Verdict::Spent),

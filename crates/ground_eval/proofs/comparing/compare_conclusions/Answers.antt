@@ -1,9 +1,10 @@
-use Rattle.std.proofs.Common.{subst}
+use Rattle.std.proofs.Common.{◌+◌, arith, subst, length}
 use Rattle.std.proofs.lemmas.Option.{slice_get-get_or}
 use Rattle.spec_core.specs.Verdict.{SidesDiffer}
 use Rattle.value_bank.proofs.Placed.{adds_both}
 use Rattle.ground_eval.specs.Prepared.{pair_of}
 use Rattle.ground_eval.specs.Sides.{SidesAre}
+use Rattle.ground_eval.proofs.FewCells.{few_next, few_all}
 use Rattle.ground_eval.proofs.Lists.{all_more}
 use Rattle.ground_eval.proofs.Walks.{conclusion_holds, conclusion_spent}
 use Rattle.ground_eval.proofs.SharedSides.{paired}
@@ -24,6 +25,7 @@ loop-conclusion-preserved c =
           all_more (SidesDiffer c.args.machine.now.spec terms c.args.budget) es c.loop-conclusion.conclusion-index e.equation e.at (c.loop-conclusion.invariant.differ es terms can) h;
       adds = adds_both c.args.bank.now c.loop-conclusion.bank c.compare_sides.new.bank c.loop-conclusion.invariant.adds c.in_ok-compare_sides.ensures.adds;
       kept = c.in_ok-compare_sides.ensures.kept;
+      few = few_next c.args.machine.now c.args.budget (length c.args.bank.now) (length c.loop-conclusion.bank) (length c.compare_sides.new.bank) c.loop-conclusion.conclusion-index (c.loop-conclusion.conclusion-index + 1) (omega arith) c.loop-conclusion.invariant.few c.in_ok-compare_sides.ensures.few;
     }
 
 pub returns-in-Same-clause-verdict : goal.returns-in-Same-clause-verdict
@@ -43,3 +45,12 @@ returns-in-Spent-clause-verdict c es terms can =
 
 pub returns-in-Spent-clause-adds : goal.returns-in-Spent-clause-adds
 returns-in-Spent-clause-adds c = adds_both c.args.bank.now c.loop-conclusion.bank c.compare_sides.new.bank c.loop-conclusion.invariant.adds c.in_ok-compare_sides.ensures.adds
+
+pub returns-in-Same-clause-few : goal.returns-in-Same-clause-few
+returns-in-Same-clause-few c = few_next c.args.machine.now c.args.budget (length c.args.bank.now) (length c.loop-conclusion.bank) (length c.compare_sides.new.bank) c.loop-conclusion.conclusion-index (length c.args.conclusions.now) c.loop-conclusion-test.true c.loop-conclusion.invariant.few c.in_ok-compare_sides.ensures.few
+
+pub returns-in-Spent-clause-few : goal.returns-in-Spent-clause-few
+returns-in-Spent-clause-few c = few_next c.args.machine.now c.args.budget (length c.args.bank.now) (length c.loop-conclusion.bank) (length c.compare_sides.new.bank) c.loop-conclusion.conclusion-index (length c.args.conclusions.now) c.loop-conclusion-test.true c.loop-conclusion.invariant.few c.in_ok-compare_sides.ensures.few
+
+pub returns-clause-few : goal.returns-clause-few
+returns-clause-few c = few_all c.args.machine.now c.args.budget (length c.args.bank.now) (length c.loop-conclusion.bank) c.loop-conclusion.conclusion-index (length c.args.conclusions.now) (omega (arith, c.loop-conclusion.auto.conclusion-index-end)) c.loop-conclusion.invariant.few

@@ -1,9 +1,10 @@
-use Rattle.std.proofs.Common.{subst}
+use Rattle.std.proofs.Common.{◌+◌, arith, subst, length}
 use Rattle.std.proofs.lemmas.Option.{slice_get-get_or}
 use Rattle.spec_core.specs.Verdict.{SidesSame}
 use Rattle.value_bank.proofs.Placed.{adds_both}
 use Rattle.ground_eval.specs.Prepared.{pair_of}
 use Rattle.ground_eval.specs.Sides.{SidesAre}
+use Rattle.ground_eval.proofs.FewCells.{few_next, few_all}
 use Rattle.ground_eval.proofs.Lists.{all_more}
 use Rattle.ground_eval.proofs.Walks.{premise_differs, premise_spent}
 use Rattle.ground_eval.proofs.SharedSides.{paired}
@@ -24,6 +25,7 @@ loop-premise-preserved c =
           all_more (SidesSame c.args.machine.now.spec terms c.args.budget) es c.loop-premise.premise-index e.equation e.at (c.loop-premise.invariant.same es terms can) h;
       adds = adds_both c.args.bank.now c.loop-premise.bank c.compare_sides.new.bank c.loop-premise.invariant.adds c.in_ok-compare_sides.ensures.adds;
       kept = c.in_ok-compare_sides.ensures.kept;
+      few = few_next c.args.machine.now c.args.budget (length c.args.bank.now) (length c.loop-premise.bank) (length c.compare_sides.new.bank) c.loop-premise.premise-index (c.loop-premise.premise-index + 1) (omega arith) c.loop-premise.invariant.few c.in_ok-compare_sides.ensures.few;
     }
 
 pub returns-in-Differ-clause-sides : goal.returns-in-Differ-clause-sides
@@ -43,3 +45,12 @@ returns-in-Spent-clause-sides c es terms can =
 
 pub returns-in-Spent-clause-adds : goal.returns-in-Spent-clause-adds
 returns-in-Spent-clause-adds c = adds_both c.args.bank.now c.loop-premise.bank c.compare_sides.new.bank c.loop-premise.invariant.adds c.in_ok-compare_sides.ensures.adds
+
+pub returns-in-Differ-clause-few : goal.returns-in-Differ-clause-few
+returns-in-Differ-clause-few c = few_next c.args.machine.now c.args.budget (length c.args.bank.now) (length c.loop-premise.bank) (length c.compare_sides.new.bank) c.loop-premise.premise-index (length c.args.premises.now) c.loop-premise-test.true c.loop-premise.invariant.few c.in_ok-compare_sides.ensures.few
+
+pub returns-in-Spent-clause-few : goal.returns-in-Spent-clause-few
+returns-in-Spent-clause-few c = few_next c.args.machine.now c.args.budget (length c.args.bank.now) (length c.loop-premise.bank) (length c.compare_sides.new.bank) c.loop-premise.premise-index (length c.args.premises.now) c.loop-premise-test.true c.loop-premise.invariant.few c.in_ok-compare_sides.ensures.few
+
+pub returns-clause-few : goal.returns-clause-few
+returns-clause-few c = few_all c.args.machine.now c.args.budget (length c.args.bank.now) (length c.loop-premise.bank) c.loop-premise.premise-index (length c.args.premises.now) (omega (arith, c.loop-premise.auto.premise-index-end)) c.loop-premise.invariant.few

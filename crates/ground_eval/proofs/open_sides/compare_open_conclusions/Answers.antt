@@ -1,8 +1,9 @@
-use Rattle.std.proofs.Common.{arith, subst}
+use Rattle.std.proofs.Common.{◌+◌, arith, subst, length}
 use Rattle.std.proofs.lemmas.Option.{slice_get-get_or}
 use Rattle.value_bank.proofs.Placed.{adds_both}
 use Rattle.ground_eval.specs.Prepared.{pair_of}
 use Rattle.ground_eval.specs.OpenSides.{SidesOpen}
+use Rattle.ground_eval.proofs.FewCells.{few_next, few_all}
 use Rattle.ground_eval.proofs.Lists.{all_more}
 use Rattle.ground_eval.proofs.OpenPairs.{opened_pair}
 use Rattle.ground_eval.proofs.OpenWalking.{Apart, all_taken, all_differ, conclusion_same, conclusion_unknown}
@@ -24,6 +25,7 @@ loop-conclusion-preserved c =
       adds = adds_both c.args.bank.now c.loop-conclusion.bank c.compare_open_sides.new.bank c.loop-conclusion.invariant.adds c.in_ok-compare_open_sides.ensures.adds;
       kept = c.in_ok-compare_open_sides.ensures.kept;
       marks = c.in_ok-compare_open_sides.ensures.marks;
+      few = few_next c.args.machine.now c.args.budget (length c.args.bank.now) (length c.loop-conclusion.bank) (length c.compare_open_sides.new.bank) c.loop-conclusion.conclusion-index (c.loop-conclusion.conclusion-index + 1) (omega arith) c.loop-conclusion.invariant.few c.in_ok-compare_open_sides.ensures.few;
     }
 
 pub returns-in-Same-clause-verdict : goal.returns-in-Same-clause-verdict
@@ -46,3 +48,12 @@ returns-in-Unknown-clause-adds c = adds_both c.args.bank.now c.loop-conclusion.b
 
 pub returns-clause-verdict : goal.returns-clause-verdict
 returns-clause-verdict c s es set can = all_differ s c.args.budget es (all_taken (Apart s c.args.budget) es c.loop-conclusion.conclusion-index (omega (arith, can.count, c.loop-conclusion-test.false)) (c.loop-conclusion.invariant.differ s es set can))
+
+pub returns-in-Same-clause-few : goal.returns-in-Same-clause-few
+returns-in-Same-clause-few c = few_next c.args.machine.now c.args.budget (length c.args.bank.now) (length c.loop-conclusion.bank) (length c.compare_open_sides.new.bank) c.loop-conclusion.conclusion-index (length c.args.conclusions.now) c.loop-conclusion-test.true c.loop-conclusion.invariant.few c.in_ok-compare_open_sides.ensures.few
+
+pub returns-in-Unknown-clause-few : goal.returns-in-Unknown-clause-few
+returns-in-Unknown-clause-few c = few_next c.args.machine.now c.args.budget (length c.args.bank.now) (length c.loop-conclusion.bank) (length c.compare_open_sides.new.bank) c.loop-conclusion.conclusion-index (length c.args.conclusions.now) c.loop-conclusion-test.true c.loop-conclusion.invariant.few c.in_ok-compare_open_sides.ensures.few
+
+pub returns-clause-few : goal.returns-clause-few
+returns-clause-few c = few_all c.args.machine.now c.args.budget (length c.args.bank.now) (length c.loop-conclusion.bank) c.loop-conclusion.conclusion-index (length c.args.conclusions.now) (omega (arith, c.loop-conclusion.auto.conclusion-index-end)) c.loop-conclusion.invariant.few

@@ -1,8 +1,9 @@
-use Rattle.std.proofs.Common.{arith, subst}
+use Rattle.std.proofs.Common.{◌+◌, arith, subst, length}
 use Rattle.std.proofs.lemmas.Option.{slice_get-get_or}
 use Rattle.value_bank.proofs.Placed.{adds_both}
 use Rattle.ground_eval.specs.Prepared.{pair_of}
 use Rattle.ground_eval.specs.OpenSides.{SidesOpen}
+use Rattle.ground_eval.proofs.FewCells.{few_next, few_all}
 use Rattle.ground_eval.proofs.Lists.{all_more}
 use Rattle.ground_eval.proofs.OpenPairs.{opened_pair}
 use Rattle.ground_eval.proofs.OpenWalking.{IsSo, all_taken, premise_differs, premise_unknown}
@@ -24,6 +25,7 @@ loop-premise-preserved c =
       adds = adds_both c.args.bank.now c.loop-premise.bank c.compare_open_sides.new.bank c.loop-premise.invariant.adds c.in_ok-compare_open_sides.ensures.adds;
       kept = c.in_ok-compare_open_sides.ensures.kept;
       marks = c.in_ok-compare_open_sides.ensures.marks;
+      few = few_next c.args.machine.now c.args.budget (length c.args.bank.now) (length c.loop-premise.bank) (length c.compare_open_sides.new.bank) c.loop-premise.premise-index (c.loop-premise.premise-index + 1) (omega arith) c.loop-premise.invariant.few c.in_ok-compare_open_sides.ensures.few;
     }
 
 pub returns-in-Differ-clause-sides : goal.returns-in-Differ-clause-sides
@@ -46,3 +48,12 @@ returns-in-Unknown-clause-adds c = adds_both c.args.bank.now c.loop-premise.bank
 
 pub returns-clause-sides : goal.returns-clause-sides
 returns-clause-sides c s es set can = all_taken (IsSo s c.args.budget) es c.loop-premise.premise-index (omega (arith, can.count, c.loop-premise-test.false)) (c.loop-premise.invariant.same s es set can)
+
+pub returns-in-Differ-clause-few : goal.returns-in-Differ-clause-few
+returns-in-Differ-clause-few c = few_next c.args.machine.now c.args.budget (length c.args.bank.now) (length c.loop-premise.bank) (length c.compare_open_sides.new.bank) c.loop-premise.premise-index (length c.args.premises.now) c.loop-premise-test.true c.loop-premise.invariant.few c.in_ok-compare_open_sides.ensures.few
+
+pub returns-in-Unknown-clause-few : goal.returns-in-Unknown-clause-few
+returns-in-Unknown-clause-few c = few_next c.args.machine.now c.args.budget (length c.args.bank.now) (length c.loop-premise.bank) (length c.compare_open_sides.new.bank) c.loop-premise.premise-index (length c.args.premises.now) c.loop-premise-test.true c.loop-premise.invariant.few c.in_ok-compare_open_sides.ensures.few
+
+pub returns-clause-few : goal.returns-clause-few
+returns-clause-few c = few_all c.args.machine.now c.args.budget (length c.args.bank.now) (length c.loop-premise.bank) c.loop-premise.premise-index (length c.args.premises.now) (omega (arith, c.loop-premise.auto.premise-index-end)) c.loop-premise.invariant.few

@@ -1,9 +1,10 @@
-use Rattle.std.proofs.Common.{List, take}
+use Rattle.std.proofs.Common.{◌+◌, ◌≤◌, List, take, length}
 use Rattle.std.specs.List.{AllByRecursion}
 use Rattle.spec_core.specs.declared.records.Equation.{Equation}
 use Rattle.value_bank.specs.Cells.{AddsCells}
 use Rattle.bank_machine.specs.KeptCalls.{AreRight}
 use Rattle.ground_eval.specs.Constants.{AreMarks}
+use Rattle.ground_eval.specs.Looked.{most_compared}
 use Rattle.ground_eval.specs.OpenSides.{Setting, IsSet, CanOpenAll}
 use Rattle.ground_eval.proofs.OpenWalking.{IsSo}
 use Rattle.ground_eval.proofs.open_sides.compare_open_premises.Given as goal
@@ -14,4 +15,5 @@ invariant-loop-premise l = record {
   adds : AddsCells l.fn.bank l.bank;
   kept : AreRight l.machine.spec l.bank l.kept;
   marks : AreMarks l.constants.from l.constants.to l.bank l.marks.marks.items;
+  few : length l.bank ≤ length l.fn.bank + most_compared l.machine l.premise-index l.budget;
 }

@@ -1,4 +1,4 @@
-use Rattle.std.proofs.Common.{◌+◌, length, subst}
+use Rattle.std.proofs.Common.{◌+◌, arith, length, subst}
 use Rattle.bank_machine.specs.Runs.{IsBankEval}
 use Rattle.term_core.specs.Tree.{instance}
 use Rattle.term_core.proofs.Items.{if_ok_map}
@@ -76,3 +76,6 @@ returns-in-Value-2-clause-sides c =
     let are = subst (λ from. ValuesAre from (s.spec.sig.constructors + length s.sorts) l.0 r.0 answer) set.first (subst (λ to. ValuesAre c.args.constants.from to l.0 r.0 answer) set.past (h l.0 r.0 there r.1)) in
     sides_open s p.spec set.fine set.extends b e can.compared.sorted can.left can.right l.0 r.0 (c.in-Value.steps, l.2, l.3) (c.in-Value-2.steps, r.2, r.3) answer are)
     c.compare_values.ensures.are
+
+pub returns-in-Value-2-clause-few : goal.returns-in-Value-2-clause-few
+returns-in-Value-2-clause-few c = if_ok_map c.compare_values.result _ _ (λ answer h. omega (arith, c.in_ok-run.ensures.few, c.in_ok-run-in-Value.ensures.few)) c.compare_values.ensures.are

@@ -1,6 +1,7 @@
-use Rattle.std.proofs.Common.{subst}
+use Rattle.std.proofs.Common.{◌+◌, arith, subst, length}
 use Rattle.term_core.proofs.Items.{if_ok_map}
 use Rattle.ground_eval.specs.OpenSides.{PremisesOpen}
+use Rattle.ground_eval.proofs.FewCells.{few_all, few_both}
 use Rattle.ground_eval.proofs.OpenPairs.{can_open_all_still}
 use Rattle.ground_eval.proofs.OpenWalking.{goal_opens}
 use Rattle.ground_eval.proofs.parts.open_verdict.Goals as goal
@@ -32,3 +33,12 @@ returns-in-Same-clause-opens c =
     let k = subst (λ r. PremisesOpen s c.args.budget g.premises r) c.in-Same.is (c.in_ok-compare_open_premises.ensures.sides s g.premises set p) in
     goal_opens s c.args.budget g r k (h s g.conclusions set (can_open_all_still s c.args.machine.now c.args.bank.now c.compare_open_premises.new.bank c.args.conclusions.now c.args.values.now g.conclusions c.in_ok-compare_open_premises.ensures.adds q)))
     c.compare_open_conclusions.ensures.verdict
+
+pub returns-in-Unknown-clause-few : goal.returns-in-Unknown-clause-few
+returns-in-Unknown-clause-few c = few_all c.args.machine.now c.args.budget (length c.args.bank.now) (length c.compare_open_premises.new.bank) (length c.args.premises.now) (length c.args.premises.now + length c.args.conclusions.now) (omega arith) c.in_ok-compare_open_premises.ensures.few
+
+pub returns-in-Differ-clause-few : goal.returns-in-Differ-clause-few
+returns-in-Differ-clause-few c = few_all c.args.machine.now c.args.budget (length c.args.bank.now) (length c.compare_open_premises.new.bank) (length c.args.premises.now) (length c.args.premises.now + length c.args.conclusions.now) (omega arith) c.in_ok-compare_open_premises.ensures.few
+
+pub returns-in-Same-clause-few : goal.returns-in-Same-clause-few
+returns-in-Same-clause-few c = if_ok_map c.compare_open_conclusions.result _ _ (λ r h. few_both c.args.machine.now c.args.budget (length c.args.bank.now) (length c.compare_open_premises.new.bank) (length c.compare_open_conclusions.new.bank) (length c.args.premises.now) (length c.args.conclusions.now) c.in_ok-compare_open_premises.ensures.few h) c.compare_open_conclusions.ensures.few

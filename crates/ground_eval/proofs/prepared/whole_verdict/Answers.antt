@@ -1,7 +1,8 @@
-use Rattle.std.proofs.Common.{subst}
+use Rattle.std.proofs.Common.{◌+◌, arith, subst, length}
 use Rattle.term_core.proofs.Items.{if_ok_map}
 use Rattle.ground_eval.specs.Sides.{PremisesAre}
 use Rattle.ground_eval.proofs.Comparable.{compared_still}
+use Rattle.ground_eval.proofs.FewCells.{few_all, few_both}
 use Rattle.ground_eval.proofs.Walks.{conclusions_decide}
 use Rattle.ground_eval.proofs.prepared.whole_verdict.Goals as goal
 
@@ -32,3 +33,12 @@ returns-in-Same-clause-decided c =
     let k = subst (λ r. PremisesAre c.args.machine.now.spec terms c.args.budget g.premises r) c.in-Same.is (c.in_ok-compare_premises.ensures.sides g.premises terms p) in
     conclusions_decide c.args.machine.now.spec terms c.args.budget g k r (h g.conclusions terms (compared_still c.args.machine.now c.args.bank.now c.compare_premises.new.bank c.args.conclusions.now c.args.values.now g.conclusions terms c.in_ok-compare_premises.ensures.adds q)))
     c.compare_conclusions.ensures.verdict
+
+pub returns-in-Spent-clause-few : goal.returns-in-Spent-clause-few
+returns-in-Spent-clause-few c = few_all c.args.machine.now c.args.budget (length c.args.bank.now) (length c.compare_premises.new.bank) (length c.args.premises.now) (length c.args.premises.now + length c.args.conclusions.now) (omega arith) c.in_ok-compare_premises.ensures.few
+
+pub returns-in-Differ-clause-few : goal.returns-in-Differ-clause-few
+returns-in-Differ-clause-few c = few_all c.args.machine.now c.args.budget (length c.args.bank.now) (length c.compare_premises.new.bank) (length c.args.premises.now) (length c.args.premises.now + length c.args.conclusions.now) (omega arith) c.in_ok-compare_premises.ensures.few
+
+pub returns-in-Same-clause-few : goal.returns-in-Same-clause-few
+returns-in-Same-clause-few c = if_ok_map c.compare_conclusions.result _ _ (λ r h. few_both c.args.machine.now c.args.budget (length c.args.bank.now) (length c.compare_premises.new.bank) (length c.compare_conclusions.new.bank) (length c.args.premises.now) (length c.args.conclusions.now) c.in_ok-compare_premises.ensures.few h) c.compare_conclusions.ensures.few

@@ -1,4 +1,4 @@
-use Rattle.std.proofs.Common.{◌≡◌, ◌≢◌, ◌+◌, ◌-◌, ◌<◌, ◌++◌, List, [], ◌∷◌, true, false, Some, refl, ap, sym, ◌∙◌, subst, arith, length}
+use Rattle.std.proofs.Common.{◌≡◌, ◌≢◌, ◌+◌, ◌-◌, ◌<◌, ◌++◌, suc, List, [], ◌∷◌, true, false, Some, refl, ap, sym, ◌∙◌, subst, arith, length}
 use Rattle.std.specs.Prelude.{slice_get}
 use Rattle.std.proofs.lemmas.List.{length-append}
 use Rattle.term_core.specs.Tree.{Tree, var, app, none}
@@ -7,6 +7,7 @@ use Rattle.spec_core.specs.declared.records.VarInfo.{VarInfo}
 use Rattle.spec_core.specs.Declarations.{bool_sort}
 use Rattle.spec_core.specs.Gives.{boolean}
 use Rattle.spec_core.specs.WellSorted.{IsWellSorted, GoalIsSorted, sorts_of}
+use Rattle.value_bank.specs.declared.bank.ValueId.{ValueId}
 use Rattle.value_bank.proofs.Placed.{adds_both}
 use Rattle.bank_machine.specs.Runs.{StandAt}
 use Rattle.bank_machine.proofs.Ranges.{item_listed}
@@ -15,6 +16,7 @@ use Rattle.ground_eval.specs.Opened.{Partial}
 use Rattle.ground_eval.proofs.Comparable.{right_still}
 use Rattle.ground_eval.proofs.EntryPlaces.{entries_count, no_more_entries, entries_still, next_sort, sort_is_bool, with_variable, with_boolean}
 use Rattle.ground_eval.proofs.EntrySteps.{none_less, variable_less, both_less}
+use Rattle.ground_eval.proofs.FewCells.{few_at, few_one, few_two}
 use Rattle.ground_eval.proofs.Marking.{marks_kept}
 use Rattle.ground_eval.proofs.PartGoals.{room}
 use Rattle.ground_eval.proofs.PartSorts.{sort_of_item}
@@ -190,3 +192,46 @@ returns-clause-says t c terms e =
     let first = subst (λ r. SayOfAll z.spec z.goal c.args.budget (terms ++ boolean true ∷ []) r) c.in-Some.is (c.in_ok-verdict_over.ensures.says (terms ++ boolean true ∷ []) more) in
     let second = subst (λ r. SayOfAll z.spec z.goal c.args.budget (terms ++ boolean false ∷ []) r) c.in-Some-2.is (c.in_ok-verdict_over-in-Some.ensures.says (terms ++ boolean false ∷ []) more-2) in
     both_less z.spec c.requires.fine z.goal c.args.budget terms e.fit bool more.fit more-2.fit c.in-Some.first c.in-Some-2.second first second c.agreed.result c.agreed.ensures
+
+pub returns-then-number-vars-clause-few : goal.returns-then-number-vars-clause-few
+returns-then-number-vars-clause-few t c =
+    let z = c.args.self.now in
+    if_ok_map c.verdict_at.result _ _ (λ r h. few_at z c.args.budget (length z.goal.vars - length c.args.entries.now) (length c.args.bank.now) (length c.verdict_at.new.bank) h) c.verdict_at.ensures.few
+
+pub returns-then-vars-number-ne0-clause-few : goal.returns-then-vars-number-ne0-clause-few
+returns-then-vars-number-ne0-clause-few t c =
+    let z = c.args.self.now in
+    let ids = c.args.entries.now in
+    let vars : c.as_slice-vars.result.now ≡ z.goal.vars = c.as_slice-vars.ensures ∙ ap (λ (p : Partial). p.goal.vars) c.self.view_is in
+    let lt : length ids < length z.goal.vars = omega (arith, no_more_entries z c.args.bank.now ids c.requires.entries.0 c.requires.entries.1, ap (λ (vs : List VarInfo). length vs) vars, c.if-number-vars.false) in
+    let longer : length c.deref.result.now ≡ suc (length ids) = ap (λ (xs : List ValueId). length xs) c.deref.ensures.value ∙ c.in_ok-more.ensures.longer in
+    if_ok_map c.verdict_over.result _ _ (λ r h. few_one z c.args.budget (length z.goal.vars - length ids) (length z.goal.vars - length c.deref.result.now) (length c.args.bank.now) (length c.add_symbol.new.bank) (length c.verdict_over.new.bank) (omega (arith, lt, longer)) c.in_ok-more.ensures.few h) c.verdict_over.ensures.few
+
+pub returns-in-None-clause-few : goal.returns-in-None-clause-few
+returns-in-None-clause-few t c =
+    let z = c.args.self.now in
+    let ids = c.args.entries.now in
+    let vars : c.as_slice-vars.result.now ≡ z.goal.vars = c.as_slice-vars.ensures ∙ ap (λ (p : Partial). p.goal.vars) c.self.view_is in
+    let lt : length ids < length z.goal.vars = omega (arith, no_more_entries z c.args.bank.now ids c.requires.entries.0 c.requires.entries.1, ap (λ (vs : List VarInfo). length vs) vars, c.if-number-vars.false) in
+    let longer : length c.deref-2.result.now ≡ suc (length ids) = ap (λ (xs : List ValueId). length xs) c.deref-2.ensures.value ∙ c.in_ok-with_true.ensures.longer in
+    few_one z c.args.budget (length z.goal.vars - length ids) (length z.goal.vars - length c.deref-2.result.now) (length c.args.bank.now) (length c.add_symbol-2.new.bank) (length c.verdict_over-2.new.bank) (omega (arith, lt, longer)) c.in_ok-with_true.ensures.few c.in_ok-verdict_over.ensures.few
+
+pub returns-in-None-2-clause-few : goal.returns-in-None-2-clause-few
+returns-in-None-2-clause-few t c =
+    let z = c.args.self.now in
+    let ids = c.args.entries.now in
+    let vars : c.as_slice-vars.result.now ≡ z.goal.vars = c.as_slice-vars.ensures ∙ ap (λ (p : Partial). p.goal.vars) c.self.view_is in
+    let lt : length ids < length z.goal.vars = omega (arith, no_more_entries z c.args.bank.now ids c.requires.entries.0 c.requires.entries.1, ap (λ (vs : List VarInfo). length vs) vars, c.if-number-vars.false) in
+    let longer : length c.deref-2.result.now ≡ suc (length ids) = ap (λ (xs : List ValueId). length xs) c.deref-2.ensures.value ∙ c.in_ok-with_true.ensures.longer in
+    let longer-2 : length c.deref-in-Some.result.now ≡ suc (length ids) = ap (λ (xs : List ValueId). length xs) c.deref-in-Some.ensures.value ∙ c.in_ok-with_false-in-Some.ensures.longer in
+    few_two z c.args.budget (length z.goal.vars - length ids) (length z.goal.vars - length c.deref-2.result.now) (length z.goal.vars - length c.deref-in-Some.result.now) (length c.args.bank.now) (length c.add_symbol-2.new.bank) (length c.verdict_over-2.new.bank) (length c.add_symbol-in-Some.new.bank) (length c.verdict_over-in-Some.new.bank) (omega (arith, lt, longer)) (omega (arith, lt, longer-2)) c.in_ok-with_true.ensures.few c.in_ok-verdict_over.ensures.few c.in_ok-with_false-in-Some.ensures.few c.in_ok-verdict_over-in-Some.ensures.few
+
+pub returns-clause-few : goal.returns-clause-few
+returns-clause-few t c =
+    let z = c.args.self.now in
+    let ids = c.args.entries.now in
+    let vars : c.as_slice-vars.result.now ≡ z.goal.vars = c.as_slice-vars.ensures ∙ ap (λ (p : Partial). p.goal.vars) c.self.view_is in
+    let lt : length ids < length z.goal.vars = omega (arith, no_more_entries z c.args.bank.now ids c.requires.entries.0 c.requires.entries.1, ap (λ (vs : List VarInfo). length vs) vars, c.if-number-vars.false) in
+    let longer : length c.deref-2.result.now ≡ suc (length ids) = ap (λ (xs : List ValueId). length xs) c.deref-2.ensures.value ∙ c.in_ok-with_true.ensures.longer in
+    let longer-2 : length c.deref-in-Some.result.now ≡ suc (length ids) = ap (λ (xs : List ValueId). length xs) c.deref-in-Some.ensures.value ∙ c.in_ok-with_false-in-Some.ensures.longer in
+    few_two z c.args.budget (length z.goal.vars - length ids) (length z.goal.vars - length c.deref-2.result.now) (length z.goal.vars - length c.deref-in-Some.result.now) (length c.args.bank.now) (length c.add_symbol-2.new.bank) (length c.verdict_over-2.new.bank) (length c.add_symbol-in-Some.new.bank) (length c.verdict_over-in-Some.new.bank) (omega (arith, lt, longer)) (omega (arith, lt, longer-2)) c.in_ok-with_true.ensures.few c.in_ok-verdict_over.ensures.few c.in_ok-with_false-in-Some.ensures.few c.in_ok-verdict_over-in-Some.ensures.few

@@ -1,9 +1,11 @@
-use Rattle.std.proofs.Common.{◌≡◌, sym, subst, length}
+use Rattle.std.proofs.Common.{◌≡◌, ◌+◌, ◌≤◌, sym, subst, length}
 use Rattle.term_core.proofs.Items.{if_ok_map}
 use Rattle.spec_core.specs.WellSorted.{GoalIsSorted, IsWellSorted}
 use Rattle.ground_eval.specs.Entries.{AreEntriesAt, SayOfAll}
+use Rattle.ground_eval.specs.Looked.{most_evaluated}
 use Rattle.ground_eval.specs.Opened.{Partial, partial}
 use Rattle.ground_eval.specs.OpenSides.{CanOpenAll}
+use Rattle.ground_eval.proofs.FewCells.{few_evaluated}
 use Rattle.ground_eval.proofs.PartGoals.{here, is_set, open_ready, said, stand_for_all}
 use Rattle.ground_eval.proofs.parts.PartialGoal.verdict_at.Goals as goal
 
@@ -18,7 +20,7 @@ open_verdict-requires-clause-ready c =
     let count : length ids ≡ length i.goal.now.vars = subst (λ (z : Partial). length ids ≡ length z.goal.vars) (sym c.self.view_is) c.requires.all in
     let terms = c.requires.entries.0 in
     let e0 = c.requires.entries.1 in
-    let e : AreEntriesAt (partial i.spec.now i.goal.now i.machine.spec) cells ids terms = subst (λ (z : Partial). AreEntriesAt z cells ids terms) (sym c.self.view_is) e0 in
+    let e : AreEntriesAt (partial i.spec.now i.goal.now i.machine.spec i.machine.code) cells ids terms = subst (λ (z : Partial). AreEntriesAt z cells ids terms) (sym c.self.view_is) e0 in
     let f = stand_for_all i.spec.now i.goal.now i.machine i.opened.now.goal i.constants i.premises.items i.conclusions.items I fine q cells ids terms e count in
     let s = here i.spec.now i.goal.now i.machine i.opened.now.goal i.constants i.premises.items i.conclusions.items I fine q terms f.fit f.all in
     let o = open_ready i.spec.now i.goal.now i.machine i.opened.now.goal i.constants i.premises.items i.conclusions.items I fine q terms f.fit f.all cells ids f.stand in
@@ -38,7 +40,7 @@ returns-clause-says c =
     let count : length ids ≡ length i.goal.now.vars = subst (λ (z : Partial). length ids ≡ length z.goal.vars) (sym c.self.view_is) c.requires.all in
     if_ok_map c.open_verdict.result _ _
     (λ r h terms e0.
-    let e : AreEntriesAt (partial i.spec.now i.goal.now i.machine.spec) cells ids terms = subst (λ (z : Partial). AreEntriesAt z cells ids terms) (sym c.self.view_is) e0 in
+    let e : AreEntriesAt (partial i.spec.now i.goal.now i.machine.spec i.machine.code) cells ids terms = subst (λ (z : Partial). AreEntriesAt z cells ids terms) (sym c.self.view_is) e0 in
     let f = stand_for_all i.spec.now i.goal.now i.machine i.opened.now.goal i.constants i.premises.items i.conclusions.items I fine q cells ids terms e count in
     let s = here i.spec.now i.goal.now i.machine i.opened.now.goal i.constants i.premises.items i.conclusions.items I fine q terms f.fit f.all in
     let o = open_ready i.spec.now i.goal.now i.machine i.opened.now.goal i.constants i.premises.items i.conclusions.items I fine q terms f.fit f.all cells ids f.stand in
@@ -47,3 +49,8 @@ returns-clause-says c =
     let set = is_set i.spec.now i.goal.now i.machine i.opened.now.goal i.constants i.premises.items i.conclusions.items I fine q terms f.fit f.all in
     subst (λ (z : Partial). SayOfAll z.spec z.goal c.args.budget terms r) c.self.view_is (said i.spec.now i.goal.now i.machine i.opened.now.goal i.constants i.premises.items i.conclusions.items I fine q terms f.fit f.all c.args.budget cells ids f.stand r (h s i.goal.now set left right)))
     c.open_verdict.ensures.opens
+
+pub returns-clause-few : goal.returns-clause-few
+returns-clause-few c =
+    let i = c.self.inside in
+    if_ok_map c.open_verdict.result _ _ (λ r h. subst (λ (z : Partial). length c.open_verdict.new.bank ≤ length c.args.bank.now + most_evaluated z c.args.budget) c.self.view_is (few_evaluated i.spec.now i.goal.now i.machine i.opened.now.goal i.constants i.premises.items i.conclusions.items c.self.invariant c.args.budget (length c.args.bank.now) (length c.open_verdict.new.bank) c.as_slice.result.now c.as_slice-2.result.now c.as_slice.ensures.value c.as_slice-2.ensures.value h)) c.open_verdict.ensures.few

@@ -1,11 +1,13 @@
-use Rattle.std.proofs.Common.{◌≡◌, ap, sym, subst, arith, length}
+use Rattle.std.proofs.Common.{◌≡◌, ◌+◌, ◌-◌, ◌≤◌, ap, sym, subst, arith, length}
 use Rattle.spec_core.specs.WellSorted.{GoalIsSorted, IsWellSorted}
 use Rattle.ground_eval.specs.Entries.{SayOfAll}
+use Rattle.ground_eval.specs.Looked.{most_evaluated}
 use Rattle.ground_eval.specs.Opened.{Partial, AreFirstValues, AllHaveVerdict}
 use Rattle.ground_eval.specs.Prepared.{CanCompareAll}
 use Rattle.bank_machine.specs.KeptCalls.{AreRight}
 use Rattle.ground_eval.proofs.EntryPlaces.{first_entries, no_more_entries}
 use Rattle.ground_eval.proofs.EntrySteps.{all_have, open_yet}
+use Rattle.ground_eval.proofs.FewCells.{few_evaluated, few_looked, few_over}
 use Rattle.ground_eval.proofs.Marking.{marks_kept}
 use Rattle.ground_eval.proofs.PartGoals.{places_count, there, whole_ready, whole_part, values_of_all}
 use Rattle.ground_eval.proofs.parts.PartialGoal.verdict_part.Goals as goal
@@ -78,3 +80,15 @@ returns-in-None-clause-part c terms stand first =
     let count : length i.goal.now.vars ≡ length z.goal.vars = ap (λ (p : Partial). length p.goal.vars) c.self.view_is in
     let long = places_count c.args.bank.now c.args.fixed.now terms stand in
     (omega (arith, long), omega (arith, no_more_entries z c.args.bank.now c.args.fixed.now terms e, count, c.len-count.ensures, c.if-fixed-count.false), open_yet z.spec c.requires.fine z.goal c.args.budget terms e.fit (subst (λ r. SayOfAll z.spec z.goal c.args.budget terms r) c.in-None.is (c.in_ok-verdict-2.ensures.says terms e)))
+
+pub returns-then-fixed-count-clause-few : goal.returns-then-fixed-count-clause-few
+returns-then-fixed-count-clause-few c =
+    let i = c.self.inside in
+    let once = few_evaluated i.spec.now i.goal.now i.machine i.opened.now.goal i.constants i.premises.items i.conclusions.items c.self.invariant c.args.budget (length c.args.bank.now) (length c.whole_verdict.new.bank) c.as_slice-premises.result.now c.as_slice-conclusions.result.now c.as_slice-premises.ensures.value c.as_slice-conclusions.ensures.value c.in_ok-verdict.ensures.few in
+    few_looked c.args.self.now c.args.budget (length c.args.bank.now) (length c.whole_verdict.new.bank) (subst (λ (z : Partial). length c.whole_verdict.new.bank ≤ length c.args.bank.now + most_evaluated z c.args.budget) c.self.view_is once)
+
+pub returns-in-Some-clause-few : goal.returns-in-Some-clause-few
+returns-in-Some-clause-few c = few_over c.args.self.now c.args.budget (length c.args.self.now.goal.vars - length c.args.fixed.now) (length c.args.bank.now) (length c.verdict_over.new.bank) (omega arith) c.in_ok-verdict-2.ensures.few
+
+pub returns-in-None-clause-few : goal.returns-in-None-clause-few
+returns-in-None-clause-few c = few_over c.args.self.now c.args.budget (length c.args.self.now.goal.vars - length c.args.fixed.now) (length c.args.bank.now) (length c.verdict_over.new.bank) (omega arith) c.in_ok-verdict-2.ensures.few

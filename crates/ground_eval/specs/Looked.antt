@@ -1,0 +1,22 @@
+-- The most cells that verdicts of a goal add to a bank.
+use Rattle.std.specs.Prelude.{ℕ, ◌+◌, ◌*◌, ◌^◌, length}
+use Rattle.bank_machine.specs.Fuel.{most_added}
+use Rattle.bank_machine.specs.Programs.{Program, program}
+use Rattle.ground_eval.specs.Opened.{Partial}
+
+-- where so many equations are compared, each of which has two sides
+unfoldable pub most_compared : Program → ℕ → ℕ → ℕ
+most_compared p count budget = count * (2 * most_added p budget)
+
+-- where the goal is evaluated once, with all its equations
+unfoldable pub most_evaluated : Partial → ℕ → ℕ
+most_evaluated g budget = most_compared (program g.extended g.code) (length g.goal.premises + length g.goal.conclusions) budget
+
+-- where so many variables have no value: each has at most two values in turn, so the goal is evaluated at most 2 ^ count
+-- times, and fewer than twice as many cells are added for these values
+unfoldable pub most_over : Partial → ℕ → ℕ → ℕ
+most_over g count budget = 2 ^ count * (2 + most_evaluated g budget)
+
+-- whichever of the goal's variables have values
+unfoldable pub most_looked : Partial → ℕ → ℕ
+most_looked g budget = 2 ^ length g.goal.vars * (2 + most_evaluated g budget)
