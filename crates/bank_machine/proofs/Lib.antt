@@ -23,6 +23,7 @@ mod Parts
 mod RightCalls
 mod Numbers
 mod Grown
+mod Lengths
 mod Ranging
 pub mod Stacked
 pub mod Testing

@@ -14,6 +14,7 @@ pub mod KeptCalls
 pub mod Owed
 pub mod Turns
 pub mod Fuel
+pub mod Lengths
 pub mod Runs
 pub mod Compiled
 pub mod States

@@ -1,10 +1,11 @@
-ghost use Rattle.std.specs.Prelude.{◌≡◌, ◌<◌, ℕ, Some, IfOk, length, slice_get};
+ghost use Rattle.std.specs.Prelude.{◌≡◌, ◌≤◌, ◌<◌, ◌+◌, ℕ, Some, IfOk, length, slice_get};
 ghost use Rattle.term_core.specs.Variables.{Occurs};
 ghost use Rattle.spec_core.specs.TermText.{SymbolsAreInRange};
 ghost use Rattle.spec_core.specs.WellSorted.{RuleIsSorted};
 ghost use Rattle.bank_machine.specs.Compiled.{IsBody};
 ghost use Rattle.bank_machine.specs.Homes.{IsLeftSide};
 ghost use Rattle.bank_machine.specs.Blocks.{AddsCode, AddsBlock, IsTestOf, HaveBlocks};
+ghost use Rattle.bank_machine.specs.Lengths.{rule_length};
 
 use crate::code::Code;
 use crate::emitting::{emit, emit_all};
@@ -28,6 +29,7 @@ pub(crate) fn emit_blocks(
     requires left { IsLeftSide rule.now left.now }
     ensures blocks { IfOk result (λ begins. HaveBlocks sig.now code.new number rule.now left.now begins.items) }
     ensures adds { IfOk result (λ _. AddsCode code.old code.new) }
+    ensures few { IfOk result (λ _. length code.new ≤ length code.old + rule_length rule.now) }
 {
     let guards = rule.guards.as_slice();
     let mut begins = Vec::with_capacity(alloc, guards.len().saturating_add(1))?;

@@ -1,8 +1,9 @@
-ghost use Rattle.std.specs.Prelude.{◌≡◌, ◌<◌, ℕ, [], IfOk, length};
+ghost use Rattle.std.specs.Prelude.{◌≡◌, ◌≤◌, ◌<◌, ◌+◌, ℕ, [], IfOk, length};
 ghost use Rattle.term_core.specs.Variables.{Occurs};
 ghost use Rattle.spec_core.specs.TermText.{SymbolsAreInRange};
 ghost use Rattle.spec_core.specs.WellSorted.{IsWellSorted};
 ghost use Rattle.bank_machine.specs.Blocks.{AddsCode};
+ghost use Rattle.bank_machine.specs.Lengths.{term_length, rules_length};
 ghost use Rattle.bank_machine.specs.Programs.{AreRuleCodes, IsSide, first_numbers};
 
 use crate::blocks::emit_body;
@@ -44,7 +45,8 @@ impl<'a> Machine<'a> {
     /// Compiles a specification.
     pub fn new(alloc: Global, spec: &'a Spec) -> Result<Machine<'a>, OutOfMemory>
         requires { IsWellSorted spec.now }
-        ensures { IfOk result (λ made. made.spec ≡ spec.now) }
+        ensures spec { IfOk result (λ made. made.spec ≡ spec.now) }
+        ensures few { IfOk result (λ made. length made.code ≤ rules_length spec.now.rules) }
     {
         let mut code = Code::new(alloc);
         let rules = compile_rules(alloc, spec, &mut code)?;
@@ -70,6 +72,7 @@ impl<'a> Machine<'a> {
         ensures side { IfOk result (λ made. IsSide made.0 made.1 variables term.now) }
         ensures spec { IfOk result (λ made. made.0.spec ≡ self.entry.spec) }
         ensures adds { IfOk result (λ made. AddsCode self.entry.code made.0.code) }
+        ensures few { IfOk result (λ made. length made.0.code ≤ length self.entry.code + term_length term.now) }
     {
         let homes = first_numbers(alloc, variables)?;
         let Machine {
@@ -93,7 +96,8 @@ impl<'a> Machine<'a> {
 /// The code of each rule.
 fn compile_rules(alloc: Global, spec: &Spec, code: &mut Code) -> Result<Vec<RuleCode>, OutOfMemory>
     requires { IsWellSorted spec.now }
-    ensures { IfOk result (λ made. AreRuleCodes spec.now code.new (length spec.now.rules) made.items) }
+    ensures codes { IfOk result (λ made. AreRuleCodes spec.now code.new (length spec.now.rules) made.items) }
+    ensures few { IfOk result (λ _. length code.new ≤ length code.old + rules_length spec.now.rules) }
 {
     let count = spec.rules.len();
     let mut made = Vec::with_capacity(alloc, count)?;

@@ -1,7 +1,8 @@
-ghost use Rattle.std.specs.Prelude.{◌≡◌, ◌<◌, Some, IfOk, length, slice_get};
+ghost use Rattle.std.specs.Prelude.{◌≡◌, ◌≤◌, ◌<◌, ◌+◌, Some, IfOk, length, slice_get};
 ghost use Rattle.spec_core.specs.declared.records.Rule.{Rule};
 ghost use Rattle.spec_core.specs.WellSorted.{IsWellSorted};
 ghost use Rattle.bank_machine.specs.Blocks.{AddsCode};
+ghost use Rattle.bank_machine.specs.Lengths.{rule_length};
 ghost use Rattle.bank_machine.specs.RuleCodes.{IsRuleCode};
 
 use crate::blocks::emit_blocks;
@@ -35,6 +36,8 @@ impl RuleCode {
         ensures code { IfOk result (λ made. (rule : Rule) → slice_get spec.now.rules number ≡ Some rule
             → IsRuleCode spec.now code.new number rule made) }
         ensures adds { IfOk result (λ _. AddsCode code.old code.new) }
+        ensures few { IfOk result (λ _. (rule : Rule) → slice_get spec.now.rules number ≡ Some rule
+            → length code.new ≤ length code.old + rule_length rule) }
     {
         let rules = spec.rules.as_slice();
         let rule = &rules[number];

@@ -5,6 +5,7 @@ pub mod Lists
 pub mod Walks
 pub mod Same
 mod SharedSides
+mod CodeLengths
 mod FewCells
 -- Where some variables have no value.
 mod Marking

@@ -186,7 +186,7 @@ module _ (old : Spec) (goal : Goal) (p : Program) (shifted : Goal) (constants : 
     pub all : length zs ≡ n
     pub stand : StandAt cells ids (map (closed old.sig.constructors (length sorts)) zs)
 
-  pub stand_for_all : (cells : List Cell) (ids : List ValueId) (zs : List Tree) → AreEntriesAt (partial old goal p.spec p.code) cells ids zs → length ids ≡ n → StandForAll cells ids zs
+  pub stand_for_all : (cells : List Cell) (ids : List ValueId) (zs : List Tree) → AreEntriesAt (partial old goal p.spec) cells ids zs → length ids ≡ n → StandForAll cells ids zs
   stand_for_all cells ids zs e all =
       let stand : StandAt cells ids (map (closed old.sig.constructors (length sorts)) zs) = subst (λ u. StandAt cells ids (map (closed old.sig.constructors u) zs)) constants_count e.stand in
       record { fit = e.fit; all = omega (arith, all, places_count cells ids (map (closed old.sig.constructors (length sorts)) zs) stand, length-map zs (closed old.sig.constructors (length sorts))); stand = stand }

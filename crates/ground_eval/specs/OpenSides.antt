@@ -1,5 +1,5 @@
 -- What a walk over the sides of a goal answers where some variables have no value.
-use Rattle.std.specs.Prelude.{◌≡◌, ℕ, ◌+◌, List, Some, Option, None, length, map, slice_get}
+use Rattle.std.specs.Prelude.{◌≡◌, ◌≤◌, ℕ, ◌+◌, List, Some, Option, None, length, map, slice_get}
 use Rattle.std.specs.List.{AllByRecursion}
 use Rattle.term_core.specs.Tree.{Tree, instance}
 use Rattle.term_core.specs.declared.ids.SortId.{SortId}
@@ -13,6 +13,7 @@ use Rattle.spec_core.specs.Overlap.{NoOverlap}
 use Rattle.spec_core.specs.Groups.{GroupsAreWhole}
 use Rattle.value_bank.specs.Cells.{Cell}
 use Rattle.value_bank.specs.declared.bank.ValueId.{ValueId}
+use Rattle.bank_machine.specs.Lengths.{rules_length}
 use Rattle.bank_machine.specs.Programs.{Program}
 use Rattle.constants.specs.Shifted.{shifted, closed, shifted_equation}
 use Rattle.open_walk.specs.OpenGives.{VariablesAreBelow}
@@ -22,7 +23,7 @@ use Rattle.ground_eval.specs.declared.answers.OpenSides.TheVariants.{Same, Diffe
 use Rattle.ground_eval.specs.declared.comparing.SidePair.{SidePair}
 use Rattle.ground_eval.specs.declared.marks.Constants.{Constants}
 use Rattle.ground_eval.specs.Opened.{Extends, IsOpened}
-use Rattle.ground_eval.specs.Prepared.{CanCompare, IsPrepared}
+use Rattle.ground_eval.specs.Prepared.{CanCompare, IsPrepared, goal_length}
 
 -- a specification, sorts of constants, and what stands for a goal's variables: values and variables
 pub record Setting : Type 0 where
@@ -98,3 +99,4 @@ pub record IsPartial (spec : Spec) (goal : Goal) (p : Program) (shifted : Goal) 
   pub prepared : IsPrepared p shifted premises conclusions
   pub first : constants.from ≡ spec.sig.constructors
   pub past : constants.to ≡ p.spec.sig.constructors
+  pub short : length p.code ≤ rules_length p.spec.rules + goal_length shifted

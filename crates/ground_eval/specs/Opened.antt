@@ -12,7 +12,6 @@ use Rattle.spec_core.specs.Overlap.{NoOverlap}
 use Rattle.spec_core.specs.Groups.{GroupsAreWhole}
 use Rattle.spec_core.specs.Truth.{AreValuesOf}
 use Rattle.value_bank.specs.Cells.{Cell}
-use Rattle.bank_machine.specs.Instructions.{Instruction}
 use Rattle.constants.specs.Shifted.{IsExtended, shifted_goal}
 use Rattle.open_walk.specs.OpenVerdict.{opened, IsOpenVerdict}
 use Rattle.ground_eval.specs.Constants.{AreMarks}
@@ -39,15 +38,14 @@ pub record IsOpened (spec : Spec) (goal : Goal) (extended : Spec) (shifted : Goa
   pub extends : Extends spec extended sorts
   pub same : shifted ≡ shifted_goal spec.sig.constructors (length sorts) goal
 
--- a goal of a specification, the specification that has constants for its variables, and all code
+-- a goal of a specification, and the specification that has constants for its variables
 pub record Partial : Type 0 where
   pub spec : Spec
   pub goal : Goal
   pub extended : Spec
-  pub code : List Instruction
 
-abbrev pub partial : Spec → Goal → Spec → List Instruction → Partial
-partial spec goal extended code = record { spec = spec; goal = goal; extended = extended; code = code }
+abbrev pub partial : Spec → Goal → Spec → Partial
+partial spec goal extended = record { spec = spec; goal = goal; extended = extended }
 
 module _ (spec : Spec) (goal : Goal) (fixed : List Tree) where
   -- the values are those of the goal's first variables

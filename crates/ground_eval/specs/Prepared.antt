@@ -1,5 +1,5 @@
 -- A goal whose sides are compiled, and values at places of a bank.
-use Rattle.std.specs.Prelude.{◌≡◌, ℕ, List, Some, length, slice_get}
+use Rattle.std.specs.Prelude.{◌≡◌, ℕ, ◌+◌, List, [], ◌∷◌, Some, length, slice_get}
 use Rattle.std.specs.List.{AllByRecursion}
 use Rattle.term_core.specs.Tree.{Tree}
 use Rattle.spec_core.specs.declared.records.Equation.{Equation}
@@ -7,6 +7,7 @@ use Rattle.spec_core.specs.declared.records.Goal.{Goal}
 use Rattle.spec_core.specs.Sorts.{IsBuilt}
 use Rattle.value_bank.specs.Cells.{Cell}
 use Rattle.value_bank.specs.declared.bank.ValueId.{ValueId}
+use Rattle.bank_machine.specs.Lengths.{term_length}
 use Rattle.bank_machine.specs.Programs.{Program, IsSide}
 use Rattle.bank_machine.specs.Runs.{StandAt}
 use Rattle.ground_eval.specs.declared.comparing.SidePair.{SidePair}
@@ -24,6 +25,15 @@ pub record HasCode (p : Program) (variables : ℕ) (e : Equation) (pair : SidePa
 pub record HaveCode (p : Program) (variables : ℕ) (es : List Equation) (pairs : List SidePair) : Type 0 where
   pub count : length pairs ≡ length es
   pub each : (k : ℕ) (e : Equation) (pair : SidePair) → slice_get es k ≡ Some e → slice_get pairs k ≡ Some pair → HasCode p variables e pair
+
+-- how many instructions the code of the sides of equations has at most
+abbrev pub sides_length : List Equation → ℕ
+sides_length [] = 0
+sides_length (e ∷ es) = term_length e.left + term_length e.right + sides_length es
+
+-- the same of the sides of a goal
+abbrev pub goal_length : Goal → ℕ
+goal_length g = sides_length g.premises + sides_length g.conclusions
 
 pub record IsPrepared (p : Program) (goal : Goal) (premises conclusions : List SidePair) : Type 0 where
   pub of_premises : HaveCode p (length goal.vars) goal.premises premises

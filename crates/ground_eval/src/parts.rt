@@ -57,7 +57,7 @@ impl<'a> Model for PartialGoal<'a> {
 
     ghost coded = { Prim.hlevel (codes, spec_contract.the_row.coded, goal_contract.the_row.coded) };
 
-    ghost view = { λ p. partial p.spec.now p.goal.now p.machine.spec p.machine.code };
+    ghost view = { λ p. partial p.spec.now p.goal.now p.machine.spec };
 
     ghost invariant = { λ p. IsPartial p.spec.now p.goal.now p.machine p.opened.now.goal p.constants p.premises.items p.conclusions.items };
 }
@@ -73,7 +73,7 @@ impl<'a> PartialGoal<'a> {
         requires fine { IsWellSorted spec.now }
         requires listed { (k : ℕ) × (slice_get spec.now.goals k ≡ Some goal.now) }
         requires opened { IsOpened spec.now goal.now opened.now.spec opened.now.goal }
-        ensures { IfOk result (λ made. made ≡ partial spec.now goal.now opened.now.spec made.code) }
+        ensures { IfOk result (λ made. made ≡ partial spec.now goal.now opened.now.spec) }
     {
         let machine = Machine::new(alloc, &opened.spec)?;
         let (machine, premises, conclusions) = compile_goal(alloc, machine, &opened.goal)?;

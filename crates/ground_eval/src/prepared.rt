@@ -10,7 +10,7 @@ ghost use Rattle.bank_machine.specs.Blocks.{AddsCode};
 ghost use Rattle.bank_machine.specs.KeptCalls.{AreRight};
 ghost use Rattle.bank_machine.specs.Runs.{StandAt};
 ghost use Rattle.ground_eval.specs.Looked.{most_compared};
-ghost use Rattle.ground_eval.specs.Prepared.{HaveCode, IsPrepared, CanCompareAll};
+ghost use Rattle.ground_eval.specs.Prepared.{HaveCode, IsPrepared, CanCompareAll, sides_length, goal_length};
 ghost use Rattle.ground_eval.specs.Sides.{IsDecided};
 
 use crate::answers::Sides;
@@ -30,6 +30,7 @@ pub(crate) fn compile_goal<'a>(
     requires { GoalIsSorted machine.spec.sig goal.now }
     ensures code { IfOk result (λ made. IsPrepared made.0 goal.now made.1.items made.2.items) }
     ensures spec { IfOk result (λ made. made.0.spec ≡ machine.entry.spec) }
+    ensures few { IfOk result (λ made. length made.0.code ≤ length machine.entry.code + goal_length goal.now) }
 {
     let variables = goal.vars.len();
     let (machine, premises) = compile_sides(alloc, machine, goal.premises.as_slice(), variables)?;
@@ -53,6 +54,7 @@ fn compile_sides<'a>(
     ensures code { IfOk result (λ made. HaveCode made.0 variables equations.now made.1.items) }
     ensures spec { IfOk result (λ made. made.0.spec ≡ machine.entry.spec) }
     ensures adds { IfOk result (λ made. AddsCode machine.entry.code made.0.code) }
+    ensures few { IfOk result (λ made. length made.0.code ≤ length machine.entry.code + sides_length equations.now) }
 {
     let mut machine = machine;
     let mut pairs = Vec::with_capacity(alloc, equations.len())?;

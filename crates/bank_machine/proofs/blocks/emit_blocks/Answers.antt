@@ -1,6 +1,7 @@
 use Rattle.std.proofs.Common.{◌≡◌, ap, subst, length, arith}
 use Rattle.bank_machine.specs.Blocks.{AddsBlock}
 use Rattle.bank_machine.specs.Compiled.{IsBody}
+use Rattle.bank_machine.proofs.Lengths.{body_length, test_length, next_test}
 use Rattle.bank_machine.proofs.Ranges.{item_listed, test_symbols, test_variables, right_symbols, right_variables}
 use Rattle.bank_machine.proofs.Placed.{adds_both, block_adds, test_added, right_added}
 use Rattle.bank_machine.proofs.blocks.emit_blocks.Goals as goal
@@ -21,6 +22,7 @@ loop-asked-preserved c =
     record {
       blocks = test_added c.args.sig.now c.args.number c.args.rule.now c.args.left.now c.loop-asked.code c.emit_test.new.code c.loop-asked.begins.items c.push.new.self.items c.len.result c.loop-asked.asked c.index-guards-asked.result c.len.ensures c.in_ok-push.ensures.items at c.loop-asked.invariant.blocks c.in_ok-emit_test.ensures;
       adds = adds_both c.args.code.now c.loop-asked.code c.emit_test.new.code c.loop-asked.invariant.adds (block_adds c.loop-asked.code c.emit_test.new.code c.in_ok-emit_test.ensures);
+      few = next_test c.args.rule.now.guards c.loop-asked.asked c.index-guards-asked.result (length c.args.code.now) (length c.loop-asked.code) (length c.emit_test.new.code) at c.loop-asked.invariant.few (test_length c.args.sig.now c.args.left.now c.index-guards-asked.result.test c.args.number c.loop-asked.asked c.loop-asked.code c.emit_test.new.code c.in_ok-emit_test.ensures);
     }
 
 pub emit_body-requires-clause-symbols : goal.emit_body-requires-clause-symbols
@@ -33,3 +35,6 @@ pub returns-clause-blocks : goal.returns-clause-blocks
 returns-clause-blocks c =
     let all : c.loop-asked.asked ≡ length c.args.rule.now.guards = omega (arith, c.loop-asked-test.false, c.loop-asked.auto.asked-end, ap length c.as_slice-guards.ensures) in
     right_added c.args.sig.now c.args.number c.args.rule.now c.args.left.now c.loop-asked.code c.emit_body.new.code c.loop-asked.begins.items c.push-2.new.self.items c.len-2.result c.loop-asked.asked c.len-2.ensures c.in_ok-push-2.ensures.items all c.loop-asked.invariant.blocks (subst (λ hs. AddsBlock c.loop-asked.code c.emit_body.new.code (IsBody c.args.sig.now hs c.args.rule.now.right c.args.left.now.width)) c.deref.ensures.value c.in_ok-emit_body.ensures)
+
+pub returns-clause-few : goal.returns-clause-few
+returns-clause-few c = omega (arith, c.loop-asked.invariant.few, body_length c.args.sig.now c.deref.result.now c.args.rule.now.right c.args.left.now.width c.loop-asked.code c.emit_body.new.code c.in_ok-emit_body.ensures)

@@ -9,7 +9,7 @@ use Rattle.ground_eval.proofs.evaluation.verdict.Goals as goal
 
 pub compile_goal-requires : goal.compile_goal-requires
 compile_goal-requires c =
-    subst (λ (s : Spec). GoalIsSorted s.sig c.args.goal.now) (sym c.in_ok-machine.ensures) (c.requires.fine.goals c.requires.listed.0 c.args.goal.now c.requires.listed.1)
+    subst (λ (s : Spec). GoalIsSorted s.sig c.args.goal.now) (sym c.in_ok-machine.ensures.spec) (c.requires.fine.goals c.requires.listed.0 c.args.goal.now c.requires.listed.1)
 
 pub place_values-requires : goal.place_values-requires
 place_values-requires c = values_ground c.args.spec.now (sorts_of c.args.goal.now.vars) c.args.values.now c.requires.values
@@ -17,13 +17,13 @@ place_values-requires c = values_ground c.args.spec.now (sorts_of c.args.goal.no
 pub whole_verdict-requires-clause-ready : goal.whole_verdict-requires-clause-ready
 whole_verdict-requires-clause-ready c =
     let sorted = c.requires.fine.goals c.requires.listed.0 c.args.goal.now c.requires.listed.1 in
-    let ready = compiled_ready c.args.spec.now c.args.goal.now sorted c.in_ok-machine-2.machine (c.in_ok-machine-2.ensures.spec ∙ c.in_ok-machine.ensures) c.in_ok-machine-2.ensures.code c.args.values.now c.requires.values c.in_ok-ids.ensures.stand c.deref.ensures.value c.deref-2.ensures.value c.deref-3.ensures.value in
+    let ready = compiled_ready c.args.spec.now c.args.goal.now sorted c.in_ok-machine-2.machine (c.in_ok-machine-2.ensures.spec ∙ c.in_ok-machine.ensures.spec) c.in_ok-machine-2.ensures.code c.args.values.now c.requires.values c.in_ok-ids.ensures.stand c.deref.ensures.value c.deref-2.ensures.value c.deref-3.ensures.value in
     (c.args.goal.now, c.args.values.now, ready.0, ready.1)
 
 decided : (c : goal.After-drop-machine-inside-5) → IfOk c.whole_verdict.result (IsDecided c.args.spec.now c.args.values.now c.args.budget c.args.goal.now)
 decided c =
     let sorted = c.requires.fine.goals c.requires.listed.0 c.args.goal.now c.requires.listed.1 in
-    let same = c.in_ok-machine-2.ensures.spec ∙ c.in_ok-machine.ensures in
+    let same = c.in_ok-machine-2.ensures.spec ∙ c.in_ok-machine.ensures.spec in
     let ready = compiled_ready c.args.spec.now c.args.goal.now sorted c.in_ok-machine-2.machine same c.in_ok-machine-2.ensures.code c.args.values.now c.requires.values c.in_ok-ids.ensures.stand c.deref.ensures.value c.deref-2.ensures.value c.deref-3.ensures.value in
     if_ok_map c.whole_verdict.result _ _ (λ r h. subst (λ (s : Spec). IsDecided s c.args.values.now c.args.budget c.args.goal.now r) same (h c.args.goal.now c.args.values.now ready.0 ready.1)) c.whole_verdict.ensures.decided
 

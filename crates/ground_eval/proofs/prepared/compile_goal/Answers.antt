@@ -1,7 +1,7 @@
-use Rattle.std.proofs.Common.{sym, ◌∙◌, subst}
+use Rattle.std.proofs.Common.{ap, sym, ◌∙◌, subst, arith}
 use Rattle.spec_core.specs.declared.records.Spec.{Spec}
 use Rattle.spec_core.specs.WellSorted.{EquationsAreSorted, sorts_of}
-use Rattle.ground_eval.specs.Prepared.{HaveCode}
+use Rattle.ground_eval.specs.Prepared.{HaveCode, sides_length}
 use Rattle.ground_eval.proofs.SharedSides.{pairs_kept, sorts_count}
 use Rattle.ground_eval.proofs.prepared.compile_goal.Goals as goal
 
@@ -25,3 +25,6 @@ returns-clause-code c =
       of_premises = subst (λ m. HaveCode last m all.premises c.in_ok-machine.premises.items) n (subst (λ es. HaveCode last c.len-variables.result es c.in_ok-machine.premises.items) c.as_slice.ensures first);
       of_conclusions = subst (λ m. HaveCode last m all.conclusions c.in_ok-machine-2.conclusions.items) n (subst (λ es. HaveCode last c.len-variables.result es c.in_ok-machine-2.conclusions.items) c.as_slice-2.ensures c.in_ok-machine-2.ensures.code);
     }
+
+pub returns-clause-few : goal.returns-clause-few
+returns-clause-few c = omega (arith, c.in_ok-machine.ensures.few, c.in_ok-machine-2.ensures.few, ap sides_length c.as_slice.ensures, ap sides_length c.as_slice-2.ensures)

@@ -1,10 +1,11 @@
-use Rattle.std.proofs.Common.{◌≡◌, refl, sym, ◌∙◌, subst, arith}
+use Rattle.std.proofs.Common.{◌≡◌, refl, sym, ◌∙◌, subst, arith, length}
 use Rattle.spec_core.specs.declared.records.Spec.{Spec}
 use Rattle.spec_core.specs.TermText.{SymbolsAreInRange}
 use Rattle.spec_core.proofs.Determined.{occurs_within}
 use Rattle.bank_machine.proofs.Placed.{adds_both}
 use Rattle.bank_machine.proofs.Ranges.{item_listed, sorted_in_range}
 use Rattle.ground_eval.specs.Prepared.{HasCode, pair_of}
+use Rattle.ground_eval.proofs.CodeLengths.{next_sides}
 use Rattle.ground_eval.proofs.SharedSides.{side_kept, pairs_kept, pair_added}
 use Rattle.ground_eval.proofs.prepared.compile_sides.Goals as goal
 
@@ -48,4 +49,8 @@ loop-equation-preserved c =
       code = pair_added new c.args.variables c.args.equations.now c.loop-equation.equation-index c.equation-item.result c.loop-equation.pairs.items c.push.new.self.items (pair_of c.in_ok-with_left.left c.in_ok-with_right.right) at (pairs_kept old new c.args.variables _ c.loop-equation.pairs.items spec both c.loop-equation.invariant.code) here c.in_ok-push.ensures.items;
       spec = spec ∙ c.loop-equation.invariant.spec;
       adds = adds_both c.args.machine.code old.code new.code c.loop-equation.invariant.adds both;
+      few = next_sides c.args.equations.now c.loop-equation.equation-index c.equation-item.result (length c.args.machine.code) (length old.code) (length mid.code) (length new.code) at c.loop-equation.invariant.few c.in_ok-with_left.ensures.few c.in_ok-with_right.ensures.few;
     }
+
+pub returns-clause-few : goal.returns-clause-few
+returns-clause-few c = omega (arith, c.loop-equation.invariant.few)

@@ -1,7 +1,9 @@
-use Rattle.std.proofs.Common.{ap, ◌∙◌, subst, length, arith}
+use Rattle.std.proofs.Common.{◌+◌, ◌≤◌, ap, ◌∙◌, subst, length, arith}
 use Rattle.bank_machine.specs.Blocks.{AddsCode}
+use Rattle.bank_machine.specs.Lengths.{term_length}
 use Rattle.bank_machine.specs.Programs.{Program}
 use Rattle.bank_machine.proofs.Placed.{block_adds}
+use Rattle.bank_machine.proofs.Lengths.{body_length}
 use Rattle.bank_machine.proofs.Grown.{first_numbers_count, program_kept, side_added}
 use Rattle.bank_machine.proofs.machine.Machine.with_term.Goals as goal
 
@@ -16,3 +18,6 @@ returns-clause-side c = side_added c.self.inside.spec.now c.self.inside.code c.e
 
 pub returns-clause-adds : goal.returns-clause-adds
 returns-clause-adds c = subst (λ (p : Program). AddsCode p.code c.emit_body.new.code) c.self.view_is (block_adds c.self.inside.code c.emit_body.new.code c.in_ok-emit_body.ensures)
+
+pub returns-clause-few : goal.returns-clause-few
+returns-clause-few c = subst (λ (p : Program). length c.emit_body.new.code ≤ length p.code + term_length c.args.term.now) c.self.view_is (body_length c.self.inside.spec.now.sig c.deref.result.now c.args.term.now c.args.variables c.self.inside.code c.emit_body.new.code c.in_ok-emit_body.ensures)

@@ -1,7 +1,8 @@
-use Rattle.std.proofs.Common.{◌≡◌, ◌<◌, sym, subst, length}
+use Rattle.std.proofs.Common.{◌≡◌, ◌+◌, ◌<◌, ◌≤◌, sym, subst, length}
 use Rattle.std.specs.Prelude.{slice_get}
 use Rattle.spec_core.specs.declared.records.Rule.{Rule}
 use Rattle.bank_machine.specs.declared.rule_codes.RuleCode.{RuleCode}
+use Rattle.bank_machine.specs.Lengths.{rule_length}
 use Rattle.bank_machine.specs.RuleCodes.{IsRuleCode}
 use Rattle.bank_machine.specs.Branches.{AreBranches}
 use Rattle.bank_machine.proofs.Matches.{some_same}
@@ -34,3 +35,12 @@ returns-clause-code c rule there =
       branches = subst (λ rs. AreBranches rs own c.in_ok-branches.branches.items) c.as_slice-rules.ensures c.in_ok-branches.ensures;
     } in
     subst (λ (r : Rule). IsRuleCode spec c.emit_blocks.new.code c.args.number r made) same code
+
+pub returns-clause-few : goal.returns-clause-few
+returns-clause-few c rule there =
+    let spec = c.args.spec.now in
+    let lt : c.args.number < length c.as_slice-rules.result.now = subst (λ rs. c.args.number < length rs) (sym c.as_slice-rules.ensures) c.requires.listed in
+    let own = c.index-rules-number.result in
+    let at = item_listed c.as_slice-rules.result.now spec.rules c.args.number own c.as_slice-rules.ensures lt c.index-rules-number.is in
+    let same : own ≡ rule = some_same (slice_get spec.rules c.args.number) own rule at there in
+    subst (λ (r : Rule). length c.emit_blocks.new.code ≤ length c.args.code.now + rule_length r) same c.in_ok-begins.ensures.few

@@ -20,7 +20,7 @@ open_verdict-requires-clause-ready c =
     let count : length ids ≡ length i.goal.now.vars = subst (λ (z : Partial). length ids ≡ length z.goal.vars) (sym c.self.view_is) c.requires.all in
     let terms = c.requires.entries.0 in
     let e0 = c.requires.entries.1 in
-    let e : AreEntriesAt (partial i.spec.now i.goal.now i.machine.spec i.machine.code) cells ids terms = subst (λ (z : Partial). AreEntriesAt z cells ids terms) (sym c.self.view_is) e0 in
+    let e : AreEntriesAt (partial i.spec.now i.goal.now i.machine.spec) cells ids terms = subst (λ (z : Partial). AreEntriesAt z cells ids terms) (sym c.self.view_is) e0 in
     let f = stand_for_all i.spec.now i.goal.now i.machine i.opened.now.goal i.constants i.premises.items i.conclusions.items I fine q cells ids terms e count in
     let s = here i.spec.now i.goal.now i.machine i.opened.now.goal i.constants i.premises.items i.conclusions.items I fine q terms f.fit f.all in
     let o = open_ready i.spec.now i.goal.now i.machine i.opened.now.goal i.constants i.premises.items i.conclusions.items I fine q terms f.fit f.all cells ids f.stand in
@@ -40,7 +40,7 @@ returns-clause-says c =
     let count : length ids ≡ length i.goal.now.vars = subst (λ (z : Partial). length ids ≡ length z.goal.vars) (sym c.self.view_is) c.requires.all in
     if_ok_map c.open_verdict.result _ _
     (λ r h terms e0.
-    let e : AreEntriesAt (partial i.spec.now i.goal.now i.machine.spec i.machine.code) cells ids terms = subst (λ (z : Partial). AreEntriesAt z cells ids terms) (sym c.self.view_is) e0 in
+    let e : AreEntriesAt (partial i.spec.now i.goal.now i.machine.spec) cells ids terms = subst (λ (z : Partial). AreEntriesAt z cells ids terms) (sym c.self.view_is) e0 in
     let f = stand_for_all i.spec.now i.goal.now i.machine i.opened.now.goal i.constants i.premises.items i.conclusions.items I fine q cells ids terms e count in
     let s = here i.spec.now i.goal.now i.machine i.opened.now.goal i.constants i.premises.items i.conclusions.items I fine q terms f.fit f.all in
     let o = open_ready i.spec.now i.goal.now i.machine i.opened.now.goal i.constants i.premises.items i.conclusions.items I fine q terms f.fit f.all cells ids f.stand in
