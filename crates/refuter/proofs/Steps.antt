@@ -34,7 +34,7 @@ pub no_first : {X : Type 0} (xs : List X) → slice_get xs 0 ≡ None → xs ≡
 no_first [] e = refl
 no_first (x ∷ xs) e = let q : Some x ≡ None = e in cc
 
-first_left : {X Y : Type 0} (g : X → Y) (xs : List X) (ys : List Y) (x : X) → slice_get xs 0 ≡ Some x → slice_get (map g xs ++ ys) 0 ≡ Some (g x)
+pub first_left : {X Y : Type 0} (g : X → Y) (xs : List X) (ys : List Y) (x : X) → slice_get xs 0 ≡ Some x → slice_get (map g xs ++ ys) 0 ≡ Some (g x)
 first_left g [] ys x e = let q : None ≡ Some x = e in cc
 first_left g (y ∷ xs) ys x e =
     let q : Some y ≡ Some x = e in
@@ -127,7 +127,7 @@ module _ (sig : Sig) where
   pub begins : (depth : ℕ) (s : SortId) (ss : List SortId) (bound : ℕ) → rows_within sig depth (s ∷ ss) bound ≡ rows_on sig depth ss bound (values_within sig depth s (room_before sig depth ss bound))
   begins depth s ss bound = rows_begin sig depth s ss bound (rows_have sig depth ss)
 
-  first_on : (depth : ℕ) (ss : List SortId) (bound : ℕ) (ts : List Tree) (t : Tree) (r : List Tree) → slice_get ts 0 ≡ Some t → slice_get (rows_within sig depth ss (bound - tree_size t)) 0 ≡ Some r → slice_get (rows_on sig depth ss bound ts) 0 ≡ Some (t ∷ r)
+  pub first_on : (depth : ℕ) (ss : List SortId) (bound : ℕ) (ts : List Tree) (t : Tree) (r : List Tree) → slice_get ts 0 ≡ Some t → slice_get (rows_within sig depth ss (bound - tree_size t)) 0 ≡ Some r → slice_get (rows_on sig depth ss bound ts) 0 ≡ Some (t ∷ r)
   unfolding rows_on
   first_on depth ss bound [] t r e h = let q : None ≡ Some t = e in cc
   first_on depth ss bound (x ∷ ts) t r e h =
@@ -140,7 +140,7 @@ module _ (sig : Sig) where
   none_on depth ss bound ts e = ap (λ us. flat_map (λ u. map (λ y. u ∷ y) (rows_within sig depth ss (bound - tree_size u))) us) (no_first ts e)
 
   -- where a value leaves room for the fewest symbols of the others, these have a row
-  room_fits : (depth : ℕ) (ss : List SortId) (bound : ℕ) (t : Tree) → bound < 4096 → tree_size t ≤ room_before sig depth ss bound → slice_get (rows_within sig depth ss (bound - tree_size t)) 0 ≡ None → ⊥
+  pub room_fits : (depth : ℕ) (ss : List SortId) (bound : ℕ) (t : Tree) → bound < 4096 → tree_size t ≤ room_before sig depth ss bound → slice_get (rows_within sig depth ss (bound - tree_size t)) 0 ≡ None → ⊥
   unfolding room_before
   room_fits depth ss bound t l h e = row_fits sig depth ss (bound - tree_size t) (let w = size_positive t in omega arith) (omega arith) e
 
@@ -207,7 +207,7 @@ module _ (sig : Sig) where
       let f : slice_get (rows_after sig depth (s ∷ ss) bound (t ∷ ts)) 0 ≡ Some (t ∷ w.values) = first_left (λ r. t ∷ r) (rows_after sig depth ss (bound - tree_size t) ts) (rows_on sig depth ss bound (values_after sig depth s (room_before sig depth ss bound) t)) w.values (ap (λ b. slice_get (rows_after sig depth ss b ts) 0) (sym k) ∙ w.is) in
       goes_some cells kept (slice_get (rows_after sig depth all bound old) 0) row (p ∷ w.places) (t ∷ w.values) true (ap (λ xs. slice_get (rows_after sig depth xs bound old) 0) e ∙ ap (λ xs. slice_get (rows_after sig depth (s ∷ ss) bound xs) 0) o ∙ f) refl (w.row_is ∙ ap (λ xs. xs ++ w.places) m ∙ append_assoc kept (p ∷ []) w.places) (at, w.stand)
 
-  after_last : (depth : ℕ) (all : List SortId) (s : SortId) (ss : List SortId) (bound left : ℕ) (t : Tree) (ts old : List Tree) → all ≡ s ∷ ss → old ≡ t ∷ ts → left ≡ bound - tree_size t → slice_get (rows_after sig depth ss left ts) 0 ≡ None → slice_get (rows_after sig depth all bound old) 0 ≡ slice_get (rows_on sig depth ss bound (values_after sig depth s (room_before sig depth ss bound) t)) 0
+  pub after_last : (depth : ℕ) (all : List SortId) (s : SortId) (ss : List SortId) (bound left : ℕ) (t : Tree) (ts old : List Tree) → all ≡ s ∷ ss → old ≡ t ∷ ts → left ≡ bound - tree_size t → slice_get (rows_after sig depth ss left ts) 0 ≡ None → slice_get (rows_after sig depth all bound old) 0 ≡ slice_get (rows_on sig depth ss bound (values_after sig depth s (room_before sig depth ss bound) t)) 0
   unfolding rows_after
   after_last depth all s ss bound left t ts old e o k n = ap (λ xs. slice_get (rows_after sig depth xs bound old) 0) e ∙ ap (λ xs. slice_get (rows_after sig depth (s ∷ ss) bound xs) 0) o ∙ first_right (λ r. t ∷ r) (rows_after sig depth ss (bound - tree_size t) ts) (rows_on sig depth ss bound (values_after sig depth s (room_before sig depth ss bound) t)) (ap (λ b. slice_get (rows_after sig depth ss b ts) 0) (sym k) ∙ n)
 

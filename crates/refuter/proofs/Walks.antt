@@ -82,6 +82,12 @@ module _ (spec : Spec) (goal : Goal) (depth : ℕ) (sig : Sig) (bound : ℕ) (si
         let l = sorts_long goal.vars in
         omega arith
 
+    pub few_places : length places ≤ 16
+    few_places =
+        let n = variables_long in
+        let m = few_variables in
+        omega arith
+
     -- the same values at other places, or in another bank
     pub begun_again : (now : List Cell) (there : List ℕ) → AreTerms now there (trees_of firsts) → IsBegun spec.sig depth (sorts_of goal.vars) now there others firsts
     begun_again now there h = record { sorts = b.sorts; parted = b.parted; listed = b.listed; stand = h }

@@ -1,4 +1,4 @@
-ghost use Rattle.std.specs.Prelude.{◌≡◌, ◌<◌, ◌≤◌, IfOk, OnOk, List, length, slice_get, take, drop};
+ghost use Rattle.std.specs.Prelude.{◌≡◌, ◌+◌, ◌<◌, ◌≤◌, IfOk, OnOk, List, length, slice_get, take, drop};
 ghost use Rattle.std.specs.List.{AllByRecursion, Contains};
 ghost use Rattle.term_core.specs.Tree.{Tree, trees_of};
 ghost use Rattle.spec_core.specs.Sig.{IsSort, SortsAreInRange};
@@ -7,6 +7,7 @@ ghost use Rattle.refuter.specs.Bounded.{values_within, rows_within};
 ghost use Rattle.refuter.specs.Fewest.{IsRowOf, fewest};
 ghost use Rattle.refuter.specs.After.{room_before, made_from, values_after, rows_after};
 ghost use Rattle.refuter.specs.Moves.{IsPlaceOf, GoesOn};
+ghost use Rattle.refuter.specs.Symbols.{value_symbols, row_symbols};
 ghost use Rattle.value_bank.specs.Cells.{IsTerm, AreTerms, AddsCells};
 
 use crate::fewest::{MOST_SYMBOLS, fewest_sizes, total_size};
@@ -90,6 +91,8 @@ impl<'a> Odometer<'a> {
         ensures goes { IfOk result (GoesOn bank.new row.old.items
             (slice_get (rows_within self.now depth sorts.now bound) 0) row.new.items) }
         ensures adds { AddsCells bank.old bank.new }
+        ensures few { OnOk result (length bank.new ≤ length bank.old
+            + row_symbols (slice_get (rows_within self.now depth sorts.now bound) 0)) }
     {
         let Some((sort, others)) = front(sorts) else {
             return Ok(true);
@@ -124,6 +127,8 @@ impl<'a> Odometer<'a> {
             (slice_get (values_within self.now depth sort bound) 0)) }
         ensures same { OnOk result (row.new.items ≡ row.old.items) }
         ensures adds { AddsCells bank.old bank.new }
+        ensures few { OnOk result (length bank.new ≤ length bank.old
+            + value_symbols (slice_get (values_within self.now depth sort bound) 0)) }
     {
         if self.fewest(depth, sort) > bound {
             return Ok(None);
@@ -148,6 +153,8 @@ impl<'a> Odometer<'a> {
             (slice_get (made_from self.now depth sort bound from) 0)) }
         ensures same { OnOk result (row.new.items ≡ row.old.items) }
         ensures adds { AddsCells bank.old bank.new }
+        ensures few { OnOk result (length bank.new ≤ length bank.old
+            + value_symbols (slice_get (made_from self.now depth sort bound from) 0)) }
     {
         let room = bound.min(MOST_SYMBOLS).saturating_sub(1);
         let start = row.len();
@@ -189,6 +196,10 @@ impl<'a> Odometer<'a> {
             → GoesOn bank.new (take place row.old.items)
             (slice_get (rows_after self.now depth sorts.now bound values) 0) row.new.items r) }
         ensures adds { AddsCells bank.old bank.new }
+        ensures few { OnOk result ((values : List Tree)
+            → AreTerms bank.old (drop place row.old.items) (trees_of values)
+            → length bank.new ≤ length bank.old
+            + row_symbols (slice_get (rows_after self.now depth sorts.now bound values) 0)) }
     {
         let Some((sort, others)) = front(sorts) else {
             return Ok(false);
@@ -229,6 +240,9 @@ impl<'a> Odometer<'a> {
             → IsPlaceOf bank.new (slice_get (values_after self.now depth sort bound t) 0) r) }
         ensures same { OnOk result (row.new.items ≡ row.old.items) }
         ensures adds { AddsCells bank.old bank.new }
+        ensures few { OnOk result ((t : Tree) → IsTerm bank.old value t
+            → length bank.new ≤ length bank.old
+            + value_symbols (slice_get (values_after self.now depth sort bound t) 0)) }
     {
         let start = row.len();
         let (sym, args) = bank.cell(value);

@@ -24,9 +24,10 @@ const MOST_COUNTED: u32 = 8;
 /// Looks for the first counterexample among the first `tries` members of the goal's substitutions
 /// of this depth. Each side has the whole budget. Members that begin with the same values and have
 /// one verdict are tried in one turn, where evaluation doesn't look at the values that follow. The
-/// memory doesn't grow with the number of tries: a look begins with at most 2^18 shared values, or
-/// those of its substitution alone. What calls gave is kept from one look to the next, in one table
-/// of fixed size.
+/// memory doesn't grow with the number of tries: a look at some members begins with at most 2^18
+/// shared values, and leaves at most those, what one verdict may add, and 255 for each variable.
+/// That stands in the contract of each look, since the values are gone when the search ends. What
+/// calls gave is kept from one look to the next, in one table of fixed size.
 pub fn search(
     alloc: Global,
     spec: &Spec,

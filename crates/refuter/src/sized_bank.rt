@@ -1,10 +1,11 @@
-ghost use Rattle.std.specs.Prelude.{◌≡◌, ◌<◌, min, ℕ, List, [], Some, IfOk, length, map, slice_get};
+ghost use Rattle.std.specs.Prelude.{◌≡◌, ◌+◌, ◌<◌, ◌≤◌, min, ℕ, List, [], Some, IfOk, OnOk, length, map, slice_get};
 ghost use Rattle.std.specs.List.{AllByRecursion};
-ghost use Rattle.term_core.specs.Tree.{Tree, tree_size, trees_of};
+ghost use Rattle.term_core.specs.Tree.{Tree, tree_size, sizes, trees_of};
 ghost use Rattle.spec_core.specs.WellSorted.{IsWellSorted};
 ghost use Rattle.value_bank.specs.Ground.{IsGround};
 ghost use Rattle.value_bank.specs.declared.bank.ValueId.{ValueId};
 ghost use Rattle.value_bank.specs.Cells.{cell, IsTerm, AreTerms, AreBelow, AddsCells};
+ghost use Rattle.ground_eval.specs.Looked.{most_looked};
 ghost use Rattle.ground_eval.specs.Opened.{AreFirstValues, IsPart};
 ghost use Rattle.refuter.specs.Sizes.{CanRead, GivesSize, IsSizeBy, IsNoted};
 ghost use Rattle.refuter.specs.Tables.{AreRightTables};
@@ -70,6 +71,7 @@ impl SizedBank {
         requires { AreBelow (length self.old) args.now }
         ensures found { IfOk result (λ p. slice_get self.new p ≡ Some (cell sym args.now)) }
         ensures adds { AddsCells self.old self.new }
+        ensures few { length self.new ≤ length self.old + 1 }
     {
         let size = size_by(&self.sizes, args);
         let place = self.bank.add(sym, args)?;
@@ -108,6 +110,8 @@ impl SizedBank {
         ensures placed { IfOk result (λ places.
             AreTerms self.new places.items (trees_of values.now)) }
         ensures adds { AddsCells self.old self.new }
+        ensures few { OnOk result
+            (length self.new ≤ length self.old + sizes (trees_of values.now)) }
     {
         place_terms(alloc, &mut self.bank, values)
     }
@@ -131,6 +135,8 @@ impl SizedBank {
             → AreTerms self.old places.now (trees_of firsts)
             → IsPart prepared.now.spec prepared.now.goal firsts budget part) }
         ensures adds { AddsCells self.old self.new }
+        ensures few { IfOk result (λ _. length self.new
+            ≤ length self.old + most_looked prepared.now budget) }
         ensures kept { IfOk result (λ _. AreRightTables prepared.now self.new tables.new) }
     {
         let ids = ids_of(alloc, places)?;
@@ -160,6 +166,8 @@ fn place_terms(alloc: Global, bank: &mut Bank, values: &[Term]) -> Result<Vec<u3
     requires { AllByRecursion IsGround values.now }
     ensures placed { IfOk result (λ places. AreTerms bank.new places.items (trees_of values.now)) }
     ensures adds { AddsCells bank.old bank.new }
+    ensures few { OnOk result
+        (length bank.new ≤ length bank.old + sizes (trees_of values.now)) }
 {
     let mut places = Vec::with_capacity(alloc, values.len())?;
     for value in values {

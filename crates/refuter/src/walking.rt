@@ -1,4 +1,4 @@
-ghost use Rattle.std.specs.Prelude.{◌≡◌, ◌<◌, ◌++◌, List, Some, None, IfOk, OnOk, IfSome, length, slice_get};
+ghost use Rattle.std.specs.Prelude.{◌≡◌, ◌+◌, ◌*◌, ◌^◌, ◌<◌, ◌≤◌, ◌++◌, max, List, Some, None, IfOk, OnOk, IfSome, length, slice_get};
 ghost use Rattle.term_core.specs.Tree.{Tree, trees_of};
 ghost use Rattle.term_core.specs.declared.ids.SortId.{SortId as SortIdOf};
 ghost use Rattle.spec_core.specs.WellSorted.{sorts_of};
@@ -6,12 +6,14 @@ ghost use Rattle.spec_core.specs.Overlap.{NoOverlap};
 ghost use Rattle.spec_core.specs.Groups.{GroupsAreWhole};
 ghost use Rattle.spec_core.specs.Order.{substitutions};
 ghost use Rattle.value_bank.specs.Cells.{AreTerms, AddsCells};
+ghost use Rattle.ground_eval.specs.Looked.{most_looked};
 ghost use Rattle.ground_eval.specs.Opened.{Partial};
 ghost use Rattle.refuter.specs.Finds.{Finds, IsFalse};
 ghost use Rattle.refuter.specs.Blocks.{rows_of, block};
 ghost use Rattle.refuter.specs.Looks.{IsAnswerOf, IsTally};
 ghost use Rattle.refuter.specs.Sizes.{CanRead};
 ghost use Rattle.refuter.specs.Tables.{AreRightTables};
+ghost use Rattle.refuter.specs.Memory.{most_cells, HasAtMost, LeavesFew};
 ghost use Rattle.refuter.specs.Walk.{spec_of, goal_of, IsWalk, AreKept, HasBegun, HasRows, HaveVerdict, Knows, LooksAt, StandsAgain};
 
 use crate::answers::Search;
@@ -82,7 +84,10 @@ impl<'a> Walk<'a> {
         Ok(answer(look, &tally))
     }
 
-    /// Looks at the block of the row, where values of these sorts are left.
+    /// Looks at the block of the row, where values of these sorts are left. However large the bank
+    /// was, it has at most 2^18 cells afterwards, and what one verdict may add, and one row more
+    /// where the look ends before the block does; it stays as it was where no try is left. So the
+    /// number of tries doesn't count.
     #[cycle(look)]
     fn look(
         &self,
@@ -103,6 +108,7 @@ impl<'a> Walk<'a> {
             tally.old tally.new) }
         ensures stays { IfOk result (StandsAgain bank.old row.old.items bank.new row.new.items) }
         ensures kept { IfOk result (λ _. AreKept self.now bank.new tables.new) }
+        ensures few { IfOk result (LeavesFew self.now bank.old bank.new) }
     {
         if tally.tried == self.tries {
             return Ok(Look::Cut);
@@ -136,6 +142,8 @@ impl<'a> Walk<'a> {
             tally.old tally.new) }
         ensures stays { IfOk result (StandsAgain bank.old row.old.items bank.new row.new.items) }
         ensures kept { IfOk result (λ _. AreKept self.now bank.new tables.new) }
+        ensures few { IfOk result
+            (HasAtMost self.now (max (length bank.old) (most_cells self.now)) bank.new) }
     {
         match asked {
             Asked::Block { verdict, size } => {
@@ -170,6 +178,8 @@ impl<'a> Walk<'a> {
             (firsts.now ++ others.now) tally.old tally.new) }
         ensures stays { IfOk result (StandsAgain bank.old row.old.items bank.new row.new.items) }
         ensures kept { IfOk result (λ _. AreKept self.now bank.new tables.new) }
+        ensures few { IfOk result
+            (HasAtMost self.now (max (length bank.old) (most_cells self.now)) bank.new) }
     {
         let (odometer, depth, bound) = (self.odometer, self.depth, self.bound);
         let start = row.len();
@@ -204,6 +214,8 @@ impl<'a> Walk<'a> {
             → Knows self.now firsts sorts.now r) }
         ensures adds { AddsCells bank.old bank.new }
         ensures kept { IfOk result (λ _. AreKept self.now bank.new tables.new) }
+        ensures few { IfOk result (λ _. length bank.new
+            ≤ length bank.old + most_looked self.now.prepared.now self.now.budget) }
     {
         let left = sorts.len();
         let Some(size) = self.size(sorts) else {
@@ -263,6 +275,7 @@ impl<'a> Walk<'a> {
             tally.old tally.new) }
         ensures stays { IfOk result (λ r. r ≡ Look.Whole → row.new.items ≡ row.old.items) }
         ensures adds { AddsCells bank.old bank.new }
+        ensures few { IfOk result (HasAtMost self.now (length bank.old) bank.new) }
     {
         let taken = size.min(self.tries - tally.tried);
         let skipped = match verdict {
@@ -299,6 +312,7 @@ impl<'a> Walk<'a> {
             → slice_get (block (spec_of self.now).sig self.now.depth firsts sorts.now) 0
             ≡ Some values) }
         ensures adds { AddsCells bank.old bank.new }
+        ensures few { OnOk result (length bank.new ≤ length bank.old + self.now.bound) }
     {
         let (depth, bound) = (self.depth, self.bound);
         let _found = self
@@ -345,6 +359,7 @@ fn make_room(
         → AreTerms bank.new row.new.items (trees_of values)) }
     ensures kept { OnOk result ((goal : Partial) → AreRightTables goal bank.old tables.old
         → AreRightTables goal bank.new tables.new) }
+    ensures few { OnOk result (length bank.new ≤ max (2 ^ 18) (255 * length row.old.items)) }
 {
     if bank.len() <= MANY_CELLS {
         return Ok(());

@@ -1,8 +1,9 @@
-use Rattle.std.proofs.Common.{sym, subst}
+use Rattle.std.proofs.Common.{arith, ap, sym, subst, length}
 use Rattle.std.specs.List.{AllByRecursion}
-use Rattle.term_core.specs.Tree.{trees_of}
+use Rattle.term_core.specs.Tree.{trees_of, sizes}
 use Rattle.value_bank.specs.Cells.{AreTerms}
 use Rattle.value_bank.specs.Ground.{IsGround}
+use Rattle.refuter.proofs.Memory.{read_symbols}
 use Rattle.refuter.proofs.Sizing.{all_ground}
 use Rattle.refuter.proofs.Steps.{at_places}
 use Rattle.refuter.proofs.walking.make_room.Goals as goal
@@ -18,3 +19,9 @@ returns-clause-placed c =
 
 pub returns-clause-kept : goal.returns-clause-kept
 returns-clause-kept c g right = c.new-2.ensures g c.place.new.self
+
+pub returns-clause-few : goal.returns-clause-few
+returns-clause-few c =
+    let read = subst (λ ps. AreTerms c.args.bank.now ps (trees_of c.in_ok-values.values.items)) c.deref.ensures.value c.in_ok-values.ensures in
+    let small = read_symbols c.args.bank.now c.args.row.now.items c.in_ok-values.values.items c.requires read in
+    omega (arith, small, ap (λ ts. sizes (trees_of ts)) c.deref-2.ensures.value, ap (λ cells. length cells) c.in_ok-bank.ensures, c.in_ok-row.ensures.few)

@@ -1,4 +1,4 @@
-use Rattle.std.proofs.Common.{◌≡◌, ◌+◌, ◌*◌, length}
+use Rattle.std.proofs.Common.{◌≡◌, ◌+◌, ◌*◌, ◌≤◌, length}
 use Rattle.std.specs.Prelude.{slice_get}
 use Rattle.value_bank.specs.Cells.{AddsCells}
 use Rattle.refuter.specs.After.{made_from}
@@ -18,4 +18,5 @@ invariant-first_made-loop-number l = record {
   first : slice_get (made_from l.self l.depth l.sort l.bound l.number) 0 ≡ slice_get (made_from l.self l.depth l.sort l.bound l.from) 0;
   same : l.row.items ≡ l.fn.row.items;
   adds : AddsCells l.fn.bank l.bank;
+  few : length l.bank ≤ length l.fn.bank;
 }

@@ -1,8 +1,9 @@
-use Rattle.std.proofs.Common.{◌≡◌, ◌<◌, ◌++◌, arith, sym, subst, length, take}
+use Rattle.std.proofs.Common.{◌≡◌, ◌<◌, ◌++◌, arith, ap, sym, subst, length, take}
 use Rattle.std.specs.Prelude.{slice_get}
 use Rattle.std.specs.List.{Contains}
 use Rattle.term_core.specs.Tree.{trees_of}
 use Rattle.term_core.proofs.Items.{if_ok_map}
+use Rattle.term_core.proofs.Members.{in_contained}
 use Rattle.spec_core.specs.Sig.{Sig}
 use Rattle.spec_core.specs.WellSorted.{sorts_of}
 use Rattle.value_bank.specs.Cells.{AreTerms}
@@ -17,7 +18,11 @@ use Rattle.refuter.proofs.Blocks.{block_length, others_some}
 use Rattle.refuter.proofs.Keeping.{tables_kept}
 use Rattle.refuter.proofs.Looks.{looks_cut, looks_on, looks_tally}
 use Rattle.refuter.proofs.Through.{through_starts, row_here, begun_here, places_here, through_moves, through_stops, through_ends, through_stays}
-use Rattle.refuter.proofs.Walks.{few_symbols, next_sorts, can_read, begun_again}
+use Rattle.refuter.specs.Symbols.{row_symbols}
+use Rattle.refuter.specs.Memory.{LeavesFew}
+use Rattle.refuter.proofs.Memory.{first_symbols, after_symbols, more_allowed, leaves_few}
+use Rattle.refuter.proofs.Steps.{goes_false}
+use Rattle.refuter.proofs.Walks.{few_places, few_symbols, next_sorts, can_read, begun_again}
 use Rattle.refuter.proofs.walking.Walk.+look.Goals as goal
 
 pub look-returns-then-tally-self-clause-looks : goal.look-returns-then-tally-self-clause-looks
@@ -55,6 +60,14 @@ look-returns-clause-looks t c =
 pub look-returns-clause-stays : goal.look-returns-clause-stays
 look-returns-clause-stays t c =
     if_ok_map c.look_as.result _ _ (λ r h e firsts stand. h e firsts (terms_kept c.make_room.new.bank c.ask.new.bank c.make_room.new.row.items (trees_of firsts) c.in_ok-asked.ensures.adds (c.in_ok-make_room.ensures.placed firsts stand))) c.look_as.ensures.stays
+
+pub look-returns-clause-few : goal.look-returns-clause-few
+look-returns-clause-few t c =
+    let walk = c.args.self.now in
+    let places = few_places _ _ _ _ _ _ c.requires.walk c.args.bank.now c.args.row.now.items c.args.sorts.now c.requires.begun.0 c.requires.begun.1 in
+    let begun = c.in_ok-make_room.ensures.few in
+    let asked = c.in_ok-asked.ensures.few in
+    if_ok_map c.look_as.result _ _ (λ r h. leaves_few walk c.args.bank.now c.ask.new.bank c.look_as.new.bank r (omega (arith, begun, asked, places)) h) c.look_as.ensures.few
 
 pub look_as-pass-requires-clause-begun : goal.look_as-pass-requires-clause-begun
 look_as-pass-requires-clause-begun t c =
@@ -94,6 +107,10 @@ pub look_as-returns-in-Block-clause-kept : goal.look_as-returns-in-Block-clause-
 look_as-returns-in-Block-clause-kept t c =
     if_ok_map c.pass.result _ _ (λ r h. tables_kept c.args.self.now.prepared.now c.args.bank.now c.pass.new.bank c.args.tables.now c.pass.ensures.adds c.requires.kept) c.pass.ensures.stays
 
+pub look_as-returns-in-Block-clause-few : goal.look_as-returns-in-Block-clause-few
+look_as-returns-in-Block-clause-few t c =
+    if_ok_map c.pass.result _ _ (λ r h. more_allowed c.args.self.now (length c.args.bank.now) _ c.pass.new.bank r (omega arith) h) c.pass.ensures.few
+
 pub look_as-returns-in-Split-clause-looks : goal.look_as-returns-in-Split-clause-looks
 look_as-returns-in-Split-clause-looks t c =
     let spec = c.args.self.now.prepared.now.spec in
@@ -115,6 +132,10 @@ look_through-loop-more-init t c =
       walked = through_starts spec aim c.args.self.now.budget c.args.self.now.tries c.args.self.now.depth c.args.self.now.bound c.args.firsts.now c.args.others.now c.args.bank.now c.push_first.new.bank c.args.row.now.items c.push_first.new.row.items c.len-start.result c.args.tally.now c.in_ok-more.more c.requires.begun.0 c.requires.begun.1 c.requires.walk.room (omega (arith, c.len-start.ensures, c.args.row.now.ok.0)) c.requires.tally.1 c.in_ok-more.ensures.adds goes;
       kept = tables_kept c.args.self.now.prepared.now c.args.bank.now c.push_first.new.bank c.args.tables.now c.in_ok-more.ensures.adds c.requires.kept;
       tally = c.requires.tally;
+      few = omega (arith, c.in_ok-more.ensures.few, first_symbols c.args.self.now.odometer.now c.args.self.now.depth c.args.firsts.now c.args.self.now.bound);
+      last = λ e.
+          let none = goes_false c.push_first.new.bank c.args.row.now.items (slice_get (rows_within c.args.self.now.odometer.now c.args.self.now.depth c.args.firsts.now c.args.self.now.bound) 0) c.push_first.new.row.items c.in_ok-more.more c.in_ok-more.ensures.goes e in
+          omega (arith, c.in_ok-more.ensures.few, ap row_symbols none.0);
     }
 
 pub look_through-look-requires : goal.look_through-look-requires
@@ -132,6 +153,11 @@ look_through-returns-in-Cut-clause-looks t c =
     let look = subst (λ r. LooksOver spec aim c.args.self.now.budget c.args.self.now.tries (block spec.sig c.args.self.now.depth (w.values ++ here.row) c.args.others.now) c.loop-more.tally c.look.new.tally r) c.in-Cut.is (c.in_ok-look.ensures.looks (w.values ++ here.row) here.stand) in
     through_stops _ _ _ _ _ _ _ _ _ _ _ _ _ _ _ _ c.requires.walk.room c.loop-more-test.true w c.look.new.tally Cut (λ e. let q : Cut ≡ Whole = e in cc) look
 
+pub look_through-returns-in-Cut-clause-few : goal.look_through-returns-in-Cut-clause-few
+look_through-returns-in-Cut-clause-few t c =
+    let left = subst (λ r. LeavesFew c.args.self.now c.loop-more.bank c.look.new.bank r) c.in-Cut.is c.in_ok-look.ensures.few in
+    omega (arith, left, c.loop-more.invariant.few)
+
 pub look_through-returns-in-Found-clause-looks : goal.look_through-returns-in-Found-clause-looks
 look_through-returns-in-Found-clause-looks t c =
     let spec = c.args.self.now.prepared.now.spec in
@@ -140,6 +166,11 @@ look_through-returns-in-Found-clause-looks t c =
     let here = row_here _ _ _ _ _ _ _ _ _ _ _ _ _ _ _ _ c.requires.walk.room c.loop-more-test.true w in
     let look = subst (λ r. LooksOver spec aim c.args.self.now.budget c.args.self.now.tries (block spec.sig c.args.self.now.depth (w.values ++ here.row) c.args.others.now) c.loop-more.tally c.look.new.tally r) c.in-Found.is (c.in_ok-look.ensures.looks (w.values ++ here.row) here.stand) in
     through_stops _ _ _ _ _ _ _ _ _ _ _ _ _ _ _ _ c.requires.walk.room c.loop-more-test.true w c.look.new.tally (Found c.in-Found.values) (λ e. let q : Found c.in-Found.values ≡ Whole = e in cc) look
+
+pub look_through-returns-in-Found-clause-few : goal.look_through-returns-in-Found-clause-few
+look_through-returns-in-Found-clause-few t c =
+    let left = subst (λ r. LeavesFew c.args.self.now c.loop-more.bank c.look.new.bank r) c.in-Found.is c.in_ok-look.ensures.few in
+    omega (arith, left)
 
 pub look_through-advance-requires-clause-sorts : goal.look_through-advance-requires-clause-sorts
 look_through-advance-requires-clause-sorts t c = next_sorts _ _ _ _ _ _ c.requires.walk c.requires.begun.1.sorts c.args.firsts.now c.args.others.now c.requires.begun.1.parted
@@ -185,10 +216,18 @@ look_through-loop-more-preserved t c =
     let stand = c.in_ok-look.ensures.stays c.in-Whole.is (w.values ++ here.row) here.stand in
     let places = places_here _ _ _ _ _ _ _ _ _ _ _ _ _ _ _ _ c.requires.walk.room c.loop-more-test.true w c.look.new.bank c.look.new.row.items stand in
     let goes = subst (λ (g : Sig). GoesOn c.advance.new.bank (take c.len-start.result c.look.new.row.items) (slice_get (rows_after g c.args.self.now.depth c.args.firsts.now c.args.self.now.bound here.row) 0) c.advance.new.row.items c.in_ok-more-2.more) c.requires.walk.walks (c.in_ok-more-2.ensures.goes here.row places.2) in
+    let sig = c.args.self.now.odometer.now in
+    let listed = subst (λ (g : Sig). Contains (rows_within g c.args.self.now.depth c.args.firsts.now c.args.self.now.bound) here.row) (sym c.requires.walk.walks) here.listed in
+    let left = subst (λ r. LeavesFew c.args.self.now c.loop-more.bank c.look.new.bank r) c.in-Whole.is c.in_ok-look.ensures.few in
+    let added = c.in_ok-more-2.ensures.few here.row places.2 in
     record {
       walked = through_moves _ _ _ _ _ _ _ _ _ _ _ _ _ _ _ _ c.requires.walk.room c.loop-more-test.true w c.look.new.bank c.advance.new.bank c.look.new.row.items c.advance.new.row.items c.look.new.tally c.in_ok-more-2.more stand c.in_ok-more-2.ensures.adds look goes;
       kept = tables_kept c.args.self.now.prepared.now c.look.new.bank c.advance.new.bank c.look.new.tables c.in_ok-more-2.ensures.adds c.in_ok-look.ensures.kept;
       tally = looks_tally spec aim c.args.self.now.budget c.args.self.now.tries rows c.loop-more.tally c.look.new.tally Whole c.loop-more.invariant.tally look;
+      few = omega (arith, left, added, after_symbols sig c.args.self.now.depth c.args.firsts.now c.args.self.now.bound here.row (in_contained _ _ listed));
+      last = λ e.
+          let none = goes_false c.advance.new.bank (take c.len-start.result c.look.new.row.items) (slice_get (rows_after sig c.args.self.now.depth c.args.firsts.now c.args.self.now.bound here.row) 0) c.advance.new.row.items c.in_ok-more-2.more (c.in_ok-more-2.ensures.goes here.row places.2) e in
+          omega (arith, left, added, ap row_symbols none.0);
     }
 
 pub look_through-returns-clause-looks : goal.look_through-returns-clause-looks
@@ -196,3 +235,6 @@ look_through-returns-clause-looks t c = through_ends _ _ _ _ _ _ _ _ _ _ _ _ _ _
 
 pub look_through-returns-clause-stays : goal.look_through-returns-clause-stays
 look_through-returns-clause-stays t c e = through_stays _ _ _ _ _ _ _ _ _ _ _ _ _ _ _ _ c.loop-more-test.false c.loop-more.invariant.walked
+
+pub look_through-returns-clause-few : goal.look_through-returns-clause-few
+look_through-returns-clause-few t c = c.loop-more.invariant.last c.loop-more-test.false

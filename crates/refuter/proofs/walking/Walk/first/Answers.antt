@@ -1,10 +1,11 @@
-use Rattle.std.proofs.Common.{◌≡◌, ◌∙◌, ◌++◌, Some, sym, ap, subst, refl}
+use Rattle.std.proofs.Common.{arith, ◌≡◌, ◌∙◌, ◌++◌, Some, sym, ap, subst, refl}
 use Rattle.std.specs.Prelude.{slice_get}
 use Rattle.term_core.specs.Tree.{trees_of}
 use Rattle.value_bank.specs.Cells.{AreTerms}
 use Rattle.value_bank.proofs.Terms.{terms_kept}
 use Rattle.refuter.specs.Blocks.{block}
 use Rattle.refuter.specs.Sizes.{CanRead}
+use Rattle.refuter.proofs.Memory.{first_symbols}
 use Rattle.refuter.proofs.Steps.{at_places}
 use Rattle.refuter.proofs.Walks.{few_symbols, last_sorts, first_row_of}
 use Rattle.refuter.proofs.walking.Walk.first.Goals as goal
@@ -31,3 +32,6 @@ returns-clause-first c firsts h =
     let all = c.requires.begun.0 ++ r.rest in
     let made : c.in_ok-values.values.items ≡ all = at_places c.push_first.new.bank c.push_first.new.row.items (λ vs. vs ≡ all) all r.stand refl c.in_ok-values.values.items read in
     at_places c.args.bank.now c.args.row.now.items (λ vs. slice_get (block c.args.self.now.prepared.now.spec.sig c.args.self.now.depth vs c.args.sorts.now) 0 ≡ Some c.from_vec.result) c.requires.begun.0 b.stand (r.first ∙ ap (λ xs. Some xs) (sym (c.from_vec.ensures ∙ made))) firsts h
+
+pub returns-clause-few : goal.returns-clause-few
+returns-clause-few c = omega (arith, c.in_ok-_found.ensures.few, first_symbols c.args.self.now.odometer.now c.args.self.now.depth c.args.sorts.now c.args.self.now.bound)
