@@ -1,7 +1,7 @@
 -- Where each node of a block has its step, it can be tested what is allowed: references are to nodes, and there are few.
 use Rattle.std.proofs.Common.{◌≡◌, ℕ, zero, suc, ◌+◌, ◌≤◌, ◌<◌, ◌^◌, List, [], ◌∷◌, ◌++◌, Some, None, Ok, Err, map, length, inl, inr, sym, ◌∙◌, ap, subst, arith, length-append}
 use Rattle.std.specs.Prelude.{flat_map, slice_get, sum}
-use Rattle.std.specs.List.{AllByRecursion}
+use Rattle.std.specs.List.{AllByRecursion, AllZip}
 use Rattle.std.proofs.lemmas.List.{length-map}
 use Rattle.std.proofs.lemmas.List.Sums.{sum-map, sum_by-cons}
 use Rattle.std.proofs.lemmas.Option.{slice_get_within}
@@ -15,7 +15,7 @@ use Rattle.clause_core.specs.declared.answers.Children.{Children}
 use Rattle.clause_core.specs.declared.answers.Reference.{Reference}
 use Rattle.clause_core.specs.declared.answers.Why.TheVariants.{Limit}
 use Rattle.clause_core.specs.Rows.{Row, needs, makes}
-use Rattle.clause_core.specs.Says.{Says, Pairwise, IsReference}
+use Rattle.clause_core.specs.Says.{Says, IsReference}
 use Rattle.clause_core.specs.Steps.{row_of}
 use Rattle.acceptance.specs.Blocks.{clauses_of, nodes_of, StepMakes, StepsMake}
 use Rattle.acceptance.specs.AllowedAnswers.{IsWholeBlock}
@@ -48,7 +48,7 @@ rows_refer spec usable nodes c (Hyp j terms place left) = λ node sorted within 
 rows_refer spec usable nodes c (Lemma name terms place left) = λ lemma sorted within at rewrites. tt
 
 module _ (above : Tree → Tree → Type 0) (c : Clause) (nodes : List Clause) where
-  refs_are_made : (refs : List (ℕ × Clause)) (made : List Reference) → AllByRecursion (IsMade nodes) refs → Pairwise (IsReference above c) refs made → (i : ℕ) (r : Reference) → slice_get made i ≡ Some r → r.node < length nodes
+  refs_are_made : (refs : List (ℕ × Clause)) (made : List Reference) → AllByRecursion (IsMade nodes) refs → AllZip (IsReference above c) refs made → (i : ℕ) (r : Reference) → slice_get made i ≡ Some r → r.node < length nodes
   refs_are_made [] [] h p i r at = absurd (let q : None ≡ Some r = at in cc)
   refs_are_made [] (m ∷ made) h p i r at = absurd p
   refs_are_made (s ∷ refs) [] h p i r at = absurd p

@@ -1,6 +1,7 @@
 -- Rows that agree say one thing.
 use Rattle.std.proofs.Common.{◌≡◌, ℕ, List, [], ◌∷◌, inl, inr, refl, ap, sym, ◌∙◌, subst}
 use Rattle.std.specs.Prelude.{Result, Ok, Err}
+use Rattle.std.specs.List.{AllZip}
 use Rattle.term_core.specs.Tree.{Tree}
 use Rattle.clause_core.specs.declared.clauses.Clause.{Clause}
 use Rattle.clause_core.specs.declared.answers.Child.{Child}
@@ -9,7 +10,7 @@ use Rattle.clause_core.specs.declared.answers.Reference.{Reference}
 use Rattle.clause_core.specs.declared.answers.Why.{Why}
 use Rattle.clause_core.specs.ClauseLaws.{OneRelation}
 use Rattle.clause_core.specs.Rows.{Made, Row, child, compared_child, needs, makes}
-use Rattle.clause_core.specs.Says.{Pairwise, AreWithin, AnswersWithin, IsChild, IsReference, Says}
+use Rattle.clause_core.specs.Says.{AreWithin, AnswersWithin, IsChild, IsReference, Says}
 
 -- the same conditions are met, and then the same is made, whichever witnesses there are
 abbrev pub Agree : Row → Row → Type 0
@@ -33,7 +34,7 @@ module _ (above : Tree → Tree → Type 0) (one_relation : OneRelation above) (
   one_reference : (r : ℕ × Clause) (a b : Reference) → IsReference above c r a → IsReference above c r b → a ≡ b
   one_reference r a b p q = let e : a.node ≡ b.node = p.0 ∙ sym q.0 in let f : a.relation ≡ b.relation = one_relation c r.1 a.relation b.relation p.1 q.1 in λ i. record { node = e i; relation = f i }
 
-  pairwise_one : {X Y : Type 0} (R : X → Y → Type 0) → ((x : X) (y z : Y) → R x y → R x z → y ≡ z) → (xs : List X) (ys zs : List Y) → Pairwise R xs ys → Pairwise R xs zs → ys ≡ zs
+  pairwise_one : {X Y : Type 0} (R : X → Y → Type 0) → ((x : X) (y z : Y) → R x y → R x z → y ≡ z) → (xs : List X) (ys zs : List Y) → AllZip R xs ys → AllZip R xs zs → ys ≡ zs
   pairwise_one R one [] [] [] p q = refl
   pairwise_one R one [] [] (z ∷ zs) p q = absurd q
   pairwise_one R one [] (y ∷ ys) zs p q = absurd p
@@ -59,6 +60,6 @@ module _ (above : Tree → Tree → Type 0) (one_relation : OneRelation above) (
   says_one nodes (needs P why rest) (makes ds ss) h a b p q = absurd h
   says_one nodes (makes cs rs) (needs Q other next) h a b p q = absurd h
   says_one nodes (makes cs rs) (makes ds ss) h a b (m, mc, mr, x) (n, nc, nr, y) =
-      let e : m.clauses ≡ n.clauses = pairwise_one (IsChild above c) one_child cs m.clauses n.clauses mc (subst (λ z. Pairwise (IsChild above c) z n.clauses) (sym h.0) nc) in
-      let f : m.refs ≡ n.refs = pairwise_one (IsReference above c) one_reference rs m.refs n.refs mr (subst (λ z. Pairwise (IsReference above c) z n.refs) (sym h.1) nr) in
+      let e : m.clauses ≡ n.clauses = pairwise_one (IsChild above c) one_child cs m.clauses n.clauses mc (subst (λ z. AllZip (IsChild above c) z n.clauses) (sym h.0) nc) in
+      let f : m.refs ≡ n.refs = pairwise_one (IsReference above c) one_reference rs m.refs n.refs mr (subst (λ z. AllZip (IsReference above c) z n.refs) (sym h.1) nr) in
       within_one nodes m n a b (λ i. record { clauses = e i; refs = f i }) x y

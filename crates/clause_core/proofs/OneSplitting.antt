@@ -1,7 +1,7 @@
 -- `cover` says one thing: a pattern has one list of sorts of its variables.
 use Rattle.std.proofs.Common.{◌≡◌, ℕ, zero, suc, ◌+◌, ◌<◌, List, [], ◌∷◌, Some, map, inl, inr, refl, ap, sym, ◌∙◌, subst, arith, length}
 use Rattle.std.specs.Prelude.{slice_get, zip}
-use Rattle.std.specs.List.{range_with_len}
+use Rattle.std.specs.List.{range_with_len, AllZip}
 use Rattle.std.proofs.lemmas.List.FromFn.{length-range_with_len}
 use Rattle.term_core.specs.Tree.{Tree, Trees, var, app, none, some}
 use Rattle.term_core.specs.Variables.{occurrences, occurrences_all}
@@ -15,7 +15,6 @@ use Rattle.clause_core.specs.declared.clauses.Clause.{Clause}
 use Rattle.clause_core.specs.declared.clauses.Relation.TheVariants.{Same}
 use Rattle.clause_core.proofs.Multisets.{in_either}
 use Rattle.clause_core.specs.Rows.{child}
-use Rattle.clause_core.specs.Says.{Pairwise}
 use Rattle.clause_core.specs.Patterns.{IsPatternOf, AreCovering}
 use Rattle.clause_core.specs.Splitting.{covered_by, cover_row}
 use Rattle.clause_core.proofs.OneAnswer.{Agree, forth, back}
@@ -57,7 +56,7 @@ pattern_one sig s p a b m n =
     let lengths : length a ≡ length b = sym (length-range_with_len 0 (length a)) ∙ ap (λ (xs : List ℕ). length xs) ranges ∙ length-range_with_len 0 (length b) in
     same_gets a b lengths (λ k l. same_sorts sig a b p s m.sorted n.sorted k (subst (λ (xs : List ℕ). In k xs) (sym m.numbered) (let e : 0 + k ≡ k = omega arith in subst (λ j. In j (range_with_len 0 (length a))) e (in_range k 0 (length a) l))))
 
-patterns_one : (sig : Sig) (s : SortId) (as_ bs : List (List SortId)) (ps : List Tree) → Pairwise (IsPatternOf sig s) as_ ps → Pairwise (IsPatternOf sig s) bs ps → as_ ≡ bs
+patterns_one : (sig : Sig) (s : SortId) (as_ bs : List (List SortId)) (ps : List Tree) → AllZip (IsPatternOf sig s) as_ ps → AllZip (IsPatternOf sig s) bs ps → as_ ≡ bs
 patterns_one sig s [] [] [] m n = refl
 patterns_one sig s [] [] (p ∷ ps) m n = absurd m
 patterns_one sig s [] (b ∷ bs) [] m n = absurd n
@@ -82,7 +81,7 @@ module _ (spec : Spec) (c : Clause) where
           back (λ s. AreCovering spec.sig s ps) e,
           refl,
           λ m k.
-              let w : a.contexts ≡ b.contexts = patterns_one spec.sig a.sort a.contexts b.contexts ps a.each (subst (λ s. Pairwise (IsPatternOf spec.sig s) b.contexts ps) (sym e) b.each) in
+              let w : a.contexts ≡ b.contexts = patterns_one spec.sig a.sort a.contexts b.contexts ps a.each (subst (λ s. AllZip (IsPatternOf spec.sig s) b.contexts ps) (sym e) b.each) in
               (λ i. map (λ (x : List SortId × Tree). child Same (covered_by c n x)) (zip (w i) ps), refl),
         ),
   )

@@ -1,6 +1,6 @@
 -- What the steps that put patterns for a variable, or a variable for a term, say of small clauses.
 use Rattle.std.proofs.Common.{◌≡◌, ℕ, ◌≤◌, List, [], ◌∷◌, Some, None, inl, inr, refl, ap, ◌∙◌, arith}
-use Rattle.std.specs.List.{range_with_len}
+use Rattle.std.specs.List.{range_with_len, AllZip}
 use Rattle.term_core.specs.Tree.{Tree, Trees, var, none, some, tree_size, sizes}
 use Rattle.term_core.specs.Contexts.{Context, hole, under, around, plug}
 use Rattle.term_core.specs.declared.ids.SortId.{SortId}
@@ -8,14 +8,13 @@ use Rattle.term_core.proofs.Members.{In, in_contained}
 use Rattle.spec_core.specs.Sig.{Sig}
 use Rattle.spec_core.specs.Naturals.{nat, naturals_sig, zero_term, succ_term, plus_term}
 use Rattle.clause_core.specs.Clauses.{sides}
-use Rattle.clause_core.specs.Says.{Pairwise}
 use Rattle.clause_core.specs.Patterns.{IsPatternOf, AreCovering}
 use Rattle.clause_core.specs.Generalizing.{StandsIn}
 use Rattle.clause_core.specs.ExampleClauses.{unit_clause}
 use Rattle.clause_core.specs.SplittingExamples.{SplittingExamples}
 
 -- what isn't a pattern over any variables isn't one of a list
-none_of : (sig : Sig) (s : SortId) (p : Tree) → ((ctx : List SortId) → IsPatternOf sig s ctx p → ⊥) → (contexts : List (List SortId)) → Pairwise (IsPatternOf sig s) contexts (p ∷ []) → ⊥
+none_of : (sig : Sig) (s : SortId) (p : Tree) → ((ctx : List SortId) → IsPatternOf sig s ctx p → ⊥) → (contexts : List (List SortId)) → AllZip (IsPatternOf sig s) contexts (p ∷ []) → ⊥
 none_of sig s p h [] m = m
 none_of sig s p h (ctx ∷ more) m = h ctx m.0
 

@@ -1,6 +1,6 @@
 -- What a row says of a node: what is made, or the reason for which nothing is.
 use Rattle.std.specs.Prelude.{◌≡◌, ◌⊎◌, ℕ, ◌+◌, ◌≤◌, List, [], ◌∷◌, Result, Ok, Err, length}
-use Rattle.std.specs.List.{AllByRecursion}
+use Rattle.std.specs.List.{AllByRecursion, AllZip}
 use Rattle.term_core.specs.Tree.{Tree}
 use Rattle.clause_core.specs.declared.clauses.Clause.{Clause}
 use Rattle.clause_core.specs.Limits.{IsWithin}
@@ -12,13 +12,6 @@ use Rattle.clause_core.specs.declared.answers.Reference.{Reference}
 use Rattle.clause_core.specs.declared.answers.Why.{Why}
 use Rattle.clause_core.specs.declared.answers.Why.TheVariants.{Limit}
 use Rattle.clause_core.specs.Rows.{Made, Row, child, compared_child, needs, makes}
-
--- elements of two lists go together in pairs
-abbrev pub Pairwise : {X Y : Type 0} → (X → Y → Type 0) → List X → List Y → Type 0
-Pairwise R [] [] = Unit {0}
-Pairwise R (x ∷ xs) (y ∷ ys) = R x y × Pairwise R xs ys
-Pairwise R [] (y ∷ ys) = ⊥
-Pairwise R (x ∷ xs) [] = ⊥
 
 -- each child is within the clause limits, and with the children there are at most 10,000 nodes
 abbrev pub AreWithin : List Clause → List Child → Type 0
@@ -45,4 +38,4 @@ module _ (above : Tree → Tree → Type 0) (c : Clause) where
   abbrev pub Says : List Clause → Row → Result Children Why → Type 0
   Says nodes (needs P why rest) answer = ((p : P) × Says nodes (rest p) answer) ⊎ ((P → ⊥) × (answer ≡ Err why))
   Says nodes (makes children refs) answer =
-      (made : Children) × Pairwise IsChild children made.clauses × Pairwise IsReference refs made.refs × AnswersWithin nodes made answer
+      (made : Children) × AllZip IsChild children made.clauses × AllZip IsReference refs made.refs × AnswersWithin nodes made answer

@@ -1,5 +1,6 @@
 -- The row of the step that splits a variable into patterns: `cover`.
 use Rattle.std.specs.Prelude.{◌≡◌, ℕ, List, [], ◌++◌, Some, map, zip, length, slice_get}
+use Rattle.std.specs.List.{AllZip}
 use Rattle.term_core.specs.Tree.{Tree, instance}
 use Rattle.term_core.specs.declared.ids.SortId.{SortId}
 use Rattle.spec_core.specs.declared.records.Spec.{Spec}
@@ -9,7 +10,6 @@ use Rattle.clause_core.specs.declared.clauses.Relation.TheVariants.{Same}
 use Rattle.clause_core.specs.declared.answers.Why.TheVariants.{Sort, NotCovering}
 use Rattle.clause_core.specs.Instances.{variables, with_term}
 use Rattle.clause_core.specs.Rows.{Made, Row, child, needs, makes}
-use Rattle.clause_core.specs.Says.{Pairwise}
 use Rattle.clause_core.specs.Patterns.{IsPatternOf, AreCovering}
 
 -- the variable is in the clause, and the patterns are of its sort
@@ -17,7 +17,7 @@ pub record ArePatternsFor (sig : Sig) (c : Clause) (n : ℕ) (patterns : List Tr
   pub sort : SortId
   pub is : slice_get c.ctx n ≡ Some sort
   pub contexts : List (List SortId)
-  pub each : Pairwise (IsPatternOf sig sort) contexts patterns
+  pub each : AllZip (IsPatternOf sig sort) contexts patterns
 
 -- the clause with the pattern for a variable, where the pattern's variables, of these sorts, are
 -- fresh

@@ -2,6 +2,7 @@ ghost use Rattle.std.specs.Prelude.{◌≡◌};
 ghost use Rattle.clause_core.specs.declared.answers.RewriteError.TheVariants.{OutOfMemory as out_of_memory};
 
 use crate::clauses::{Clause, Relation};
+use std::fmt;
 use term_core::{OutOfMemory, Seq};
 
 /// Why a step isn't defined at a node: the first condition of its row that isn't met.
@@ -63,5 +64,17 @@ impl From<OutOfMemory> for RewriteError {
 
     fn from(_error: OutOfMemory) -> RewriteError {
         RewriteError::OutOfMemory
+    }
+}
+
+impl fmt::Display for RewriteError {
+    fn fmt<W: fmt::Write>(&self, f: &mut fmt::Formatter<W>) -> fmt::Result {
+        f.write_str(match self {
+            RewriteError::NoSuchPlace => "the clause has no such place",
+            RewriteError::NoSuchRule => "the specification has no rule of this number",
+            RewriteError::DoesNotFit => "the rule doesn't rewrite the term there",
+            RewriteError::Limit => "a clause passes a limit",
+            RewriteError::OutOfMemory => "out of memory",
+        })
     }
 }

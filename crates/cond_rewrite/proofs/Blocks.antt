@@ -1,6 +1,6 @@
 -- A row that compares nothing and refers to nothing says in a block what it answers by itself.
 use Rattle.std.proofs.Common.{◌≡◌, ◌+◌, ◌<◌, ◌≤◌, inl, inr, List, [], ◌∷◌, Result, Ok, Err, map, length, refl, ap, sym, subst, arith}
-use Rattle.std.specs.List.{AllByRecursion}
+use Rattle.std.specs.List.{AllByRecursion, AllZip}
 use Rattle.std.proofs.lemmas.List.{length-map}
 use Rattle.term_core.specs.Tree.{Tree}
 use Rattle.spec_core.specs.declared.records.Rule.{Rule}
@@ -17,7 +17,7 @@ use Rattle.clause_core.specs.RuleInstances.{group_of}
 use Rattle.clause_core.specs.Rewriting.{rule_row}
 use Rattle.clause_core.specs.CaseSplitting.{case_child, case_row}
 use Rattle.clause_core.specs.Rows.{Made, Row, child, compared_child, needs, makes}
-use Rattle.clause_core.specs.Says.{Pairwise, IsChild, IsReference, Says}
+use Rattle.clause_core.specs.Says.{IsChild, IsReference, Says}
 use Rattle.cond_rewrite.specs.RowAnswers.{clause_of, RowAnswers}
 use Rattle.cond_rewrite.specs.Laws.{lesser, lesser_children, SaysInBlock, RowsInBlocks}
 
@@ -41,7 +41,7 @@ all_clauses [] h = tt
 all_clauses (d ∷ ds) h = (h.0, all_clauses ds h.1)
 
 module _ (above : Tree → Tree → Type 0) (c : Clause) where
-  children_are : (ms : List Made) → AreLesser ms → Pairwise (IsChild above c) ms (map lesser (map clause_of ms))
+  children_are : (ms : List Made) → AreLesser ms → AllZip (IsChild above c) ms (map lesser (map clause_of ms))
   children_are [] h = tt
   children_are (child relation d ∷ ms) h = ((refl, sym h.0), children_are ms h.1)
   children_are (compared_child d ∷ ms) h = absurd h
@@ -53,7 +53,7 @@ module _ (above : Tree → Tree → Type 0) (c : Clause) where
     made_in_block (makes ms refs) h ds (inl a) few =
         let e : ds ≡ map clause_of ms = (let q : ◌≡◌ {A = Result (List Clause) Why} (Ok ds) (Ok (map clause_of ms)) = a.1 in cc) in
         let long : length ds ≡ length (map clause_of ms) = ap (λ (xs : List Clause). length xs) e in
-        (lesser_children (map clause_of ms), children_are ms h.0, subst (λ rs. Pairwise (IsReference above c) rs []) (sym h.1) tt, inl ((all_lesser (map clause_of ms) a.0, omega (arith, few, long, length-map (map clause_of ms) lesser)), ap (λ xs. Ok (lesser_children xs)) e))
+        (lesser_children (map clause_of ms), children_are ms h.0, subst (λ rs. AllZip (IsReference above c) rs []) (sym h.1) tt, inl ((all_lesser (map clause_of ms) a.0, omega (arith, few, long, length-map (map clause_of ms) lesser)), ap (λ xs. Ok (lesser_children xs)) e))
     made_in_block (makes ms refs) h ds (inr a) few = absurd (let q : ◌≡◌ {A = Result (List Clause) Why} (Ok ds) (Err Limit) = a.1 in cc)
 
     many_in_block : (row : Row) → MakesLesser row → (ds : List Clause) → RowAnswers row (Ok ds) → 10000 < length nodes + length ds → Says above c nodes row (Err Limit)
@@ -62,7 +62,7 @@ module _ (above : Tree → Tree → Type 0) (c : Clause) where
     many_in_block (makes ms refs) h ds (inl a) many =
         let e : ds ≡ map clause_of ms = (let q : ◌≡◌ {A = Result (List Clause) Why} (Ok ds) (Ok (map clause_of ms)) = a.1 in cc) in
         let long : length ds ≡ length (map clause_of ms) = ap (λ (xs : List Clause). length xs) e in
-        (lesser_children (map clause_of ms), children_are ms h.0, subst (λ rs. Pairwise (IsReference above c) rs []) (sym h.1) tt, inr (λ w. omega (arith, many, long, length-map (map clause_of ms) lesser, w.1), refl))
+        (lesser_children (map clause_of ms), children_are ms h.0, subst (λ rs. AllZip (IsReference above c) rs []) (sym h.1) tt, inr (λ w. omega (arith, many, long, length-map (map clause_of ms) lesser, w.1), refl))
     many_in_block (makes ms refs) h ds (inr a) many = absurd (let q : ◌≡◌ {A = Result (List Clause) Why} (Ok ds) (Err Limit) = a.1 in cc)
 
     refused_in_block : (row : Row) → MakesLesser row → (reason : Why) → RowAnswers row (Err reason) → Says above c nodes row (Err reason)
@@ -71,7 +71,7 @@ module _ (above : Tree → Tree → Type 0) (c : Clause) where
     refused_in_block (makes ms refs) h reason (inl a) = absurd (let q : ◌≡◌ {A = Result (List Clause) Why} (Err reason) (Ok (map clause_of ms)) = a.1 in cc)
     refused_in_block (makes ms refs) h reason (inr a) =
         let r : reason ≡ Limit = (let q : ◌≡◌ {A = Result (List Clause) Why} (Err reason) (Err Limit) = a.1 in cc) in
-        (lesser_children (map clause_of ms), children_are ms h.0, subst (λ rs. Pairwise (IsReference above c) rs []) (sym h.1) tt, inr (λ w. a.0 (all_clauses (map clause_of ms) w.0), ap (λ w. Err w) r))
+        (lesser_children (map clause_of ms), children_are ms h.0, subst (λ rs. AllZip (IsReference above c) rs []) (sym h.1) tt, inr (λ w. a.0 (all_clauses (map clause_of ms) w.0), ap (λ w. Err w) r))
 
     pub says_in_block : (row : Row) → MakesLesser row → SaysInBlock above c nodes row
     says_in_block row h = record { made = made_in_block row h; too_many = many_in_block row h; refused = refused_in_block row h }

@@ -26,7 +26,7 @@ use Rattle.descent.proofs.InContexts.{plug_ground}
 use Rattle.descent.proofs.Measures.{IsMeasure}
 use Rattle.descent.proofs.Arguments.{HasValue}
 use Rattle.descent.proofs.WholeGroups.{Member, from_group, HasBoolean, choose}
-use Rattle.descent.proofs.BooleanValues.{value_boolean}
+use Rattle.spec_core.proofs.BooleanValues.{value_boolean}
 
 -- tests of its group measure less than the call, so one member's guards hold, and its right side measures less too.
 

@@ -37,7 +37,7 @@ use Rattle.clause_core.proofs.Sides.{sides_append}
 use Rattle.descent.specs.OneValue.{ValuesRankLower}
 use Rattle.descent.specs.Weights.{IsWeight, AreRanks, IsHeavier}
 use Rattle.descent.specs.Descent.{GoesTo, StepDescends}
-use Rattle.descent.proofs.BooleanValues.{value_boolean}
+use Rattle.spec_core.proofs.BooleanValues.{value_boolean}
 use Rattle.descent.proofs.WholeGroups.{Member, from_group, HasBoolean, choose}
 use Rattle.descent.proofs.Closers.{value_of}
 use Rattle.descent.proofs.TidiedWeights.{tidied_fails, tidied_weight}

@@ -1,7 +1,7 @@
 -- One step of descent for `cover`: the value of a variable is an instance of some pattern.
 use Rattle.std.proofs.Common.{◌≡◌, ◌≢◌, ◌⊎◌, ℕ, zero, suc, ◌+◌, ◌<◌, List, [], ◌∷◌, ◌++◌, Some, map, inl, inr, refl, ap, sym, ◌∙◌, subst, arith, length}
 use Rattle.std.specs.Prelude.{slice_get, slice_set, slice_index_or, zip, Any, IsPermutation}
-use Rattle.std.specs.List.{range_with_len}
+use Rattle.std.specs.List.{range_with_len, AllZip}
 use Rattle.std.proofs.lemmas.List.FromFn.{get_or-map-range_with_len}
 use Rattle.std.proofs.lemmas.List.Sorted.{IsPermutation-refl}
 use Rattle.std.proofs.lemmas.Option.{slice_get_within}
@@ -22,7 +22,6 @@ use Rattle.clause_core.specs.declared.clauses.Relation.TheVariants.{Same}
 use Rattle.clause_core.specs.Clauses.{sides, ClauseIsSorted}
 use Rattle.clause_core.specs.Patterns.{IsPatternOf, IsInstanceOf, AreCovering}
 use Rattle.clause_core.specs.Splitting.{ArePatternsFor, covered_by}
-use Rattle.clause_core.specs.Says.{Pairwise}
 use Rattle.clause_core.specs.Instances.{variables}
 use Rattle.clause_core.specs.Tidied.{variables_of, tidied}
 use Rattle.clause_core.specs.Failing.{ClauseFails, values_at}
@@ -148,7 +147,7 @@ module _ (above : Tree → Tree → Type 0) (rank : ℕ → ℕ → Tree → ℕ
   cover_goes = subst (λ d. GoesTo rank spec c xs (tidied d) Same) (sym (instance_under terms (c.ctx ++ more) c)) under_goes
 
 -- the pattern of a number, with the sorts of its variables
-pub pattern_at : (sig : Sig) (s : SortId) (contexts : List (List SortId)) (ps : List Tree) → Pairwise (IsPatternOf sig s) contexts ps → (k : ℕ) (p : Tree) → k < length ps → slice_index_or ps k p ≡ p → (more : List SortId) × IsPatternOf sig s more p × (slice_get (zip contexts ps) k ≡ Some (more, p))
+pub pattern_at : (sig : Sig) (s : SortId) (contexts : List (List SortId)) (ps : List Tree) → AllZip (IsPatternOf sig s) contexts ps → (k : ℕ) (p : Tree) → k < length ps → slice_index_or ps k p ≡ p → (more : List SortId) × IsPatternOf sig s more p × (slice_get (zip contexts ps) k ≡ Some (more, p))
 pattern_at sig s [] [] h k p l e = absurd (omega (arith, l))
 pattern_at sig s [] (q ∷ ps) h k p l e = absurd h
 pattern_at sig s (m ∷ ms) [] h k p l e = absurd h

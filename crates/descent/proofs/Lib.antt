@@ -2,7 +2,6 @@
 pub mod GroundTerms
 pub mod InContexts
 pub mod SameTests
-pub mod BooleanValues
 -- Values of sorted ground terms, by a measure that falls as the order does.
 pub mod WholeGroups
 mod RankOf

@@ -1,7 +1,7 @@
 -- What a step makes of a sorted clause is sorted, before it is tidied.
 use Rattle.std.proofs.Common.{◌≡◌, ◌≢◌, ◌⊎◌, ℕ, suc, ◌+◌, List, [], ◌∷◌, ◌++◌, map, length, Bool, true, false, not, cond, Some, inl, inr, refl, ap, sym, ◌∙◌, subst}
 use Rattle.std.specs.Prelude.{slice_get, slice_set, filter, zip}
-use Rattle.std.specs.List.{AllByRecursion}
+use Rattle.std.specs.List.{AllByRecursion, AllZip}
 use Rattle.std.proofs.lemmas.List.FromFn.{get_or-map-range_with_len}
 use Rattle.std.proofs.lemmas.Option.{slice_get_within}
 use Rattle.term_core.specs.declared.ids.SortId.{SortId}
@@ -26,7 +26,6 @@ use Rattle.clause_core.specs.NumberedEquations.{EquationAt, equations, exchanged
 use Rattle.clause_core.specs.Places.{TermAt, side, with_side, holding}
 use Rattle.clause_core.specs.Referred.{AreTermsFor, instance_here}
 use Rattle.clause_core.specs.Rows.{child}
-use Rattle.clause_core.specs.Says.{Pairwise}
 use Rattle.clause_core.specs.Solving.{Solves, IsSolved}
 use Rattle.clause_core.specs.Instances.{with_term, variables}
 use Rattle.clause_core.specs.Patterns.{IsPatternOf}
@@ -90,7 +89,7 @@ module _ (spec : Spec) (fine : IsWellSorted spec) (c : Clause) (sorted : ClauseI
           subst (λ t. Sorted spec.sig (c.ctx ++ more) t u) (sym h) (sorted_open spec.sig more (c.ctx ++ more) (variables (length c.ctx) (length more)) fresh_sorted p u (subst (λ z. Sorted spec.sig more p z) k pattern.sorted))
       by m u e (inr (q, h)) = subst (λ t. Sorted spec.sig (c.ctx ++ more) t u) (sym h) (get_left c.ctx more m u e)
 
-  pub all_covered : (x : ℕ) (s : SortId) → slice_get c.ctx x ≡ Some s → (contexts : List (List SortId)) (patterns : List Tree) → Pairwise (IsPatternOf spec.sig s) contexts patterns → AllByRecursion (MadeIsSorted spec.sig) (map (cover_child spec c x) (zip contexts patterns))
+  pub all_covered : (x : ℕ) (s : SortId) → slice_get c.ctx x ≡ Some s → (contexts : List (List SortId)) (patterns : List Tree) → AllZip (IsPatternOf spec.sig s) contexts patterns → AllByRecursion (MadeIsSorted spec.sig) (map (cover_child spec c x) (zip contexts patterns))
   all_covered x s is [] [] h = tt
   all_covered x s is [] (p ∷ ps) h = absurd h
   all_covered x s is (m ∷ ms) [] h = absurd h

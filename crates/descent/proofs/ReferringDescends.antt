@@ -1,6 +1,7 @@
 -- One step of descent for `subsume` and `by-lemma`, and for `hyp` and `lemma`: a node that is made, or a goal, with terms for its variables.
 use Rattle.std.proofs.Common.{◌≡◌, ◌⊎◌, ℕ, List, [], ◌∷◌, Bool, not, Some, map, inl, inr, refl, sym, subst}
 use Rattle.std.specs.Prelude.{Ok, slice_get, Contains}
+use Rattle.std.specs.List.{AllZip}
 use Rattle.term_core.specs.declared.ids.SortId.{SortId}
 use Rattle.term_core.specs.Tree.{Tree, instance}
 use Rattle.term_core.proofs.SameTrees.{same_tree_or_not}
@@ -25,7 +26,7 @@ use Rattle.clause_core.specs.Referred.{UsableGoal, PremisesAreThere, AreTermsFor
 use Rattle.clause_core.specs.Subsuming.{Subsumes}
 use Rattle.clause_core.specs.Replacing.{Rewrites, replaced_by}
 use Rattle.clause_core.specs.Rows.{Made, Row, compared_child, needs, makes}
-use Rattle.clause_core.specs.Says.{Pairwise, IsReference, Says}
+use Rattle.clause_core.specs.Says.{IsReference, Says}
 use Rattle.clause_core.specs.Failing.{ClauseFails}
 use Rattle.descent.specs.OneValue.{ValuesRankLower}
 use Rattle.descent.specs.Descent.{GoesOn, AreTrue, StepDescends}
@@ -38,7 +39,7 @@ use Rattle.descent.proofs.Referring.{some_value, premises_hold, all_broken, each
 use Rattle.descent.proofs.Untidied.{goal_sorted, true_holds}
 
 -- the only reference
-ref_made : (above : Tree → Tree → Type 0) (c : Clause) (n : ℕ) (d : Clause) (ms : List Reference) → Pairwise (IsReference above c) ((n, d) ∷ []) ms → (r : Reference) × (slice_get ms 0 ≡ Some r) × IsReference above c (n, d) r
+ref_made : (above : Tree → Tree → Type 0) (c : Clause) (n : ℕ) (d : Clause) (ms : List Reference) → AllZip (IsReference above c) ((n, d) ∷ []) ms → (r : Reference) × (slice_get ms 0 ≡ Some r) × IsReference above c (n, d) r
 ref_made above c n d [] p = absurd p
 ref_made above c n d (m ∷ ms) p = (m, refl, p.0)
 

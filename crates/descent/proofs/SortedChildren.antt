@@ -1,7 +1,7 @@
 -- The children of each step at a sorted node can be nodes themselves.
 use Rattle.std.proofs.Common.{◌≡◌, ℕ, zero, suc, List, [], ◌∷◌, map, Bool, true, false, not, Some, None, Ok, Err, inl, inr, sym, subst}
 use Rattle.std.specs.Prelude.{Contains, slice_get, zip}
-use Rattle.std.specs.List.{AllByRecursion}
+use Rattle.std.specs.List.{AllByRecursion, AllZip}
 use Rattle.term_core.specs.Tree.{Tree, instance}
 use Rattle.spec_core.specs.declared.records.Spec.{Spec}
 use Rattle.spec_core.specs.WellSorted.{IsWellSorted}
@@ -19,7 +19,7 @@ use Rattle.clause_core.specs.NumberedEquations.{exchanged}
 use Rattle.clause_core.specs.Places.{side, holding}
 use Rattle.clause_core.specs.Referred.{instance_here}
 use Rattle.clause_core.specs.Rows.{Made, Row, child, compared_child, makes}
-use Rattle.clause_core.specs.Says.{Pairwise, IsChild, Says}
+use Rattle.clause_core.specs.Says.{IsChild, Says}
 use Rattle.clause_core.specs.Steps.{row_of}
 use Rattle.clause_core.specs.Limits.{IsWithin}
 use Rattle.clause_core.specs.ClauseLaws.{TidyingLaws}
@@ -61,7 +61,7 @@ module _ (above : Tree → Tree → Type 0) (tidy : TidyingLaws) (spec : Spec) (
     made_node (child r d) x p h w = child_node d x p.0 h w
     made_node (compared_child d) x p h w = child_node d x p.0 h w
 
-    all_children : (ms : List Made) (ds : List Child) → Pairwise (IsChild above c) ms ds → AllByRecursion (MadeIsSorted spec.sig) ms → AllByRecursion (λ (x : Child). IsWithin x.clause) ds → (i : ℕ) (d : Child) → slice_get ds i ≡ Some d → IsNode spec.sig d.clause
+    all_children : (ms : List Made) (ds : List Child) → AllZip (IsChild above c) ms ds → AllByRecursion (MadeIsSorted spec.sig) ms → AllByRecursion (λ (x : Child). IsWithin x.clause) ds → (i : ℕ) (d : Child) → slice_get ds i ≡ Some d → IsNode spec.sig d.clause
     all_children [] [] p h w i d at = absurd (let q : None ≡ Some d = at in cc)
     all_children [] (x ∷ ds) p h w i d at = absurd p
     all_children (m ∷ ms) [] p h w i d at = absurd p

@@ -1,6 +1,7 @@
 -- One step of descent, by the kind of the step.
 use Rattle.std.proofs.Common.{◌≡◌, ℕ, zero, suc, List, [], ◌∷◌, Bool, true, false, Some, None, map, inl, inr, refl, ap, sym, subst}
 use Rattle.std.specs.Prelude.{Ok, Err, slice_get, zip}
+use Rattle.std.specs.List.{AllZip}
 use Rattle.term_core.specs.declared.ids.VarId.{VarId}
 use Rattle.term_core.specs.Tree.{Tree}
 use Rattle.spec_core.specs.declared.records.Equation.{Equation}
@@ -19,7 +20,7 @@ use Rattle.clause_core.specs.Simplifying.{pairs}
 use Rattle.clause_core.specs.Instances.{with_term}
 use Rattle.clause_core.specs.Tidied.{tidied}
 use Rattle.clause_core.specs.Rows.{Made, child, makes}
-use Rattle.clause_core.specs.Says.{Pairwise, IsChild, IsReference, Says}
+use Rattle.clause_core.specs.Says.{IsChild, IsReference, Says}
 use Rattle.clause_core.specs.Splitting.{covered_by, cover_child}
 use Rattle.descent.specs.Descent.{GoesTo, GoesOn, StepDescends}
 use Rattle.descent.proofs.Closers.{trivial_closes, match_closes, absurd_closes}
@@ -34,19 +35,19 @@ module _ (above : Tree → Tree → Type 0) (c : Clause) (nodes : List Clause) (
   no_reason why e = cc
 
   -- a step that makes something makes what its row says
-  pub makes_these : (cs : List Made) (rs : List (ℕ × Clause)) → Says above c nodes (makes cs rs) (Ok made) → Pairwise (IsChild above c) cs made.clauses × Pairwise (IsReference above c) rs made.refs
-  makes_these cs rs (m, p, q, inl h) = let e : Ok made ≡ Ok m = h.1 in let k : m ≡ made = cc in (subst (λ (x : Children). Pairwise (IsChild above c) cs x.clauses) k p, subst (λ (x : Children). Pairwise (IsReference above c) rs x.refs) k q)
+  pub makes_these : (cs : List Made) (rs : List (ℕ × Clause)) → Says above c nodes (makes cs rs) (Ok made) → AllZip (IsChild above c) cs made.clauses × AllZip (IsReference above c) rs made.refs
+  makes_these cs rs (m, p, q, inl h) = let e : Ok made ≡ Ok m = h.1 in let k : m ≡ made = cc in (subst (λ (x : Children). AllZip (IsChild above c) cs x.clauses) k p, subst (λ (x : Children). AllZip (IsReference above c) rs x.refs) k q)
   makes_these cs rs (m, p, q, inr h) = absurd (let e : Ok made ≡ Err _ = h.1 in cc)
 
   -- the child of a number
-  pub child_made : (cs : List Made) (ds : List Child) → Pairwise (IsChild above c) cs ds → (k : ℕ) (m : Made) → slice_get cs k ≡ Some m → (d : Child) × (slice_get ds k ≡ Some d) × IsChild above c m d
+  pub child_made : (cs : List Made) (ds : List Child) → AllZip (IsChild above c) cs ds → (k : ℕ) (m : Made) → slice_get cs k ≡ Some m → (d : Child) × (slice_get ds k ≡ Some d) × IsChild above c m d
   child_made [] ds p k m at = absurd (let q : None ≡ Some m = at in cc)
   child_made (n ∷ cs) [] p k m at = absurd p
   child_made (n ∷ cs) (d ∷ ds) p zero m at = let q : Some n ≡ Some m = at in let e : n ≡ m = cc in (d, refl, subst (λ x. IsChild above c x d) e p.0)
   child_made (n ∷ cs) (d ∷ ds) p (suc k) m at = child_made cs ds p.1 k m at
 
   -- a child of a relation goes on
-  pub goes_on : (rank : ℕ → ℕ → Tree → ℕ → Type 0) (spec : Spec) (xs : List Tree) (cs : List Made) → Pairwise (IsChild above c) cs made.clauses → (k : ℕ) (r : Relation) (d : Clause) → slice_get cs k ≡ Some (child r d) → GoesTo rank spec c xs (tidied d) r → GoesOn rank spec nodes c xs made
+  pub goes_on : (rank : ℕ → ℕ → Tree → ℕ → Type 0) (spec : Spec) (xs : List Tree) (cs : List Made) → AllZip (IsChild above c) cs made.clauses → (k : ℕ) (r : Relation) (d : Clause) → slice_get cs k ≡ Some (child r d) → GoesTo rank spec c xs (tidied d) r → GoesOn rank spec nodes c xs made
   goes_on rank spec xs cs p k r d at g =
       let m = child_made cs made.clauses p k (child r d) at in
       inl (k, m.0, m.1, subst (λ q. GoesTo rank spec c xs m.0.clause q) (sym m.2.1) (subst (λ x. GoesTo rank spec c xs x r) (sym m.2.0) g))

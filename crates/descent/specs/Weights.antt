@@ -1,5 +1,6 @@
 -- Weights of clauses under values: the multisets of the ranks of their sides.
 use Rattle.std.specs.Prelude.{◌⊎◌, ℕ, ◌<◌, List, IsPermutation}
+use Rattle.std.specs.List.{AllZip}
 use Rattle.term_core.specs.Tree.{Tree, instance}
 use Rattle.spec_core.specs.declared.records.Spec.{Spec}
 use Rattle.clause_core.specs.declared.clauses.Clause.{Clause}
@@ -8,12 +9,11 @@ use Rattle.clause_core.specs.declared.clauses.Relation.TheVariants.{Less, Same, 
 use Rattle.clause_core.specs.Ranks.{HasRank}
 use Rattle.clause_core.specs.Clauses.{sides}
 use Rattle.clause_core.specs.Multisets.{Exceeds}
-use Rattle.clause_core.specs.Says.{Pairwise}
 
 module _ (rank : ℕ → ℕ → Tree → ℕ → Type 0) (spec : Spec) (values : List Tree) where
   -- the terms have these ranks under the values
   abbrev pub AreRanks : List Tree → List ℕ → Type 0
-  AreRanks ts rs = Pairwise (λ t r. HasRank rank spec (instance values t) r) ts rs
+  AreRanks ts rs = AllZip (λ t r. HasRank rank spec (instance values t) r) ts rs
 
   -- the weight of the clause under the values is the multiset of the ranks of its sides
   abbrev pub IsWeight : Clause → List ℕ → Type 0

@@ -27,7 +27,7 @@ use Rattle.open_walk.proofs.OpenWalks.{built_closed, closed_stays, opened_instan
 use Rattle.ground_eval.specs.Entries.{IsEntry, AreEntries, SayOfAll}
 use Rattle.ground_eval.specs.Opened.{AllHaveVerdict, IsOpenYet}
 use Rattle.ground_eval.specs.Sides.{IsDecided}
-use Rattle.ground_eval.proofs.BooleanValues.{value_boolean}
+use Rattle.spec_core.proofs.BooleanValues.{value_boolean}
 use Rattle.ground_eval.proofs.OpenGoals.{entry_at}
 
 module _ (spec : Spec) where

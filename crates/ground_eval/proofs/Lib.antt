@@ -17,7 +17,6 @@ mod PartSorts
 mod FixedSides
 mod OpenGoals
 mod PartGoals
-mod BooleanValues
 mod EntrySteps
 mod EntryPlaces
 mod ConstantSorts

@@ -1,7 +1,7 @@
 -- A row that compares nothing has one answer by every order.
 use Rattle.std.proofs.Common.{ℕ, List, [], ◌∷◌, inl, inr}
 use Rattle.std.specs.Prelude.{Result, Ok, Err}
-use Rattle.std.specs.List.{AllByRecursion}
+use Rattle.std.specs.List.{AllByRecursion, AllZip}
 use Rattle.term_core.specs.Tree.{Tree}
 use Rattle.clause_core.specs.declared.clauses.Clause.{Clause}
 use Rattle.clause_core.specs.declared.answers.Child.{Child}
@@ -9,7 +9,7 @@ use Rattle.clause_core.specs.declared.answers.Children.{Children}
 use Rattle.clause_core.specs.declared.answers.Reference.{Reference}
 use Rattle.clause_core.specs.declared.answers.Why.{Why}
 use Rattle.clause_core.specs.Rows.{Made, Row, child, compared_child, needs, makes}
-use Rattle.clause_core.specs.Says.{Pairwise, IsChild, IsReference, Says}
+use Rattle.clause_core.specs.Says.{IsChild, IsReference, Says}
 use Rattle.inference_rules.specs.declared.nodes.StepError.{StepError}
 use Rattle.inference_rules.specs.declared.nodes.StepError.TheVariants.{Why as because, OutOfMemory as out_of_memory}
 use Rattle.inference_rules.specs.Answers.{Answered, AnsweredAlone}
@@ -25,14 +25,14 @@ ComparesNothing (needs P why rest) = (p : P) → ComparesNothing (rest p)
 ComparesNothing (makes children refs) = AllByRecursion IsRelated children × AllByRecursion (λ (r : ℕ × Clause). ⊥) refs
 
 module _ (above other : Tree → Tree → Type 0) (c : Clause) where
-  children_alone : (ms : List Made) (made : List Child) → AllByRecursion IsRelated ms → Pairwise (IsChild above c) ms made → Pairwise (IsChild other c) ms made
+  children_alone : (ms : List Made) (made : List Child) → AllByRecursion IsRelated ms → AllZip (IsChild above c) ms made → AllZip (IsChild other c) ms made
   children_alone [] [] a p = tt
   children_alone [] (d ∷ ds) a p = absurd p
   children_alone (m ∷ ms) [] a p = absurd p
   children_alone (child r e ∷ ms) (d ∷ ds) a p = (p.0, children_alone ms ds a.1 p.1)
   children_alone (compared_child e ∷ ms) (d ∷ ds) a p = absurd a.0
 
-  refs_alone : (rs : List (ℕ × Clause)) (made : List Reference) → AllByRecursion (λ (r : ℕ × Clause). ⊥) rs → Pairwise (IsReference above c) rs made → Pairwise (IsReference other c) rs made
+  refs_alone : (rs : List (ℕ × Clause)) (made : List Reference) → AllByRecursion (λ (r : ℕ × Clause). ⊥) rs → AllZip (IsReference above c) rs made → AllZip (IsReference other c) rs made
   refs_alone [] [] a p = tt
   refs_alone [] (d ∷ ds) a p = absurd p
   refs_alone (r ∷ rs) made a p = absurd a.0

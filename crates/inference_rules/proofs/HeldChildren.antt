@@ -2,6 +2,7 @@
 -- are the limit.
 use Rattle.std.proofs.Common.{◌≡◌, ℕ, List, [], ◌∷◌, inl, inr, refl, ap, arith}
 use Rattle.std.specs.Prelude.{Ok, Err}
+use Rattle.std.specs.List.{AllZip}
 use Rattle.term_core.specs.Tree.{Tree}
 use Rattle.clause_core.specs.declared.clauses.Clause.{Clause}
 use Rattle.clause_core.specs.declared.clauses.Relation.{Relation}
@@ -11,13 +12,13 @@ use Rattle.clause_core.specs.declared.answers.Why.TheVariants.{Limit}
 use Rattle.clause_core.specs.Comparing.{Compares}
 use Rattle.clause_core.specs.Limits.{IsWithin}
 use Rattle.clause_core.specs.Rows.{compared_child, makes}
-use Rattle.clause_core.specs.Says.{Pairwise, IsReference}
+use Rattle.clause_core.specs.Says.{IsReference}
 use Rattle.clause_core.specs.Tidied.{tidied}
 use Rattle.clause_core.proofs.TidiedLimits.{tidied_within}
 use Rattle.inference_rules.specs.declared.nodes.StepError.TheVariants.{Why as because}
 use Rattle.inference_rules.specs.Answers.{Answered}
 
-module _ (above : Tree → Tree → Type 0) (c d : Clause) (relation : Relation) (compares : Compares above c d relation) (referred : List (ℕ × Clause)) (refs : List Reference) (are : Pairwise (IsReference above c) referred refs) where
+module _ (above : Tree → Tree → Type 0) (c d : Clause) (relation : Relation) (compares : Compares above c d relation) (referred : List (ℕ × Clause)) (refs : List Reference) (are : AllZip (IsReference above c) referred refs) where
   the_child : Children
   the_child = record { clauses = record { clause = tidied d; relation = relation } ∷ []; refs = refs }
 

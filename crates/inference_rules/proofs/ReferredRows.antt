@@ -1,6 +1,7 @@
 -- Rows that begin with a node or with a goal.
 use Rattle.std.proofs.Common.{◌≡◌, ℕ, List, [], ◌∷◌, ◌++◌, inl, ap, sym, ◌∙◌, subst}
 use Rattle.std.specs.Prelude.{Result, Ok, Err}
+use Rattle.std.specs.List.{AllZip}
 use Rattle.term_core.specs.Tree.{Tree}
 use Rattle.spec_core.specs.declared.records.Goal.{Goal}
 use Rattle.spec_core.specs.declared.records.Spec.{Spec}
@@ -10,7 +11,6 @@ use Rattle.clause_core.specs.declared.answers.Why.{Why}
 use Rattle.clause_core.specs.declared.answers.Why.TheVariants.{NoSuchNode, NotProvedBefore}
 use Rattle.clause_core.specs.Referred.{NodeAt, UsableGoal}
 use Rattle.clause_core.specs.Rows.{Made, Row, needs}
-use Rattle.clause_core.specs.Says.{Pairwise}
 use Rattle.clause_core.specs.Tidied.{goal_clause}
 use Rattle.inference_rules.specs.declared.nodes.StepError.{StepError}
 use Rattle.inference_rules.specs.declared.nodes.StepError.TheVariants.{Why as because, OutOfMemory as out_of_memory}
@@ -67,11 +67,11 @@ module _ (row : Clause → Row) where
         answered_behind above c NotProvedBefore (λ (lemma : UsableGoal spec usable name). row (goal_clause lemma.goal)) lemma answer (subst (λ z. Answered above c [] (row z) answer) the_clause s)
 
 -- no pairs, and one
-pub no_pairs : {X Y : Type 0} (R : X → Y → Type 0) (ys : List Y) → ys ≡ [] → Pairwise R [] ys
+pub no_pairs : {X Y : Type 0} (R : X → Y → Type 0) (ys : List Y) → ys ≡ [] → AllZip R [] ys
 no_pairs R [] e = tt
 no_pairs R (y ∷ ys) e = absurd (let q : y ∷ ys ≡ [] = e in cc)
 
-pub one_pair : {X Y : Type 0} (R : X → Y → Type 0) (x : X) (y : Y) (first ys : List Y) → first ≡ [] → ys ≡ first ++ y ∷ [] → R x y → Pairwise R (x ∷ []) ys
+pub one_pair : {X Y : Type 0} (R : X → Y → Type 0) (x : X) (y : Y) (first ys : List Y) → first ≡ [] → ys ≡ first ++ y ∷ [] → R x y → AllZip R (x ∷ []) ys
 one_pair R x y first ys e is r =
     let q : ys ≡ y ∷ [] = is ∙ ap (λ zs. zs ++ y ∷ []) e in
-    subst (λ zs. Pairwise R (x ∷ []) zs) (sym q) (r, tt)
+    subst (λ zs. AllZip R (x ∷ []) zs) (sym q) (r, tt)

@@ -1,5 +1,5 @@
 ghost use Rattle.std.specs.Prelude.{◌≡◌, ◌↔◌, ℕ, List, Ok, [], ◌∷◌, IfOk, IsTrue, length, map};
-ghost use Rattle.std.specs.List.{AllByRecursion};
+ghost use Rattle.std.specs.List.{AllByRecursion, AllZip};
 ghost use Rattle.term_core.specs.Tree.{Tree};
 ghost use Rattle.clause_core.specs.declared.clauses.Clause.{Clause as ClauseOf};
 ghost use Rattle.clause_core.specs.declared.answers.Child.{Child as ChildOf};
@@ -7,7 +7,7 @@ ghost use Rattle.clause_core.specs.Limits.{IsWithin};
 ghost use Rattle.clause_core.specs.Comparing.{IsTestable, SidesAreTestable};
 ghost use Rattle.clause_core.specs.Places.{TermAt, holding};
 ghost use Rattle.clause_core.specs.Rows.{child, compared_child, makes};
-ghost use Rattle.clause_core.specs.Says.{Pairwise, IsChild, IsReference, Says};
+ghost use Rattle.clause_core.specs.Says.{IsChild, IsReference, Says};
 ghost use Rattle.inference_rules.specs.Answers.{Answered, AnsweredAlone, IsLimited};
 ghost use Rattle.inference_rules.specs.Counting.{IsCounted};
 ghost use Rattle.inference_rules.specs.Nodes.{children_with};
@@ -74,7 +74,7 @@ fn tidied_all(
     clauses: Vec<Clause>,
 ) -> Result<Seq<Child>, OutOfMemory>
     ensures { IfOk result (λ made. (c : ClauseOf) →
-        Pairwise (IsChild (λ t s. ⊥) c) (map (child relation) clauses.items) made) }
+        AllZip (IsChild (λ t s. ⊥) c) (map (child relation) clauses.items) made) }
 {
     let mut made = Vec::with_capacity(alloc, clauses.len())?;
     for clause in clauses {
@@ -118,7 +118,7 @@ pub(crate) fn child_holding<O: TermOrder>(
     requires there { (at : TermAt here.now place.now) × (at.term ≡ old.now) }
     requires new { IsTestable new.now }
     ensures { (at : TermAt here.now place.now) (referred : List (ℕ × ClauseOf)) →
-        Pairwise (IsReference (O.above order.now) here.now) referred refs →
+        AllZip (IsReference (O.above order.now) here.now) referred refs →
         Answered (O.above order.now) here.now []
         (makes (compared_child (holding at new.now) ∷ []) referred) result }
 {

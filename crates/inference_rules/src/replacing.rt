@@ -1,9 +1,10 @@
 ghost use Rattle.std.specs.Prelude.{◌≡◌, [], IfOk, MatchOption, Contains};
+ghost use Rattle.std.specs.List.{AllZip};
 ghost use Rattle.spec_core.specs.declared.records.Spec.{Spec as SpecOf};
 ghost use Rattle.clause_core.specs.Limits.{IsWithin};
 ghost use Rattle.clause_core.specs.Replacing.{Rewrites, context_row, hyp_row, lemma_row, rewritten_by};
 ghost use Rattle.clause_core.specs.Places.{side as side_of};
-ghost use Rattle.clause_core.specs.Says.{Pairwise, IsReference};
+ghost use Rattle.clause_core.specs.Says.{IsReference};
 ghost use Rattle.inference_rules.specs.Answers.{Answered, clauses_of};
 ghost use Rattle.inference_rules.specs.Nodes.{referred_to};
 
@@ -138,7 +139,7 @@ fn references<O: TermOrder>(
 ) -> Result<Seq<Reference>, OutOfMemory>
     requires here { IsWithin here.now }
     requires instance { IsWithin instance.now }
-    ensures { IfOk result (Pairwise (IsReference (O.above order.now) here.now)
+    ensures { IfOk result (AllZip (IsReference (O.above order.now) here.now)
         (referred_to node instance.now)) }
 {
     let mut refs = Seq::new(alloc);

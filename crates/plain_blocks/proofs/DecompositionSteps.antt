@@ -1,7 +1,7 @@
 -- `decompose` at a clause of one equation.
 use Rattle.std.proofs.Common.{◌≡◌, ℕ, ◌+◌, ◌≤◌, List, [], ◌∷◌, true, inl, refl, subst, map, length, arith}
 use Rattle.std.specs.Prelude.{Ok}
-use Rattle.std.specs.List.{AllByRecursion}
+use Rattle.std.specs.List.{AllByRecursion, AllZip}
 use Rattle.std.proofs.lemmas.List.{length-map}
 use Rattle.term_core.specs.Tree.{Tree, Trees, app}
 use Rattle.term_core.specs.declared.ids.SortId.{SortId}
@@ -16,7 +16,7 @@ use Rattle.clause_core.specs.declared.answers.Child.{Child}
 use Rattle.clause_core.specs.declared.answers.Children.{Children}
 use Rattle.clause_core.specs.declared.answers.Why.TheVariants.{NoSuchPlace, DoesNotFit}
 use Rattle.clause_core.specs.Limits.{IsWithin}
-use Rattle.clause_core.specs.Says.{Says, Pairwise, IsChild}
+use Rattle.clause_core.specs.Says.{Says, IsChild}
 use Rattle.clause_core.specs.Simplifying.{SameHeads, pairs, taken_apart}
 use Rattle.clause_core.specs.Steps.{row_of}
 use Rattle.clause_core.specs.Tidied.{tidied}
@@ -33,7 +33,7 @@ abbrev pub a_child_each : List SortId → List Equation → Children
 a_child_each ctx es = record { clauses = map (child_of ctx) es; refs = [] }
 
 module _ (above : Tree → Tree → Type 0) (spec : Spec) (usable : ℕ → Type 0) (nodes : List Clause) (ctx : List SortId) (e : Equation) where
-  are_made : (es : List Equation) → Pairwise (IsChild above (clause_of ctx e)) (taken_apart spec (clause_of ctx e) true (only_equation e) es) (map (child_of ctx) es)
+  are_made : (es : List Equation) → AllZip (IsChild above (clause_of ctx e)) (taken_apart spec (clause_of ctx e) true (only_equation e) es) (map (child_of ctx) es)
   are_made [] = tt
   are_made (d ∷ es) = ((refl, refl), are_made es)
 

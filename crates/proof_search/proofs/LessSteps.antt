@@ -1,7 +1,7 @@
 -- A step that rewrites a term by a clause makes what is less only where the term is above what it
 -- becomes.
 use Rattle.std.proofs.Common.{◌≡◌, ℕ, List, [], ◌∷◌, ◌++◌, ◌≤◌, Bool, true, false, not, Some, None, Ok, Err, Result, inl, inr, refl, ap, sym, ◌∙◌, subst, arith, map}
-use Rattle.std.specs.List.{AllByRecursion}
+use Rattle.std.specs.List.{AllByRecursion, AllZip}
 use Rattle.term_core.specs.Tree.{Tree, var, tree_size, sizes, trees_of, instance}
 use Rattle.substitutions.proofs.Instances.{apply_values}
 use Rattle.substitutions.specs.Substitution.{apply}
@@ -23,7 +23,7 @@ use Rattle.clause_core.specs.Instances.{instance_by}
 use Rattle.clause_core.specs.Referred.{AreTermsFor}
 use Rattle.clause_core.specs.Replacing.{Rewrites, rewritten_by}
 use Rattle.clause_core.specs.Rows.{compared_child}
-use Rattle.clause_core.specs.Says.{Pairwise, IsChild, AnswersWithin, Says}
+use Rattle.clause_core.specs.Says.{IsChild, AnswersWithin, Says}
 use Rattle.clause_core.specs.Tidied.{goal_clause}
 use Rattle.clause_core.proofs.OnePlace.{term_one}
 use Rattle.clause_core.proofs.OneReferred.{one_get}
@@ -77,7 +77,7 @@ module _ (above : Tree → Tree → Type 0) (decides : PlaceDecides above) (at :
   c = at.here.now
 
   only_child :
-      (d : Clause) (cs : List Child) → Pairwise (IsChild above c) (compared_child d ∷ []) cs →
+      (d : Clause) (cs : List Child) → AllZip (IsChild above c) (compared_child d ∷ []) cs →
       AllByRecursion (λ (x : Child). x.relation ≡ Less) cs → Compares above c d Less
   only_child d [] p l = absurd p
   only_child d (x ∷ []) p l = subst (λ (r : Relation). Compares above c d r) l.0 p.0.1
@@ -85,7 +85,7 @@ module _ (above : Tree → Tree → Type 0) (decides : PlaceDecides above) (at :
 
   compared :
       (d : Clause) (answer : Children) →
-      Pairwise (IsChild above c) (compared_child d ∷ []) answer.clauses →
+      AllZip (IsChild above c) (compared_child d ∷ []) answer.clauses →
       AnswersWithin (clauses_of at.nodes.now) answer (Ok made) → Compares above c d Less
   compared d answer p (inl (w, e)) =
       let same : made ≡ answer =

@@ -2,7 +2,7 @@
 -- claims asks.
 use Rattle.std.proofs.Common.{◌≡◌, ℕ, zero, suc, ◌<◌, List, [], ◌∷◌, ◌++◌, Some, None, Ok, map, length, inl, inr, arith}
 use Rattle.std.specs.Prelude.{slice_get, option_map}
-use Rattle.std.specs.List.{AllByRecursion}
+use Rattle.std.specs.List.{AllByRecursion, AllZip}
 use Rattle.term_core.specs.Tree.{Tree, Trees, var, app, none, some, trees_of}
 use Rattle.term_core.specs.declared.ids.SortId.{SortId}
 use Rattle.spec_core.specs.declared.records.Goal.{Goal}
@@ -18,7 +18,7 @@ use Rattle.clause_core.specs.declared.steps.Step.{Step}
 use Rattle.clause_core.specs.declared.steps.Step.TheVariants.{Trivial, Match, Absurd, Subsume, ByLemma, Rule, Case, Decompose, Clash, Drop, Solve, Cover, Generalize, Context, Hyp, Lemma}
 use Rattle.clause_core.specs.Generalizing.{IsGeneral}
 use Rattle.clause_core.specs.Patterns.{IsPatternOf}
-use Rattle.clause_core.specs.Says.{Pairwise, Says}
+use Rattle.clause_core.specs.Says.{Says}
 use Rattle.clause_core.specs.Steps.{row_of}
 use Rattle.acceptance.specs.Blocks.{clauses_of, StepsMake}
 use Rattle.proof_script.specs.Ranges.{LineIsInRange, ClaimIsInRange}
@@ -59,7 +59,7 @@ module _ (sig : Sig) where
 
   patterns_in_range :
       (s : SortId) (ctxs : List (List SortId)) (ps : List Tree) →
-      Pairwise (IsPatternOf sig s) ctxs ps → AllByRecursion (SymbolsAreInRange sig) ps
+      AllZip (IsPatternOf sig s) ctxs ps → AllByRecursion (SymbolsAreInRange sig) ps
   patterns_in_range s [] [] h = tt
   patterns_in_range s [] (p ∷ ps) h = absurd h
   patterns_in_range s (ctx ∷ ctxs) [] h = tt

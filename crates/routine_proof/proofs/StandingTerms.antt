@@ -2,7 +2,7 @@
 -- paths.
 use Rattle.std.proofs.Common.{◌≡◌, ℕ, zero, suc, ◌+◌, ◌<◌, ◌≤◌, List, [], ◌∷◌, Some, None, map, length, refl, ap, sym, ◌∙◌, subst, arith}
 use Rattle.std.specs.Prelude.{slice_get, option_map}
-use Rattle.std.specs.List.{AllByRecursion, range_with_len}
+use Rattle.std.specs.List.{AllByRecursion, range_with_len, AllZip}
 use Rattle.std.proofs.lemmas.List.FromFn.{length-range_with_len}
 use Rattle.std.proofs.lemmas.Option.{slice_get_within, slice_get-map}
 use Rattle.term_core.specs.Tree.{Tree, Trees, var, app, none, some, trees_of, list_of, tree_depth, depths}
@@ -18,7 +18,6 @@ use Rattle.spec_core.specs.WellSorted.{HasFewArguments}
 use Rattle.spec_core.proofs.Constructors.{info_parts}
 use Rattle.clause_core.specs.Instances.{variables}
 use Rattle.clause_core.specs.Patterns.{IsPatternOf}
-use Rattle.clause_core.specs.Says.{Pairwise}
 use Rattle.proof_script.specs.Names.{IsReportName}
 use Rattle.proof_script.specs.Standing.{IsShort, Between, SymbolStands, SymbolsStand, AllSymbolsStand, TermStands, PatternStands}
 use Rattle.test_sets.specs.TestSets.{applied, test_set_of}
@@ -125,7 +124,7 @@ module _ (sig : Sig) (names : AllByRecursion IsReportName (names_of sig)) where
 
     patterns_stand :
         (cs : List (ℕ × List SortId)) → AllByRecursion (IsOneOf sig s) cs →
-        Pairwise (IsPatternOf sig s) (map (λ (c : ℕ × List SortId). c.1) cs) (map applied cs) →
+        AllZip (IsPatternOf sig s) (map (λ (c : ℕ × List SortId). c.1) cs) (map applied cs) →
         AllByRecursion (PatternStands sig) (map applied cs)
     patterns_stand [] is p = tt
     patterns_stand (c ∷ cs) is p = (pattern_stands c is.0 p.0, patterns_stand cs is.1 p.1)

@@ -3,6 +3,7 @@ pub mod Keeps
 pub mod Groups
 pub mod Determined
 pub mod Values
+pub mod BooleanValues
 pub mod Names
 pub mod Guarded
 pub mod OneSort

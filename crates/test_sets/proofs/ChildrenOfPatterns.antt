@@ -1,7 +1,7 @@
 -- The children of patterns, by the sorts that the places of their variables ask for.
 use Rattle.std.proofs.Common.{◌≡◌, ℕ, zero, suc, ◌+◌, ◌<◌, List, [], ◌∷◌, ◌++◌, map, length, take, get_or, refl, ap, sym, ◌∙◌, subst, arith}
 use Rattle.std.specs.Prelude.{zip}
-use Rattle.std.specs.List.{AllByRecursion}
+use Rattle.std.specs.List.{AllByRecursion, AllZip}
 use Rattle.std.proofs.lemmas.List.{map-append}
 use Rattle.term_core.specs.Tree.{Tree}
 use Rattle.term_core.specs.declared.ids.SortId.{SortId}
@@ -10,7 +10,6 @@ use Rattle.spec_core.specs.Sig.{Sig}
 use Rattle.clause_core.specs.declared.clauses.Clause.{Clause}
 use Rattle.clause_core.specs.Tidied.{tidied}
 use Rattle.clause_core.specs.Patterns.{IsPatternOf}
-use Rattle.clause_core.specs.Says.{Pairwise}
 use Rattle.clause_core.specs.Splitting.{ArePatternsFor, covered_by}
 use Rattle.test_sets.specs.Children.{sorts_in, child_by}
 use Rattle.test_sets.specs.Covers.{children_of}
@@ -18,7 +17,7 @@ use Rattle.test_sets.proofs.PatternSorts.{pattern_sorts}
 
 module _ (sig : Sig) (c : Clause) (n : ℕ) where
   each_child :
-      (s : SortId) (contexts : List (List SortId)) (ps : List Tree) → Pairwise (IsPatternOf sig s) contexts ps →
+      (s : SortId) (contexts : List (List SortId)) (ps : List Tree) → AllZip (IsPatternOf sig s) contexts ps →
       map (child_by sig c n s) ps ≡ map (λ (q : List SortId × Tree). tidied (covered_by c n q)) (zip contexts ps)
   each_child s [] [] h = refl
   each_child s [] (p ∷ ps) h = absurd h

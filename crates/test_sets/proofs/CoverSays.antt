@@ -1,7 +1,7 @@
 -- What the row `cover` says of patterns for a variable.
 use Rattle.std.proofs.Common.{ℕ, List, [], ◌∷◌, inl, inr, map, refl, sym, subst, arith}
 use Rattle.std.specs.Prelude.{zip}
-use Rattle.std.specs.List.{AllByRecursion}
+use Rattle.std.specs.List.{AllByRecursion, AllZip}
 use Rattle.std.proofs.lemmas.List.{length-map}
 use Rattle.term_core.specs.Tree.{Tree}
 use Rattle.term_core.specs.declared.ids.SortId.{SortId}
@@ -11,7 +11,7 @@ use Rattle.clause_core.specs.declared.clauses.Relation.TheVariants.{Same}
 use Rattle.clause_core.specs.declared.answers.Child.{Child}
 use Rattle.clause_core.specs.Limits.{IsWithin}
 use Rattle.clause_core.specs.Tidied.{tidied}
-use Rattle.clause_core.specs.Says.{Pairwise, IsChild}
+use Rattle.clause_core.specs.Says.{IsChild}
 use Rattle.clause_core.specs.Splitting.{covered_by, cover_child}
 use Rattle.test_sets.specs.Covers.{children_of}
 use Rattle.test_sets.specs.Laws.{same_children, CoverIsItsRow}
@@ -21,7 +21,7 @@ abbrev same : Clause → Child
 same d = record { clause = d; relation = Same }
 
 module _ (above : Tree → Tree → Type 0) (spec : Spec) (c : Clause) (n : ℕ) where
-  are_made : (qs : List (List SortId × Tree)) → Pairwise (IsChild above c) (map (cover_child spec c n) qs) (map same (map (λ (q : List SortId × Tree). tidied (covered_by c n q)) qs))
+  are_made : (qs : List (List SortId × Tree)) → AllZip (IsChild above c) (map (cover_child spec c n) qs) (map same (map (λ (q : List SortId × Tree). tidied (covered_by c n q)) qs))
   are_made [] = tt
   are_made (q ∷ qs) = ((refl, refl), are_made qs)
 
@@ -41,7 +41,7 @@ cover_says above = record {
       is.covering,
       (
         same_children made,
-        subst (λ ds. Pairwise (IsChild above c) (map (cover_child spec c n) (zip are.contexts patterns)) (map same ds)) (sym is.children) (are_made above spec c n (zip are.contexts patterns)),
+        subst (λ ds. AllZip (IsChild above c) (map (cover_child spec c n) (zip are.contexts patterns)) (map same ds)) (sym is.children) (are_made above spec c n (zip are.contexts patterns)),
         tt,
         inl ((forth made is.within, omega (arith, few, length-map made same)), refl),
       ),
@@ -53,7 +53,7 @@ cover_says above = record {
       is.covering,
       (
         same_children made,
-        subst (λ ds. Pairwise (IsChild above c) (map (cover_child spec c n) (zip are.contexts patterns)) (map same ds)) (sym is.children) (are_made above spec c n (zip are.contexts patterns)),
+        subst (λ ds. AllZip (IsChild above c) (map (cover_child spec c n) (zip are.contexts patterns)) (map same ds)) (sym is.children) (are_made above spec c n (zip are.contexts patterns)),
         tt,
         inr (λ w. omega (arith, many, w.1, length-map made same), refl),
       ),

@@ -1,12 +1,11 @@
 -- Patterns as rows of one column, and the values that they match.
 use Rattle.std.proofs.Common.{◌≡◌, ℕ, zero, suc, ◌<◌, List, [], ◌∷◌, inl, inr, length, get_or, refl, ap, ◌∙◌, arith}
 use Rattle.std.specs.Prelude.{Any}
-use Rattle.std.specs.List.{AllByRecursion}
+use Rattle.std.specs.List.{AllByRecursion, AllZip}
 use Rattle.term_core.specs.Tree.{Tree, none, some, instance}
 use Rattle.term_core.specs.declared.ids.SortId.{SortId}
 use Rattle.spec_core.specs.Sig.{Sig}
 use Rattle.clause_core.specs.Patterns.{IsPatternOf, IsInstanceOf, AreCovering}
-use Rattle.clause_core.specs.Says.{Pairwise}
 use Rattle.coverage_check.specs.Rows.{IsRow}
 use Rattle.coverage_check.specs.Named.{IsNamed}
 use Rattle.coverage_check.specs.Values.{MatchesSome, AreCovered, IsMissing}
@@ -33,7 +32,7 @@ module _ (sig : Sig) (s : SortId) where
   are_rows (p ∷ ps) h = (is_row p h.0, are_rows ps h.1)
 
   -- patterns, each over some variables
-  pub some_patterns : (contexts : List (List SortId)) (ps : List Tree) → Pairwise (IsPatternOf sig s) contexts ps → AllByRecursion (IsSomePattern sig s) ps
+  pub some_patterns : (contexts : List (List SortId)) (ps : List Tree) → AllZip (IsPatternOf sig s) contexts ps → AllByRecursion (IsSomePattern sig s) ps
   some_patterns [] [] h = tt
   some_patterns [] (p ∷ ps) h = absurd h
   some_patterns (ctx ∷ contexts) [] h = absurd h

@@ -1,7 +1,7 @@
 -- When terms are patterns for a variable: what the test asks is what is said of them.
 use Rattle.std.proofs.Common.{◌≡◌, ◌↔◌, Bool, true, false, IsTrue, is_some, Option, ℕ, zero, suc, ◌+◌, ◌≤◌, List, [], ◌∷◌, ◌++◌, Some, None, length, refl, ap, sym, ◌∙◌, subst, arith}
 use Rattle.std.specs.Prelude.{MatchOption, slice_get, option_map}
-use Rattle.std.specs.List.{AllByRecursion, range_with_len}
+use Rattle.std.specs.List.{AllByRecursion, range_with_len, AllZip}
 use Rattle.std.proofs.lemmas.List.{length-append}
 use Rattle.std.proofs.lemmas.Option.{slice_get_past}
 use Rattle.std.proofs.lemmas.List.FromFn.{length-range_with_len}
@@ -13,7 +13,6 @@ use Rattle.spec_core.specs.Sig.{Sig}
 use Rattle.spec_core.specs.Sorts.{Sorted}
 use Rattle.clause_core.specs.declared.clauses.Clause.{Clause}
 use Rattle.clause_core.specs.Patterns.{IsPatternOf}
-use Rattle.clause_core.specs.Says.{Pairwise}
 use Rattle.clause_core.specs.Splitting.{ArePatternsFor}
 use Rattle.test_sets.specs.Children.{args_of, sorts_in, all_sorts_in, IsSomePattern}
 use Rattle.test_sets.specs.Numbering.{IsNumbered, AreNumbered}
@@ -100,7 +99,7 @@ module _ (sig : Sig) where
       (r : Bool) → r ≡ false → IsTrue r ↔ IsSomePattern sig s p
   refused s p ctx e unsorted r is = ((λ t. absurd (let q : true ≡ false = sym t ∙ is in cc)), (λ fits. absurd (unsorted (fits_sorted s p ctx e fits))))
 
-  contexts_of : (s : SortId) (ps : List Tree) → AllByRecursion (IsSomePattern sig s) ps → (contexts : List (List SortId)) × Pairwise (IsPatternOf sig s) contexts ps
+  contexts_of : (s : SortId) (ps : List Tree) → AllByRecursion (IsSomePattern sig s) ps → (contexts : List (List SortId)) × AllZip (IsPatternOf sig s) contexts ps
   contexts_of s [] h = ([], tt)
   contexts_of s (p ∷ ps) h =
       let rest = contexts_of s ps h.1 in

@@ -1,7 +1,7 @@
 -- The constructors of a sort, and the patterns that they make.
 use Rattle.std.proofs.Common.{◌≡◌, ℕ, zero, suc, ◌+◌, ◌<◌, ◌≤◌, List, [], ◌∷◌, cond, Some, None, inl, inr, ◌++◌, map, length, take, get_or, refl, ap, sym, ◌∙◌, subst, arith}
 use Rattle.std.specs.Prelude.{Any, slice_get, option_map}
-use Rattle.std.specs.List.{AllByRecursion}
+use Rattle.std.specs.List.{AllByRecursion, AllZip}
 use Rattle.std.proofs.lemmas.Bool.Decides.{eqb_tells}
 use Rattle.std.proofs.lemmas.List.{length-map, get_or-map, get_or_default}
 use Rattle.std.proofs.lemmas.Option.{slice_get_within}
@@ -17,7 +17,6 @@ use Rattle.spec_core.specs.Order.{constructors_from, constructors_of, symbol_num
 use Rattle.spec_core.proofs.Constructors.{info_parts}
 use Rattle.clause_core.specs.Instances.{variables}
 use Rattle.clause_core.specs.Patterns.{IsPatternOf, IsInstanceOf, AreCovering}
-use Rattle.clause_core.specs.Says.{Pairwise}
 use Rattle.test_sets.specs.TestSets.{applied, test_set_of, contexts_of}
 use Rattle.test_sets.proofs.ChildrenOfPatterns.{mapped_next, all_at}
 use Rattle.test_sets.proofs.CoveredValues.{any_first, any_behind}
@@ -121,11 +120,11 @@ one_pattern sig s c is =
       numbered = variables_occur 0 (length c.1);
     }
 
-each_pattern : (sig : Sig) (s : SortId) (cs : List (ℕ × List SortId)) → AllByRecursion (IsOneOf sig s) cs → Pairwise (IsPatternOf sig s) (map (λ (c : ℕ × List SortId). c.1) cs) (map applied cs)
+each_pattern : (sig : Sig) (s : SortId) (cs : List (ℕ × List SortId)) → AllByRecursion (IsOneOf sig s) cs → AllZip (IsPatternOf sig s) (map (λ (c : ℕ × List SortId). c.1) cs) (map applied cs)
 each_pattern sig s [] h = tt
 each_pattern sig s (c ∷ cs) h = (one_pattern sig s c h.0, each_pattern sig s cs h.1)
 
-pub test_set_patterns : (sig : Sig) (s : SortId) → Pairwise (IsPatternOf sig s) (contexts_of sig s) (test_set_of sig s)
+pub test_set_patterns : (sig : Sig) (s : SortId) → AllZip (IsPatternOf sig s) (contexts_of sig s) (test_set_of sig s)
 test_set_patterns sig s = each_pattern sig s (constructors_of sig s) (each_of_sort sig s)
 
 module _ (sig : Sig) (s : SortId) (syms : List SymId) (numbers : map symbol_number syms ≡ constructor_numbers sig s) where

@@ -1,5 +1,6 @@
 -- Laws of test sets, and of what is answered where patterns are put for a variable.
 use Rattle.std.specs.Prelude.{◌≡◌, ℕ, ◌+◌, ◌<◌, ◌≤◌, List, [], Some, Ok, Err, map, length, slice_get}
+use Rattle.std.specs.List.{AllZip}
 use Rattle.term_core.specs.Tree.{Tree}
 use Rattle.term_core.specs.declared.ids.SortId.{SortId}
 use Rattle.spec_core.specs.declared.records.Spec.{Spec}
@@ -9,7 +10,7 @@ use Rattle.clause_core.specs.declared.clauses.Relation.TheVariants.{Same}
 use Rattle.clause_core.specs.declared.answers.Children.{Children}
 use Rattle.clause_core.specs.declared.answers.Why.TheVariants.{NotCovering as not_covering, Limit as past_limit}
 use Rattle.clause_core.specs.Patterns.{IsPatternOf, AreCovering}
-use Rattle.clause_core.specs.Says.{Pairwise, Says}
+use Rattle.clause_core.specs.Says.{Says}
 use Rattle.clause_core.specs.Splitting.{ArePatternsFor, cover_row}
 use Rattle.test_sets.specs.declared.answers.CoverError.TheVariants.{NotCovering, Limit}
 use Rattle.test_sets.specs.TestSets.{test_set_of, contexts_of}
@@ -20,7 +21,7 @@ use Rattle.test_sets.specs.Covers.{AreChildren, IsRefused}
 pub record TestSetsCover : Type 0 where
   pub patterns :
       (sig : Sig) (s : SortId) →
-      Pairwise (IsPatternOf sig s) (contexts_of sig s) (test_set_of sig s)
+      AllZip (IsPatternOf sig s) (contexts_of sig s) (test_set_of sig s)
   pub covering : (sig : Sig) (s : SortId) → AreCovering sig s (test_set_of sig s)
   -- so they are patterns for a variable of the sort
   pub fitting :

@@ -1,10 +1,10 @@
 ghost use Rattle.std.specs.Prelude.{◌≡◌, ◌≤◌, ◌-◌, ◌++◌, IfOk, List, MatchOption, OnOk, Some, map};
+ghost use Rattle.std.specs.List.{AllZip};
 ghost use Rattle.term_core.specs.Tree.{Tree, trees_of};
 ghost use Rattle.term_core.specs.declared.ids.SortId.{SortId as Sort};
 ghost use Rattle.spec_core.specs.Sig.{IsSort};
 ghost use Rattle.clause_core.specs.Instances.{variables as variables_of};
 ghost use Rattle.clause_core.specs.Patterns.{IsPatternOf, AreCovering};
-ghost use Rattle.clause_core.specs.Says.{Pairwise};
 ghost use Rattle.test_sets.specs.Covers.{IsUncovered, rows_of as rows_of_patterns};
 ghost use Rattle.test_sets.specs.Children.{sorts_in, all_sorts_in};
 
@@ -23,7 +23,7 @@ pub(crate) fn uncovered(
 ) -> Result<Option<Term>, OutOfMemory>
     requires sort { IsSort sig.now sort }
     requires patterns { (contexts : List (List Sort)) ×
-        Pairwise (IsPatternOf sig.now sort) contexts patterns.now }
+        AllZip (IsPatternOf sig.now sort) contexts patterns.now }
     ensures { IfOk result (λ found. MatchOption found
         (AreCovering sig.now sort patterns.now) (IsUncovered sig.now sort patterns.now)) }
 {

@@ -1,3 +1,4 @@
+use Rattle.std.specs.List.{AllZip}
 use Rattle.std.proofs.Common.{◌≡◌, List, map, refl, sym, ◌∙◌, subst}
 use Rattle.std.proofs.lemmas.Iterator.Adapters.{YieldsList-from_vec}
 use Rattle.std.proofs.lemmas.Iterator.Consumers.{YieldsList-end}
@@ -5,7 +6,7 @@ use Rattle.std.proofs.lemmas.List.{map-id}
 use Rattle.clause_core.specs.declared.clauses.Clause.{Clause}
 use Rattle.clause_core.specs.declared.answers.Child.{Child}
 use Rattle.clause_core.specs.Rows.{child}
-use Rattle.clause_core.specs.Says.{Pairwise, IsChild}
+use Rattle.clause_core.specs.Says.{IsChild}
 use Rattle.inference_rules.proofs.Ends.{child_more}
 use Rattle.inference_rules.proofs.making.tidied_all.Goals as goal
 
@@ -17,5 +18,5 @@ returns c = λ d.
     let g = c.into_iter-clause-iterator.ensures.into_iter_gives in
     let t = YieldsList-end (YieldsList-from_vec c.args.clauses.items g.0 (g.1 ∙ c.args.clauses.ok.0)) c.loop-clause.yielded c.loop-clause.clause-iterator c.loop-clause.yielded_by c.next.result c.next.new.self c.in-None.is c.next.ensures.steps in
     let all : c.loop-clause.yielded ≡ c.args.clauses.items = sym (map-id c.loop-clause.yielded) ∙ t.0 in
-    subst (λ (xs : List Child). Pairwise (IsChild (λ t s. ⊥) d) (map (child c.args.relation) c.args.clauses.items) xs) (sym c.from_vec.ensures)
-    (subst (λ (ds : List Clause). Pairwise (IsChild (λ t s. ⊥) d) (map (child c.args.relation) ds) c.loop-clause.made.items) all (c.loop-clause.invariant d))
+    subst (λ (xs : List Child). AllZip (IsChild (λ t s. ⊥) d) (map (child c.args.relation) c.args.clauses.items) xs) (sym c.from_vec.ensures)
+    (subst (λ (ds : List Clause). AllZip (IsChild (λ t s. ⊥) d) (map (child c.args.relation) ds) c.loop-clause.made.items) all (c.loop-clause.invariant d))
