@@ -1,14 +1,13 @@
 -- Equations with their variables renumbered.
-use Rattle.std.proofs.Common.{◌≡◌, ℕ, ◌+◌, ◌<◌, List, [], ◌∷◌, ◌++◌, map, length, take, get_or, refl, ap, sym, ◌∙◌}
+use Rattle.std.proofs.Common.{◌≡◌, ℕ, List, [], ◌∷◌, ◌++◌, map, refl, ap, sym, ◌∙◌}
 use Rattle.std.proofs.lemmas.List.{append-nil, map-append}
 use Rattle.term_core.specs.Tree.{Tree, trees_of}
 use Rattle.term_core.specs.Variables.{occurrences, occurrences_all}
 use Rattle.term_core.specs.Gathered.{gathered}
-use Rattle.term_core.proofs.Items.{taken_next}
 use Rattle.spec_core.specs.declared.records.Equation.{Equation}
 use Rattle.clause_core.specs.Clauses.{sides_of}
 use Rattle.clause_core.specs.Tidied.{renumbered, renumbered_equation}
-use Rattle.clause_core.proofs.Sides.{sides_next}
+use Rattle.clause_core.proofs.Sides.{sides_append}
 use Rattle.clause_core.proofs.Renumbering.{gathered-append, gathered_both, list_kept, renumbered_kept}
 
 pub sides_renumbered : (olds : List ℕ) (es : List Equation) → sides_of (map (renumbered_equation olds) es) ≡ map (renumbered olds) (sides_of es)
@@ -34,30 +33,30 @@ equations_kept start ns es =
     same_equations _ _ (sides_renumbered _ es ∙ list_kept start ns (sides_of es) ∙ sym (sides_renumbered _ es))
 
 pub gathered_next :
-    (start : List ℕ) (es : List Equation) (i : ℕ) (e : Equation) → i < length es → e ≡ get_or es i e →
-    gathered start (occurrences_all (trees_of (sides_of (take (i + 1) es)))) ≡ gathered (gathered (gathered start (occurrences_all (trees_of (sides_of (take i es))))) (occurrences e.left)) (occurrences e.right)
-gathered_next start es i e lt is =
-    let first : List ℕ = gathered start (occurrences_all (trees_of (sides_of (take i es)))) in
-    ap (λ ts. gathered start (occurrences_all (trees_of ts))) (sides_next es i e lt is)
-    ∙ gathered_both start (sides_of (take i es)) (e.left ∷ e.right ∷ [])
+    (start : List ℕ) (es : List Equation) (e : Equation) →
+    gathered start (occurrences_all (trees_of (sides_of (es ++ e ∷ [])))) ≡ gathered (gathered (gathered start (occurrences_all (trees_of (sides_of es)))) (occurrences e.left)) (occurrences e.right)
+gathered_next start es e =
+    let first : List ℕ = gathered start (occurrences_all (trees_of (sides_of es))) in
+    ap (λ ts. gathered start (occurrences_all (trees_of ts))) (sides_append es (e ∷ []))
+    ∙ gathered_both start (sides_of es) (e.left ∷ e.right ∷ [])
     ∙ gathered-append first (occurrences e.left) (occurrences e.right ++ [])
     ∙ ap (λ ns. gathered (gathered first (occurrences e.left)) ns) (append-nil (occurrences e.right))
 
 -- one equation more, whose sides are renumbered one after the other
 pub equations_next :
-    (start : List ℕ) (es : List Equation) (i : ℕ) (e : Equation) → i < length es → e ≡ get_or es i e →
+    (start : List ℕ) (es : List Equation) (e : Equation) →
     (olds mid news : List ℕ) (made pushed : List Equation) (left right : Tree) →
-    olds ≡ gathered start (occurrences_all (trees_of (sides_of (take i es)))) →
+    olds ≡ gathered start (occurrences_all (trees_of (sides_of es))) →
     mid ≡ gathered olds (occurrences e.left) → news ≡ gathered mid (occurrences e.right) →
-    made ≡ map (renumbered_equation olds) (take i es) → left ≡ renumbered mid e.left → right ≡ renumbered news e.right →
+    made ≡ map (renumbered_equation olds) es → left ≡ renumbered mid e.left → right ≡ renumbered news e.right →
     pushed ≡ made ++ record { left = left; right = right } ∷ [] →
-    pushed ≡ map (renumbered_equation news) (take (i + 1) es)
-equations_next start es i e lt is olds mid news made pushed left right o m n k l r p =
+    pushed ≡ map (renumbered_equation news) (es ++ e ∷ [])
+equations_next start es e olds mid news made pushed left right o m n k l r p =
     let both : news ≡ gathered olds (occurrences e.left ++ occurrences e.right) = n ∙ ap (λ os. gathered os (occurrences e.right)) m ∙ sym (gathered-append olds (occurrences e.left) (occurrences e.right)) in
-    let whole : news ≡ gathered (gathered start (occurrences_all (trees_of (sides_of (take i es))))) (occurrences e.left ++ occurrences e.right) = both ∙ ap (λ os. gathered os (occurrences e.left ++ occurrences e.right)) o in
-    let kept : made ≡ map (renumbered_equation news) (take i es) =
-    k ∙ ap (λ os. map (renumbered_equation os) (take i es)) o ∙ sym (equations_kept start (occurrences e.left ++ occurrences e.right) (take i es)) ∙ ap (λ os. map (renumbered_equation os) (take i es)) (sym whole) in
+    let whole : news ≡ gathered (gathered start (occurrences_all (trees_of (sides_of es)))) (occurrences e.left ++ occurrences e.right) = both ∙ ap (λ os. gathered os (occurrences e.left ++ occurrences e.right)) o in
+    let kept : made ≡ map (renumbered_equation news) es =
+    k ∙ ap (λ os. map (renumbered_equation os) es) o ∙ sym (equations_kept start (occurrences e.left ++ occurrences e.right) es) ∙ ap (λ os. map (renumbered_equation os) es) (sym whole) in
     let first : left ≡ renumbered news e.left =
     l ∙ ap (λ os. renumbered os e.left) m ∙ sym (renumbered_kept e.left olds (occurrences e.right)) ∙ ap (λ os. renumbered (gathered os (occurrences e.right)) e.left) (sym m) ∙ ap (λ os. renumbered os e.left) (sym n) in
     p ∙ (λ j. kept j ++ record { left = first j; right = r j } ∷ [])
-    ∙ sym (map-append (renumbered_equation news) (take i es) (e ∷ [])) ∙ ap (λ ds. map (renumbered_equation news) ds) (sym (taken_next es i e lt is))
+    ∙ sym (map-append (renumbered_equation news) es (e ∷ []))

@@ -1,10 +1,11 @@
 -- Places of variables among those that were met, and terms renumbered by them.
-use Rattle.std.proofs.Common.{◌≡◌, ℕ, suc, ◌+◌, ◌<◌, List, [], ◌∷◌, ◌++◌, true, false, not, cond, ◌==◌, ◌||◌, Some, None, ◌⊎◌, inl, inr, map, length, take, get_or, refl, ap, sym, ◌∙◌, subst, append_assoc, length-append, arith}
+use Rattle.std.proofs.Common.{◌≡◌, ℕ, suc, ◌+◌, ◌<◌, List, [], ◌∷◌, ◌++◌, true, false, not, cond, ◌==◌, ◌||◌, Some, None, ◌⊎◌, inl, inr, map, length, take, drop, get_or, refl, ap, sym, ◌∙◌, subst, append_assoc, length-append, arith}
 use Rattle.std.specs.Prelude.{position}
 use Rattle.std.specs.List.{list_any}
 use Rattle.std.proofs.lemmas.Bool.Decides.{eqb_tells, leb_tells}
 use Rattle.std.proofs.lemmas.List.{append-nil, map-append}
 use Rattle.std.proofs.lemmas.List.Sums.{prefix_len-le-length}
+use Rattle.std.proofs.Math.Seq.{drop-cons}
 use Rattle.term_core.specs.Tree.{Tree, Trees, var, app, none, some, trees_of}
 use Rattle.term_core.specs.Variables.{occurrences, occurrences_all}
 use Rattle.term_core.specs.Gathered.{met, gathered}
@@ -172,3 +173,15 @@ renumbered_next start ts i t lt is olds news made pushed new o n m w p =
     m ∙ ap (λ os. map (renumbered os) (take i ts)) o ∙ sym (list_kept start (occurrences t) (take i ts)) ∙ ap (λ os. map (renumbered os) (take i ts)) (sym n) in
     p ∙ ap (λ us. us ++ new ∷ []) kept ∙ ap (λ u. map (renumbered news) (take i ts) ++ u ∷ []) w
     ∙ sym (map-append (renumbered news) (take i ts) (t ∷ [])) ∙ ap (λ us. map (renumbered news) us) (sym (taken_next ts i t lt is))
+
+-- a list of which only the items before a place have changed has the old one there, and the old ones behind it
+pub next_left : {X : Type 0} (now before : List X) (i : ℕ) (d : X) → i < length now → i < length before → drop i now ≡ drop i before → get_or now i d ≡ get_or before i d
+next_left now before i d l m e =
+    let q : get_or now i d ∷ drop (suc i) now ≡ get_or before i d ∷ drop (suc i) before = sym (drop-cons now i d l) ∙ e ∙ drop-cons before i d m in cc
+
+pub others_left : {X : Type 0} (now before : List X) (i : ℕ) (d : X) → i < length now → i < length before → drop i now ≡ drop i before → drop (i + 1) now ≡ drop (i + 1) before
+others_left now before i d l m e =
+    let q : get_or now i d ∷ drop (suc i) now ≡ get_or before i d ∷ drop (suc i) before = sym (drop-cons now i d l) ∙ e ∙ drop-cons before i d m in
+    let r : drop (suc i) now ≡ drop (suc i) before = cc in
+    let n : i + 1 ≡ suc i = omega arith in
+    ap (λ k. drop k now) n ∙ r ∙ ap (λ k. drop k before) (sym n)

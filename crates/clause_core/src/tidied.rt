@@ -17,7 +17,7 @@ pub fn tidied_within(alloc: Global, clause: Clause) -> Result<Option<Clause>, Ou
     match is_tidied_within(&clause) {
         None => Ok(None),
         Some(true) => Ok(Some(clause)),
-        Some(false) => Ok(Some(tidy(alloc, &clause)?)),
+        Some(false) => Ok(Some(tidy(alloc, clause)?)),
     }
 }
 
@@ -28,6 +28,6 @@ pub fn into_tidied(alloc: Global, clause: Clause) -> Result<Clause, OutOfMemory>
     tidying_laws();
     match is_tidied_within(&clause) {
         Some(true) => Ok(clause),
-        _ => tidy(alloc, &clause),
+        _ => tidy(alloc, clause),
     }
 }

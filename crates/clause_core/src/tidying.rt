@@ -7,55 +7,43 @@ ghost use Rattle.clause_core.specs.Clauses.{sides_of};
 ghost use Rattle.clause_core.specs.Tidied.{place_of, renumbered, renumbered_equation, sorts_at as sorts_at_places, tidied, goal_clause};
 
 use crate::clauses::Clause;
+use crate::equations::copy_equations;
 use spec_core::{Equation, Goal, VarInfo};
 use std::alloc::Global;
+use std::mem;
 use term_core::{Node, OutOfMemory, Seq, SortId, Term, Terms, VarId};
 
 /// The clause with its variables numbered by first occurrence, premises before conclusions and
-/// left sides before right ones. Variables that don't occur are left out. The time is that of the
-/// occurrences times that of the variables.
-pub fn tidy(alloc: Global, clause: &Clause) -> Result<Clause, OutOfMemory>
-    ensures { IfOk result (λ made. made ≡ tidied clause.now) }
+/// left sides before right ones. Variables that don't occur are left out. No term is copied. The
+/// time is that of the occurrences times that of the variables.
+pub fn tidy(alloc: Global, clause: Clause) -> Result<Clause, OutOfMemory>
+    ensures { IfOk result (λ made. made ≡ tidied clause) }
 {
-    tidy_parts(
-        alloc,
-        clause.ctx.as_slice(),
-        clause.premises.as_slice(),
-        clause.conclusions.as_slice(),
-    )
+    let Clause {
+        ctx,
+        premises,
+        conclusions,
+    } = clause;
+    let mut olds = Vec::new(alloc);
+    let premises = renumber_equations(alloc, premises, &mut olds)?;
+    let conclusions = renumber_equations(alloc, conclusions, &mut olds)?;
+    Ok(Clause {
+        ctx: sorts_at(alloc, ctx.as_slice(), &olds)?,
+        premises,
+        conclusions,
+    })
 }
 
 /// The goal's clause, tidied.
 pub fn of_goal(alloc: Global, goal: &Goal) -> Result<Clause, OutOfMemory>
     ensures { IfOk result (λ made. made ≡ goal_clause goal.now) }
 {
-    let sorts = sorts_of(alloc, goal.vars.as_slice())?;
-    tidy_parts(
-        alloc,
-        &sorts,
-        goal.premises.as_slice(),
-        goal.conclusions.as_slice(),
-    )
-}
-
-/// The tidied clause of these parts.
-fn tidy_parts(
-    alloc: Global,
-    ctx: &[SortId],
-    premises: &[Equation],
-    conclusions: &[Equation],
-) -> Result<Clause, OutOfMemory>
-    ensures { IfOk result (λ made. made ≡ tidied
-        (record { ctx = ctx.now; premises = premises.now; conclusions = conclusions.now })) }
-{
-    let mut olds = Vec::new(alloc);
-    let premises = renumber_equations(alloc, premises, &mut olds)?;
-    let conclusions = renumber_equations(alloc, conclusions, &mut olds)?;
-    Ok(Clause {
-        ctx: sorts_at(alloc, ctx, &olds)?,
-        premises,
-        conclusions,
-    })
+    let written = Clause {
+        ctx: Seq::from_vec(sorts_of(alloc, goal.vars.as_slice())?),
+        premises: Seq::from_vec(copy_equations(alloc, goal.premises.as_slice())?),
+        conclusions: Seq::from_vec(copy_equations(alloc, goal.conclusions.as_slice())?),
+    };
+    tidy(alloc, written)
 }
 
 /// The sorts of the variables, in their order.
@@ -88,18 +76,19 @@ fn sorts_at(alloc: Global, ctx: &[SortId], places: &[u32]) -> Result<Seq<SortId>
 /// numbers that are met for the first time are added to it.
 fn renumber_equations(
     alloc: Global,
-    equations: &[Equation],
+    equations: Seq<Equation>,
     olds: &mut Vec<u32>,
 ) -> Result<Seq<Equation>, OutOfMemory>
     ensures olds { OnOk result (olds.new.items ≡
-        gathered olds.old.items (occurrences_all (trees_of (sides_of equations.now)))) }
+        gathered olds.old.items (occurrences_all (trees_of (sides_of equations)))) }
     ensures made { IfOk result (λ made.
-        made ≡ map (renumbered_equation olds.new.items) equations.now) }
+        made ≡ map (renumbered_equation olds.new.items) equations) }
 {
-    let mut made = Vec::with_capacity(alloc, equations.len())?;
-    for equation in equations {
-        let left = renumber(alloc, &equation.left, olds)?;
-        let right = renumber(alloc, &equation.right, olds)?;
+    let items = equations.into_vec();
+    let mut made = Vec::with_capacity(alloc, items.len())?;
+    for equation in items {
+        let left = renumber(equation.left, olds)?;
+        let right = renumber(equation.right, olds)?;
         made.push(Equation { left, right })?;
     }
     Ok(Seq::from_vec(made))
@@ -107,29 +96,37 @@ fn renumber_equations(
 
 /// The term, renumbered.
 #[cycle(renumber)]
-fn renumber(alloc: Global, term: &Term, olds: &mut Vec<u32>) -> Result<Term, OutOfMemory>
-    ensures olds { OnOk result
-        (olds.new.items ≡ gathered olds.old.items (occurrences term.now)) }
-    ensures made { IfOk result (λ made. made ≡ renumbered olds.new.items term.now) }
+fn renumber(term: Term, olds: &mut Vec<u32>) -> Result<Term, OutOfMemory>
+    ensures olds { OnOk result (olds.new.items ≡ gathered olds.old.items (occurrences term)) }
+    ensures made { IfOk result (λ made. made ≡ renumbered olds.new.items term) }
 {
-    match &term.node {
-        Node::Var(var) => Ok(Term::var(new_number(*var, olds)?)),
-        Node::App(sym, args) => Ok(Term::app(*sym, renumber_all(alloc, args.as_slice(), olds)?)),
+    let sym = match &term.node {
+        Node::Var(var) => return Ok(Term::var(new_number(*var, olds)?)),
+        Node::App(sym, _) => *sym,
+    };
+    match term.node {
+        Node::Var(_) => unreachable!(),
+        Node::App(_, args) => {
+            let made = renumber_all(args.into_vec(), olds)?;
+            Ok(Term::app(sym, Terms::from_vec(made)))
+        }
     }
 }
 
 /// The terms in their order, renumbered.
 #[cycle(renumber)]
-fn renumber_all(alloc: Global, terms: &[Term], olds: &mut Vec<u32>) -> Result<Terms, OutOfMemory>
-    ensures olds { OnOk result (olds.new.items ≡
-        gathered olds.old.items (occurrences_all (trees_of terms.now))) }
-    ensures made { IfOk result (λ made. made ≡ map (renumbered olds.new.items) terms.now) }
+fn renumber_all(terms: Vec<Term>, olds: &mut Vec<u32>) -> Result<Vec<Term>, OutOfMemory>
+    ensures olds { OnOk result
+        (olds.new.items ≡ gathered olds.old.items (occurrences_all (trees_of terms.items))) }
+    ensures made { IfOk result (λ made.
+        made.items ≡ map (renumbered olds.new.items) terms.items) }
 {
-    let mut made = Terms::with_capacity(alloc, terms.len())?;
-    for term in terms {
-        made.push(renumber(alloc, term, olds)?)?;
+    let mut terms = terms;
+    for index in 0..terms.len() {
+        let term = mem::replace(&mut terms[index], Term::var(VarId(0)));
+        terms[index] = renumber(term, olds)?;
     }
-    Ok(made)
+    Ok(terms)
 }
 
 /// The variable's new number, which is its place among the old ones.

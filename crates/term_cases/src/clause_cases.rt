@@ -32,7 +32,7 @@ fn answer_of(answer: bool) -> &'static str {
 
 /// Whether this becomes of the clause once it is tidied.
 fn is_tidied(alloc: Global, signs: &str, wanted: &str) -> Result<bool> {
-    is(alloc, &tidy(alloc, &clause(alloc, signs)?)?, wanted)
+    is(alloc, &tidy(alloc, clause(alloc, signs)?)?, wanted)
 }
 
 /// Whether this is the clause of the goal that is written as a clause.

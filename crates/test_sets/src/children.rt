@@ -63,5 +63,5 @@ fn child(
         return Ok(None);
     }
     let child = instance(alloc, clause, &theta, &ctx)?;
-    Ok(Some(tidy(alloc, &child)?))
+    Ok(Some(tidy(alloc, child)?))
 }
