@@ -1,10 +1,13 @@
 -- The first of the equations that pass a test, and the first of conclusions and premises.
-use Rattle.std.proofs.Common.{◌≡◌, ℕ, zero, suc, ◌<◌, List, [], ◌∷◌, ◌++◌, Bool, true, false, cond, refl, ap, sym, ◌∙◌, arith, length, get_or, take}
-use Rattle.std.specs.Prelude.{filter}
+use Rattle.std.proofs.Common.{◌≡◌, Option, Some, None, ℕ, zero, suc, ◌<◌, List, [], ◌∷◌, ◌++◌, Bool, true, false, cond, refl, ap, sym, ◌∙◌, arith, length, get_or, take}
+use Rattle.std.specs.Prelude.{filter, is_some, slice_get}
 use Rattle.std.proofs.lemmas.List.Elements.{filter-append}
 use Rattle.spec_core.specs.declared.records.Equation.{Equation}
 use Rattle.clause_core.specs.declared.clauses.Clause.{Clause}
+use Rattle.clause_core.specs.NumberedEquations.{equations}
+use Rattle.fitting_lists.specs.declared.leading_equations.LeadingPlace.{LeadingPlace}
 use Rattle.fitting_lists.specs.Fitting.{Located, both_sides, has_all, located, leading}
+use Rattle.fitting_lists.specs.Leading.{IsFirstWithAll, IsPlace}
 
 module _ {A : Type 0} where
   first_of_both : (x : A) (xs ys : List A) → take 1 xs ≡ x ∷ [] → take 1 (xs ++ ys) ≡ x ∷ []
@@ -82,7 +85,7 @@ module _ (c : Clause) where
       only : (d e : Equation) → (d ∷ []) ≡ (e ∷ []) → d ≡ e
       only d e q = cc
 
-  pub conclusion_leads :
+  conclusion_leads :
       (e : Equation) → take 1 (filter has c.conclusions) ≡ e ∷ [] →
       leading c ≡ record { conclusion = true; equation = e } ∷ []
   conclusion_leads e q =
@@ -90,7 +93,7 @@ module _ (c : Clause) where
       ∙ first_of_both (record { conclusion = true; equation = e }) conclusions premises
       (first_located true (filter has c.conclusions) e q)
 
-  pub premise_leads :
+  premise_leads :
       (e : Equation) → filter has c.conclusions ≡ [] → take 1 (filter has c.premises) ≡ e ∷ [] →
       leading c ≡ record { conclusion = false; equation = e } ∷ []
   premise_leads e none q =
@@ -98,8 +101,38 @@ module _ (c : Clause) where
       ∙ ap (λ es. take 1 (located true es ++ premises)) none
       ∙ first_located false (filter has c.premises) e q
 
-  pub none_leads : filter has c.conclusions ≡ [] → filter has c.premises ≡ [] → leading c ≡ []
+  none_leads : filter has c.conclusions ≡ [] → filter has c.premises ≡ [] → leading c ≡ []
   none_leads p q =
       leading_is
       ∙ ap (λ es. take 1 (located true es ++ premises)) p
       ∙ ap (λ es. take 1 (located false es)) q
+
+  -- the first conclusion with all variables leads, or else the first premise
+  pub conclusion_place :
+      (found : Option LeadingPlace) → is_some found ≡ true → IsFirstWithAll c true found →
+      IsPlace c found
+  conclusion_place None some h = absurd (let q : false ≡ true = some in cc)
+  conclusion_place (Some place) some h = record {
+    equation = h.equation;
+    there =
+        ap (λ k. slice_get (equations k c) place.index) h.kind ∙ h.there;
+    leads =
+        conclusion_leads h.equation h.first
+        ∙ ap (λ k. record { conclusion = k; equation = h.equation } ∷ []) (sym h.kind);
+    spines = h.spines;
+  }
+
+  pub premise_place :
+      (found premise : Option LeadingPlace) → is_some found ≡ false →
+      IsFirstWithAll c true found → IsFirstWithAll c false premise → IsPlace c premise
+  premise_place (Some place) premise some h k = absurd (let q : true ≡ false = some in cc)
+  premise_place None None some h k = none_leads h k
+  premise_place None (Some place) some h k = record {
+    equation = k.equation;
+    there =
+        ap (λ b. slice_get (equations b c) place.index) k.kind ∙ k.there;
+    leads =
+        premise_leads k.equation h k.first
+        ∙ ap (λ b. record { conclusion = b; equation = k.equation } ∷ []) (sym k.kind);
+    spines = k.spines;
+  }

@@ -7,4 +7,6 @@ pub mod Variables
 mod BoundEntries
 mod TermLists
 mod LeadingEquations
+mod MarkedVariables
+mod FittingSpines
 mod SampleLists

@@ -1,11 +1,12 @@
--- The lists of the worked examples, and why there is none.
-use Rattle.std.proofs.Common.{◌≡◌, [], ◌∷◌, Some, None, refl}
+-- The lists of the worked examples, and why there is none, and spines that fit or don't.
+use Rattle.std.proofs.Common.{◌≡◌, ℕ, ◌≤◌, [], ◌∷◌, Some, None, inl, inr, refl, arith}
 use Rattle.term_core.specs.Tree.{Tree, var, instance}
 use Rattle.spec_core.specs.Naturals.{zero_term, succ_term, plus_term}
 use Rattle.clause_core.specs.ClauseExamples.{equals}
 use Rattle.fitting_lists.specs.Fitting.{both_sides, rewriting}
 use Rattle.fitting_lists.specs.Answering.{IsOnlyAnswer}
-use Rattle.fitting_lists.specs.Examples.{commutes, sums, sums_to, sum_to, two_units}
+use Rattle.fitting_lists.specs.Examples.{commutes, sums, sums_to, sum_to, succ_twice, two_units}
+use Rattle.fitting_lists.specs.Spines.{spine_of, MayBecome}
 use Rattle.fitting_lists.proofs.Determined.{one_list}
 use Rattle.fitting_lists.proofs.VariableTests.{all_occur}
 
@@ -54,3 +55,13 @@ other_arguments list a =
     let x = instance list (var 0) in
     let q : (plus_term x x ∷ []) ≡ (unit ∷ []) = a.1 in
     cc
+
+pub spine_fits : MayBecome (spine_of (succ_term (var 0))) (spine_of (succ_twice zero_term))
+spine_fits = inr (refl, inl (refl, (let le : 1 ≤ 2 = omega arith in le)))
+
+pub shorter_spine :
+    MayBecome (spine_of (succ_term zero_term)) (spine_of (succ_twice zero_term)) → ⊥
+shorter_spine (inl e) = let q : ◌≡◌ {A = ℕ} 1 0 = e in absurd (omega arith)
+shorter_spine (inr (same, inl (e, le))) = absurd (cc)
+shorter_spine (inr (same, inr (long, e))) =
+    let q : ◌≡◌ {A = ℕ} 1 2 = long in absurd (omega arith)

@@ -1,6 +1,6 @@
 -- What the definitions say of small clauses over naturals, where x is the variable 0 and y the
 -- variable 1.
-use Rattle.std.specs.Prelude.{◌≡◌, [], ◌∷◌, true, false, Some, None}
+use Rattle.std.specs.Prelude.{◌≡◌, ℕ, [], ◌∷◌, true, false, Some, None}
 use Rattle.term_core.specs.Tree.{Tree, var}
 use Rattle.spec_core.specs.declared.records.Equation.{Equation}
 use Rattle.spec_core.specs.Naturals.{zero_term, succ_term, plus_term}
@@ -10,6 +10,10 @@ use Rattle.clause_core.specs.ExampleClauses.{one, two, denies}
 use Rattle.fitting_lists.specs.Questions.{Question}
 use Rattle.fitting_lists.specs.Fitting.{leading, fittings, fitting, rewritable, rewriting}
 use Rattle.fitting_lists.specs.Answering.{IsOnlyAnswer}
+use Rattle.fitting_lists.specs.declared.spines.Spine.{Spine}
+use Rattle.fitting_lists.specs.declared.spines.SpineEnd.{SpineEnd}
+use Rattle.fitting_lists.specs.declared.spines.SpineEnd.TheVariants.{Variable, NoArguments, Symbol}
+use Rattle.fitting_lists.specs.Spines.{numbered, spine_of, MayBecome}
 
 -- plus(s, t) = plus(t, s)
 abbrev pub commutes : Tree → Tree → Equation
@@ -48,6 +52,13 @@ sum_to t = rewriting sums (plus_term (var 0) (var 1)) t
 -- zero = x => succ(x) = zero
 abbrev pub node : Clause
 node = implies one (equals zero_term (var 0)) (equals (succ_term (var 0)) zero_term)
+
+-- the symbol so often, and what ends this
+abbrev pub spine : ℕ → ℕ → SpineEnd → Spine
+spine f length end = record { root = Some (numbered f); length = length; end = end }
+
+abbrev pub succ_twice : Tree → Tree
+succ_twice t = succ_term (succ_term t)
 
 pub record WorkedExamples : Type 0 where
   -- a conclusion with x and y leads
@@ -102,3 +113,13 @@ pub record WorkedExamples : Type 0 where
       IsOnlyAnswer
       (rewriting two_units (plus_term (var 0) (var 0)) (plus_term (succ_term (var 1)) zero_term))
       None
+  -- zero, succ and plus have the numbers 2, 3 and 4: succ(succ(plus(x, y))) has succ twice before
+  -- plus; the spine of plus(y, x) ends in a variable, and that of zero with zero
+  pub symbol_ends :
+      spine_of (succ_twice (plus_term (var 0) (var 1))) ≡ spine 3 2 (Symbol (numbered 4))
+  pub variable_ends : spine_of (plus_term (var 1) (var 0)) ≡ spine 4 1 Variable
+  pub no_arguments : spine_of zero_term ≡ spine 2 1 NoArguments
+  -- succ(x) may become succ(succ(zero)), and succ(zero) may not
+  pub spine_fits : MayBecome (spine_of (succ_term (var 0))) (spine_of (succ_twice zero_term))
+  pub shorter_spine :
+      MayBecome (spine_of (succ_term zero_term)) (spine_of (succ_twice zero_term)) → ⊥

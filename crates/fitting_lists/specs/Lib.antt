@@ -2,8 +2,10 @@
 -- them.
 pub mod Questions
 pub mod Fitting
+pub mod Spines
 pub mod Leading
 pub mod Answering
 pub mod Examples
 pub mod Bindings
+pub mod Marks
 pub mod Found

@@ -44,3 +44,30 @@ pub(crate) fn roots_agree(pattern: &Term, term: &Term) -> bool
         _ => false,
     }
 }
+
+/// The same of the roots, and of those of the arguments. It goes no deeper.
+pub(crate) fn heads_agree(pattern: &Term, term: &Term) -> bool
+    ensures { (list : List Tree) → instance list pattern.now ≡ term.now → IsTrue result }
+{
+    match (&pattern.node, &term.node) {
+        (Node::Var(_), _) => true,
+        (Node::App(sym, patterns), Node::App(other, terms)) => {
+            sym == other && all_roots_agree(patterns.as_slice(), terms.as_slice())
+        }
+        _ => false,
+    }
+}
+
+/// The same of the roots of patterns and terms, in their order.
+fn all_roots_agree(patterns: &[Term], terms: &[Term]) -> bool
+    ensures { (list : List Tree) →
+        instances list (trees_of patterns.now) ≡ trees_of terms.now → IsTrue result }
+{
+    match (front(patterns), front(terms)) {
+        (Some((pattern, patterns)), Some((term, terms))) => {
+            roots_agree(pattern, term) && all_roots_agree(patterns, terms)
+        }
+        (None, rest) => rest.is_none(),
+        (Some(_), None) => false,
+    }
+}

@@ -1,6 +1,15 @@
+ghost use Rattle.std.specs.Prelude.{◌≡◌, List};
+ghost use Rattle.term_core.specs.Tree.{Tree, instance};
 ghost use Rattle.fitting_lists.specs.Examples.{WorkedExamples};
+ghost use Rattle.fitting_lists.specs.Spines.{spine_of, MayBecome};
 
 /// The definitions say of a few clauses what one works out by hand.
 pub fn worked_examples()
     ensures { WorkedExamples }
+{}
+
+/// Where some list makes a pattern a term, their spines say that the one may become the other.
+pub fn spines_may_become()
+    ensures { (list : List Tree) (p t : Tree) →
+        instance list p ≡ t → MayBecome (spine_of p) (spine_of t) }
 {}

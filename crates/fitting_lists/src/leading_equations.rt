@@ -1,50 +1,66 @@
-ghost use Rattle.std.specs.Prelude.{◌≡◌, [], ◌∷◌, Some, MatchOption, filter, take, slice_get};
-ghost use Rattle.spec_core.specs.declared.records.Equation.{Equation as EquationOf};
-ghost use Rattle.fitting_lists.specs.Fitting.{both_sides, has_all};
-ghost use Rattle.fitting_lists.specs.Leading.{IsPlace};
+ghost use Rattle.std.specs.Prelude.{◌≡◌, IfOk};
+ghost use Rattle.fitting_lists.specs.Leading.{HasSpines, IsFirstWithAll, IsPlace};
 
 use crate::occurring::equation_has_all;
+use crate::spines::Spine;
 use clause_core::Clause;
 use spec_core::Equation;
+use std::alloc::Global;
+use term_core::OutOfMemory;
 
-/// Where the leading equation of a clause stands: its index in the conclusions or in the premises.
+/// Where the leading equation of a clause stands, its index in the conclusions or in the premises,
+/// and the spines of its sides.
 #[derive(Clone, Copy)]
 pub struct LeadingPlace {
     pub conclusion: bool,
     pub index: usize,
+    pub left: Spine,
+    pub right: Spine,
+}
+
+impl LeadingPlace {
+    fn of(conclusion: bool, index: usize, equation: &Equation) -> LeadingPlace
+        ensures conclusion { result.conclusion ≡ conclusion }
+        ensures index { result.index ≡ index }
+        ensures spines { HasSpines equation.now result }
+    {
+        LeadingPlace {
+            conclusion,
+            index,
+            left: Spine::of(&equation.left),
+            right: Spine::of(&equation.right),
+        }
+    }
 }
 
 /// The place of the first equation in which all variables of the clause are, conclusions before
 /// premises.
-pub fn leading(clause: &Clause) -> Option<LeadingPlace>
-    ensures { IsPlace clause.now result }
+pub fn leading(alloc: Global, clause: &Clause) -> Result<Option<LeadingPlace>, OutOfMemory>
+    ensures { IfOk result (IsPlace clause.now) }
 {
-    if let Some(index) = first_with_all(clause, clause.conclusions.as_slice()) {
-        return Some(LeadingPlace {
-            conclusion: true,
-            index,
-        });
+    let conclusion = first_with_all(alloc, clause, true)?;
+    if conclusion.is_some() {
+        return Ok(conclusion);
     }
-    match first_with_all(clause, clause.premises.as_slice()) {
-        Some(index) => Some(LeadingPlace {
-            conclusion: false,
-            index,
-        }),
-        None => None,
-    }
+    let premise = first_with_all(alloc, clause, false)?;
+    Ok(premise)
 }
 
-/// The index of the first of the equations in which all variables of the clause are.
-fn first_with_all(clause: &Clause, equations: &[Equation]) -> Option<usize>
-    ensures { let has = λ (e : EquationOf). has_all clause.now (both_sides e) in
-        let kept = filter has equations.now in
-        MatchOption result (kept ≡ []) (λ index. (e : EquationOf)
-        × (slice_get equations.now index ≡ Some e) × (take 1 kept ≡ e ∷ [])) }
+/// The place of the first of the conclusions, or of the premises, in which all variables of the
+/// clause are.
+fn first_with_all(
+    alloc: Global,
+    clause: &Clause,
+    conclusion: bool,
+) -> Result<Option<LeadingPlace>, OutOfMemory>
+    ensures { IfOk result (IsFirstWithAll clause.now conclusion) }
 {
+    let equations = clause.equations(conclusion);
     for index in 0..equations.len() {
-        if equation_has_all(clause, &equations[index]) {
-            return Some(index);
+        let equation = &equations[index];
+        if equation_has_all(alloc, clause, equation)? {
+            return Ok(Some(LeadingPlace::of(conclusion, index, equation)));
         }
     }
-    None
+    Ok(None)
 }

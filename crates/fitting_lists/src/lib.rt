@@ -9,23 +9,27 @@
 //! only list, as references into the terms, or that there is none (`specs/Answering.antt`): it is
 //! used again from try to try, so that tries allocate nothing. [`copies`] copies what it found, and
 //! [`fitting_terms`] is one try with the copies. [`may_become`] goes by symbols alone: where they
-//! differ, there is no list. That each question has at most one answer stands in
-//! `proofs/Determined.antt`, and that sorted clauses meet the premise of these calls in
-//! `proofs/Variables.antt`.
+//! differ, there is no list. A [`Spine`] keeps what stands along a term's last arguments, by which
+//! most of what cannot fit is told without a walk (`specs/Spines.antt`). That each question has at
+//! most one answer stands in `proofs/Determined.antt`, and that sorted clauses meet the premise of
+//! these calls in `proofs/Variables.antt`.
 #![tactic(auto)]
 
 mod becoming;
 mod bindings;
 mod laws;
 mod leading_equations;
+mod marking;
 mod matcher;
 mod matching;
 mod occurring;
+mod spines;
 mod term_lists;
 
 pub use becoming::may_become;
-pub use laws::worked_examples;
+pub use laws::{spines_may_become, worked_examples};
 pub use leading_equations::{LeadingPlace, leading};
 pub use matcher::Matcher;
 pub use occurring::has_all_variables;
+pub use spines::{Spine, SpineEnd};
 pub use term_lists::{copies, fitting_terms};

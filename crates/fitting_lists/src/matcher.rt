@@ -4,7 +4,7 @@ ghost use Rattle.fitting_lists.specs.Answering.{AreVariables, IsOnlyAnswer};
 ghost use Rattle.fitting_lists.specs.Fitting.{both_sides};
 ghost use Rattle.fitting_lists.specs.Found.{found_in, answer_of};
 
-use crate::becoming::roots_agree;
+use crate::becoming::{heads_agree, roots_agree};
 use crate::bindings::Bindings;
 use crate::matching::bind;
 use spec_core::Equation;
@@ -74,7 +74,7 @@ impl<'a> Matcher<'a> {
           terms = term.now ∷ [];
         }) (answer_of found self.new)) }
     {
-        if !roots_agree(side, term) {
+        if !heads_agree(side, term) {
             return Ok(false);
         }
         self.bindings.reset(count)?;

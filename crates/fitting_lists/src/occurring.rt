@@ -1,12 +1,12 @@
-ghost use Rattle.std.specs.Prelude.{◌≡◌, ◌↔◌, [], ◌∷◌, IsTrue};
-ghost use Rattle.term_core.specs.Tree.{trees_of};
-ghost use Rattle.term_core.specs.Variables.{OccursAny};
+ghost use Rattle.std.specs.Prelude.{◌≡◌, [], ◌∷◌, IfOk};
 ghost use Rattle.fitting_lists.specs.Fitting.{both_sides, has_all};
 
+use crate::marking::{are_marked, mark, no_marks};
 use clause_core::Clause;
 use path_order::occurs;
 use spec_core::Equation;
-use term_core::Term;
+use std::alloc::Global;
+use term_core::{OutOfMemory, Term};
 
 /// Whether all variables of the clause are in the term. The term is walked once for each variable,
 /// as far as its first occurrence.
@@ -21,21 +21,20 @@ pub fn has_all_variables(clause: &Clause, term: &Term) -> bool
     true
 }
 
-/// Whether all variables of the clause are in the equation.
-pub(crate) fn equation_has_all(clause: &Clause, equation: &Equation) -> bool
-    ensures { result ≡ has_all clause.now (both_sides equation.now) }
+/// Whether all variables of the clause are in the equation. Each side is walked once, the right one
+/// only where the left one lacks some of them.
+pub(crate) fn equation_has_all(
+    alloc: Global,
+    clause: &Clause,
+    equation: &Equation,
+) -> Result<bool, OutOfMemory>
+    ensures { IfOk result (λ has. has ≡ has_all clause.now (both_sides equation.now)) }
 {
-    for number in 0..clause.ctx.len() {
-        if !occurs_in_equation(number, equation) {
-            return false;
-        }
+    let mut marks = no_marks(alloc, clause.ctx.len())?;
+    mark(&equation.left, &mut marks);
+    if are_marked(&marks) {
+        return Ok(true);
     }
-    true
-}
-
-/// Whether the variable of this number is in the equation.
-fn occurs_in_equation(number: usize, equation: &Equation) -> bool
-    ensures { IsTrue result ↔ OccursAny number (trees_of (both_sides equation.now)) }
-{
-    occurs(number, &equation.left) || occurs(number, &equation.right)
+    mark(&equation.right, &mut marks);
+    Ok(are_marked(&marks))
 }

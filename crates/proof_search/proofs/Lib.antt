@@ -3,6 +3,7 @@ mod Tests
 mod Walking
 mod SpotsThere
 mod TakenSteps
+mod UnfitSpines
 -- Rules by their functions, and goals that are lemmas.
 mod RuleTable
 mod RuleNumbers

@@ -6,13 +6,18 @@ use Rattle.fitting_lists.specs.declared.leading_equations.LeadingPlace.{LeadingP
 use Rattle.fitting_lists.specs.Fitting.{leading}
 use Rattle.fitting_lists.specs.Leading.{IsPlace}
 use Rattle.inference_rules.specs.declared.nodes.Node.{Node}
+use Rattle.proof_search.specs.SideSpines.{side_spines}
 use Rattle.proof_search.specs.declared.leading_places.LeadingEquation.{LeadingEquation}
+
+-- the equation leads, and these are its spines
+pub record Leads (c : Clause) (e : LeadingEquation) : Type 0 where
+  pub leads :
+      leading c ≡ record { conclusion = e.conclusion; equation = e.equation.now } ∷ []
+  pub spines : e.spines ≡ side_spines e.equation.now
 
 -- the leading equation of the clause, or that it has none
 abbrev pub IsLeading : Clause → Option LeadingEquation → Type 0
-IsLeading c found =
-    MatchOption found (leading c ≡ [])
-    (λ e. leading c ≡ record { conclusion = e.conclusion; equation = e.equation.now } ∷ [])
+IsLeading c found = MatchOption found (leading c ≡ []) (Leads c)
 
 -- those of the nodes' clauses, in their order
 abbrev pub ArePlaces : List Node → List (Option LeadingPlace) → Type 0

@@ -5,6 +5,7 @@ pub mod Guided
 pub mod FallingSides
 pub mod Settings
 pub mod Leading
+pub mod SideSpines
 pub mod Building
 pub mod Taking
 pub mod Numbers

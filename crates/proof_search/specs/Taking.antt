@@ -20,6 +20,7 @@ use Rattle.proof_search.specs.declared.at.Asked.TheVariants.{Nothing, ReferenceN
 use Rattle.proof_search.specs.declared.at.At.{At}
 use Rattle.proof_search.specs.Building.{IsWhole}
 use Rattle.proof_search.specs.Settings.{IsSetting}
+use Rattle.proof_search.specs.SideSpines.{listed_spines}
 
 abbrev pub asks_of : Asked → Asks
 asks_of Nothing = nothing
@@ -38,6 +39,8 @@ pub record IsAt (at : At) : Type 0 where
   pub here : slice_get (clauses_of at.nodes.now) at.number ≡ Some at.here.now
   pub node : IsNode at.setting.now.spec.now.sig at.here.now
   pub spots : at.spots ≡ spots at.here.now
+  pub premise_spines : at.premise_spines.items ≡ listed_spines at.here.now.premises
+  pub conclusion_spines : at.conclusion_spines.items ≡ listed_spines at.here.now.conclusions
 
 -- the place of the spot of this index, and the term there
 abbrev pub place_of : At → ℕ → Place

@@ -3,15 +3,18 @@ ghost use Rattle.std.specs.List.{AllByRecursion};
 ghost use Rattle.clause_core.specs.declared.answers.Child.{Child as ChildOf};
 ghost use Rattle.clause_core.specs.declared.answers.Reference.{Reference as ReferenceOf};
 ghost use Rattle.clause_core.specs.declared.clauses.Relation.TheVariants.{Less};
+ghost use Rattle.clause_core.specs.NumberedEquations.{equations};
 ghost use Rattle.inference_rules.specs.Answers.{clauses_of};
 ghost use Rattle.inference_rules.specs.Nodes.{AreNodes};
 ghost use Rattle.routine_proof.specs.Candidates.{Meets};
 ghost use Rattle.proof_search.specs.Building.{IsWhole};
 ghost use Rattle.proof_search.specs.Settings.{IsSetting};
+ghost use Rattle.proof_search.specs.SideSpines.{listed_spines};
 ghost use Rattle.proof_search.specs.Taking.{IsAt, IsTaken, SaysAt, asks_of, IsNotNeither};
 
 use crate::building::Building;
 use crate::setting::Setting;
+use crate::side_spines::{SideSpines, listed};
 use clause_core::{Child, Children, Clause, Reference, Relation, Step, one_answer};
 use clause_places::{Spots, places_are_there};
 use inference_rules::{Node, StepError, children};
@@ -30,6 +33,9 @@ pub(crate) struct At<'a> {
     pub(crate) number: u32,
     pub(crate) here: &'a Clause,
     pub(crate) spots: Spots<'a>,
+    /// The spines of the sides of all premises, and of all conclusions.
+    pub(crate) premise_spines: Vec<SideSpines>,
+    pub(crate) conclusion_spines: Vec<SideSpines>,
 }
 
 impl<'a> At<'a> {
@@ -52,6 +58,10 @@ impl<'a> At<'a> {
         let nodes = building.nodes.as_slice();
         let here = &nodes[number as usize].clause;
         let spots = Spots::of(alloc, here)?;
+        let premises = here.equations(false);
+        let premise_spines = listed(alloc, premises)?;
+        let conclusions = here.equations(true);
+        let conclusion_spines = listed(alloc, conclusions)?;
         Ok(At {
             setting,
             nodes,
@@ -59,7 +69,21 @@ impl<'a> At<'a> {
             number,
             here,
             spots,
+            premise_spines,
+            conclusion_spines,
         })
+    }
+
+    /// The spines of the conclusions where true, of the premises where false.
+    pub(crate) fn spines(&self, conclusion: bool) -> &[SideSpines]
+        requires { IsAt self.now }
+        ensures { result.now ≡ listed_spines (equations conclusion self.now.here.now) }
+    {
+        if conclusion {
+            self.conclusion_spines.as_slice()
+        } else {
+            self.premise_spines.as_slice()
+        }
     }
 }
 

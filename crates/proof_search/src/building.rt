@@ -40,7 +40,7 @@ impl Building {
     {
         let sides = falling_sides(order, &clause);
         let mut leadings = Vec::new(alloc);
-        leadings.push(leading(&clause))?;
+        leadings.push(leading(alloc, &clause)?)?;
         let mut nodes = Vec::new(alloc);
         nodes.push(Node { clause })?;
         let mut parents = Vec::new(alloc);
@@ -66,7 +66,7 @@ impl Building {
         self.steps.push(step)?;
         self.links.push(links)?;
         for clause in clauses {
-            self.leadings.push(leading(&clause))?;
+            self.leadings.push(leading(alloc, &clause)?)?;
             self.nodes.push(Node { clause })?;
             self.parents.push(parent)?;
         }

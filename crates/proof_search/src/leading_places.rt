@@ -1,15 +1,17 @@
 ghost use Rattle.proof_search.specs.Leading.{IsLeading};
 ghost use Rattle.fitting_lists.specs.Leading.{IsPlace};
 
+use crate::side_spines::SideSpines;
 use clause_core::Clause;
 use fitting_lists::LeadingPlace;
 use spec_core::Equation;
 
-/// An equation of a clause, and whether it is a conclusion.
+/// An equation of a clause, with its spines, and whether it is a conclusion.
 #[derive(Clone, Copy)]
 pub(crate) struct LeadingEquation<'a> {
     pub(crate) conclusion: bool,
     pub(crate) equation: &'a Equation,
+    pub(crate) spines: SideSpines,
 }
 
 /// The leading equation, whose place is known.
@@ -27,6 +29,10 @@ pub(crate) fn leading_at(
             Some(LeadingEquation {
                 conclusion: place.conclusion,
                 equation: &equations[place.index],
+                spines: SideSpines {
+                    left: place.left,
+                    right: place.right,
+                },
             })
         }
     }

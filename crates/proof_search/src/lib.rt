@@ -30,6 +30,7 @@ mod referring;
 mod rewriting;
 mod ruling;
 mod setting;
+mod side_spines;
 mod starting;
 
 pub use answers::Guided;

@@ -7,11 +7,13 @@ ghost use Rattle.proof_search.specs.Chosen.{ancestors_at, subsumptions_by, lemma
 ghost use Rattle.proof_search.specs.Leading.{IsLeading};
 ghost use Rattle.proof_search.specs.Taking.{IsAt, IsFound, asks_of};
 ghost use Rattle.proof_search.specs.Referring.{target_of, closing_step, closing_asks, rewriting_step, closings, closing, closing_pair};
+ghost use Rattle.proof_search.specs.SideSpines.{spines_of, side_spines};
 
 use crate::at::{Asked, At, taken};
 use crate::leading_places::{LeadingEquation, leading_at};
+use crate::side_spines::SideSpines;
 use clause_core::{Clause, Place, Step, tidying_laws};
-use fitting_lists::{Matcher, copies};
+use fitting_lists::{Matcher, copies, spines_may_become};
 use path_order::TermOrder;
 use routine_proof::Move;
 use spec_core::Equation;
@@ -71,6 +73,7 @@ struct Closing<'a> {
     referral: &'a Referral<'a>,
     clause: &'a Clause,
     equation: &'a Equation,
+    spines: SideSpines,
 }
 
 /// The first step by an ancestor that closes the node.
@@ -172,10 +175,15 @@ fn first_closing<'a, O: TermOrder>(
         referral,
         clause,
         equation: first.equation,
+        spines: first.spines,
     };
     let here = at.here;
-    for equation in here.equations(first.conclusion) {
-        let found = closing_either_way(alloc, order, at, matcher, &by, equation)?;
+    let equations = here.equations(first.conclusion);
+    let spines = at.spines(first.conclusion);
+    for index in 0..equations.len() {
+        let equation = &equations[index];
+        let own = spines[index];
+        let found = closing_either_way(alloc, order, at, matcher, &by, equation, own)?;
         if found.is_some() {
             return Ok(found);
         }
@@ -192,8 +200,11 @@ fn closing_either_way<'a, O: TermOrder>(
     matcher: &mut Matcher<'a>,
     by: &Closing,
     equation: &'a Equation,
+    own: SideSpines,
 ) -> Result<Option<Move>, OutOfMemory>
     requires at { IsAt at.now }
+    requires spines { by.now.spines ≡ side_spines by.now.equation.now }
+    requires own { own ≡ side_spines equation.now }
     requires variables { let clause = by.now.clause.now in
         AreVariables (length clause.ctx) (both_sides by.now.equation.now) }
     ensures { let clause = by.now.clause.now in
@@ -210,6 +221,7 @@ fn closing_either_way<'a, O: TermOrder>(
         by,
         &equation.left,
         &equation.right,
+        own,
     )?;
     if found.is_some() {
         return Ok(found);
@@ -222,10 +234,12 @@ fn closing_either_way<'a, O: TermOrder>(
         by,
         &equation.right,
         &equation.left,
+        own.swapped(),
     )
 }
 
-/// The step by which the sides of the leading equation become these.
+/// The step by which the sides of the leading equation become these, whose spines are known. Where
+/// they don't fit, nothing is walked.
 fn closing_by<'a, O: TermOrder>(
     alloc: Global,
     order: &O,
@@ -234,8 +248,11 @@ fn closing_by<'a, O: TermOrder>(
     by: &Closing,
     left: &'a Term,
     right: &'a Term,
+    own: SideSpines,
 ) -> Result<Option<Move>, OutOfMemory>
     requires at { IsAt at.now }
+    requires spines { by.now.spines ≡ side_spines by.now.equation.now }
+    requires own { own ≡ spines_of left.now right.now }
     requires variables { let clause = by.now.clause.now in
         AreVariables (length clause.ctx) (both_sides by.now.equation.now) }
     ensures { let clause = by.now.clause.now in
@@ -243,6 +260,10 @@ fn closing_by<'a, O: TermOrder>(
         IfOk result (IsFound (O.above order.now) at.now
         (closing target clause by.now.equation.now left.now right.now ∷ [])) }
 {
+    spines_may_become();
+    if !by.spines.may_become(own) {
+        return Ok(None);
+    }
     let count = by.clause.ctx.len();
     if !matcher.fitting(count, by.equation, left, right)? {
         return Ok(None);

@@ -108,7 +108,7 @@ fn lemma_of<O: TermOrder>(alloc: Global, order: &O, goal: &Goal) -> Result<Lemma
 {
     let name = goal.name.copy(alloc)?;
     let clause = of_goal(alloc, goal)?;
-    let leading = leading(&clause);
+    let leading = leading(alloc, &clause)?;
     let sides = falling_sides(order, &clause);
     Ok(LemmaGoal {
         name,

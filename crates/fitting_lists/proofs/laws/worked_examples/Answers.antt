@@ -1,6 +1,6 @@
 -- Each example, computed.
 use Rattle.std.proofs.Common.{refl}
-use Rattle.fitting_lists.proofs.SampleLists.{fitting_list, no_fitting_list, rewriting_list, other_symbol, other_arguments}
+use Rattle.fitting_lists.proofs.SampleLists.{fitting_list, no_fitting_list, rewriting_list, other_symbol, other_arguments, spine_fits, shorter_spine}
 use Rattle.fitting_lists.proofs.laws.worked_examples.Goals as goal
 
 pub returns : goal.returns
@@ -22,4 +22,9 @@ returns c = record {
   rewriting_list = rewriting_list;
   other_symbol = other_symbol;
   other_arguments = other_arguments;
+  symbol_ends = refl;
+  variable_ends = refl;
+  no_arguments = refl;
+  spine_fits = spine_fits;
+  shorter_spine = shorter_spine;
 }

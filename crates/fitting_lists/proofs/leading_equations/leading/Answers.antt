@@ -1,40 +1,15 @@
--- The first conclusion that is kept leads, or else the first premise.
-use Rattle.std.proofs.Common.{List, ap, sym, take, ◌∙◌}
-use Rattle.std.specs.Prelude.{filter, slice_get}
-use Rattle.spec_core.specs.declared.records.Equation.{Equation}
-use Rattle.clause_core.specs.declared.clauses.Clause.{Clause}
-use Rattle.fitting_lists.specs.Fitting.{both_sides, has_all}
-use Rattle.fitting_lists.proofs.LeadingEquations.{conclusion_leads, premise_leads, none_leads}
+-- The first conclusion that has all variables leads, or else the first such premise.
+use Rattle.std.proofs.Common.{sym, ◌∙◌}
+use Rattle.fitting_lists.proofs.LeadingEquations.{conclusion_place, premise_place}
 use Rattle.fitting_lists.proofs.leading_equations.leading.Goals as goal
 
--- the equations with all variables of the clause
-abbrev kept : Clause → List Equation → List Equation
-kept c es = filter (λ (e : Equation). has_all c (both_sides e)) es
+pub returns-then-is_some : goal.returns-then-is_some
+returns-then-is_some c =
+    conclusion_place c.args.clause.now c.in_ok-conclusion.conclusion
+    (sym c.is_some.ensures ∙ c.if-is_some.true) c.in_ok-conclusion.ensures
 
-pub returns-in-Some : goal.returns-in-Some
-returns-in-Some c =
-    let here = c.args.clause.now in
-    let found = c.in-Some.ensures in record {
-      equation = found.0;
-      there = ap (λ es. slice_get es c.in-Some.index) (sym c.as_slice.ensures) ∙ found.1;
-      leads =
-          conclusion_leads here found.0 (ap (λ es. take 1 (kept here es)) (sym c.as_slice.ensures) ∙ found.2);
-    }
-
-pub returns-in-Some-first_with_all : goal.returns-in-Some-first_with_all
-returns-in-Some-first_with_all c =
-    let here = c.args.clause.now in
-    let found = c.in-Some-first_with_all.ensures in record {
-      equation = found.0;
-      there =
-          ap (λ es. slice_get es c.in-Some-first_with_all.index) (sym c.as_slice-2.ensures) ∙ found.1;
-      leads =
-          premise_leads here found.0 (ap (λ es. kept here es) (sym c.as_slice.ensures) ∙ c.in_default.ensures)
-          (ap (λ es. take 1 (kept here es)) (sym c.as_slice-2.ensures) ∙ found.2);
-    }
-
-pub returns-in-None : goal.returns-in-None
-returns-in-None c =
-    let here = c.args.clause.now in
-    none_leads here (ap (λ es. kept here es) (sym c.as_slice.ensures) ∙ c.in_default.ensures)
-    (ap (λ es. kept here es) (sym c.as_slice-2.ensures) ∙ c.in-None.ensures)
+pub returns : goal.returns
+returns c =
+    premise_place c.args.clause.now c.in_ok-conclusion.conclusion c.in_ok-premise.premise
+    (sym c.is_some.ensures ∙ c.if-is_some.false) c.in_ok-conclusion.ensures
+    c.in_ok-premise.ensures

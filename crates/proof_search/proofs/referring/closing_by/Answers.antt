@@ -11,6 +11,8 @@ use Rattle.term_core.proofs.Items.{if_ok_map}
 use Rattle.proof_search.specs.Referring.{target_of, closing_step, closing_asks, closing}
 use Rattle.proof_search.specs.Taking.{SaysAt, IsTaken, IsFound, asks_of}
 use Rattle.proof_search.proofs.TakenSteps.{none_answers, answered_found}
+use Rattle.proof_search.proofs.Tests.{not_is}
+use Rattle.proof_search.proofs.UnfitSpines.{no_list}
 use Rattle.proof_search.proofs.referring.closing_by.Goals as goal
 
 -- do these terms make the patterns those?
@@ -25,6 +27,20 @@ only_answer :
 only_answer count its patterns terms o found n is only =
     subst (λ (x : ℕ × Option (List Tree)). IsOnlyAnswer (asked x.0 patterns terms) x.1)
     (λ i. (n i, is i)) only
+
+pub returns-then-not-may_become : goal.returns-then-not-may_become
+returns-then-not-may_become g c =
+    let by = c.args.by.now in
+    let target = target_of by.referral.now in
+    let e = by.equation.now in
+    let left = c.args.left.now in
+    let right = c.args.right.now in
+    none_answers (SaysAt (g.O.TermOrder.above c.args.order.now) c.args.at.now)
+    (asked (length by.clause.now.ctx) (both_sides e) (left ∷ right ∷ [])) (closing_step target)
+    (closing_asks target)
+    (no_list c.spines_may_become.ensures (length by.clause.now.ctx) e left right by.spines
+    c.args.own c.requires.spines c.requires.own
+    (not_is c.may_become.result _ c.if-not-may_become.true c.may_become.ensures))
 
 pub returns-then-not-branch : goal.returns-then-not-branch
 returns-then-not-branch g c =

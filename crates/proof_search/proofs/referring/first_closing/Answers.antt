@@ -29,66 +29,66 @@ closing_either_way-requires-clause-variables g c =
     (record {
       conclusion = c.in-Some.first.conclusion;
       equation = c.in-Some.first.equation.now;
-    }) (subst (λ o. IsLeading c.args.clause.now o) c.in-Some.is c.requires.leading)
+    }) (subst (λ o. IsLeading c.args.clause.now o) c.in-Some.is c.requires.leading).leads
 
 pub returns-then-is_some : goal.returns-then-is_some
 returns-then-is_some g c =
     let says = SaysAt (g.O.TermOrder.above c.args.order.now) c.args.at.now in
-    let k = c.loop-equation.equation-index in
+    let k = c.loop-index.index in
     let found = c.in_ok-found.found in
     let leads : Located = record {
       conclusion = c.in-Some.first.conclusion;
       equation = c.in-Some.first.equation.now;
     } in
-    let given = subst (λ o. IsLeading c.args.clause.now o) c.in-Some.is c.requires.leading in
+    let given = (subst (λ o. IsLeading c.args.clause.now o) c.in-Some.is c.requires.leading).leads in
     let same_steps = ap (λ (es : List Equation). each es
     (closing_pair (target_of c.args.referral.now) c.args.clause.now
-    c.in-Some.first.equation.now)) c.equations-equation-items.ensures in
+    c.in-Some.first.equation.now)) c.equations-equations.ensures in
     let there : is_some found ≡ true = cc (c.is_some.ensures, c.if-is_some.true) in
-    let first = found_at (Gives says) c.equations-equation-items.result.now
+    let first = found_at (Gives says) c.equations-equations.result.now
     (closing_pair (target_of c.args.referral.now) c.args.clause.now
-    c.in-Some.first.equation.now) k c.equation-item.result found
-    (slice_get_read c.equations-equation-items.result.now
-    (length c.equations-equation-items.result.now) k c.equation-item.result refl
-    c.loop-equation-test.true c.equation-item.is) c.loop-equation.invariant there
+    c.in-Some.first.equation.now) k c.index-equations-index.result found
+    (slice_get_read c.equations-equations.result.now
+    (length c.equations-equations.result.now) k c.index-equations-index.result refl
+    c.loop-index-test.true c.index-equations-index.is) c.loop-index.invariant there
     c.in_ok-found.ensures in
     subst (λ (cs : List Candidate). IsFirst (Gives says) cs found)
     (same_steps ∙ sym (by_equations c.args.at.now.here.now c.args.clause.now
     (target_of c.args.referral.now) leads given)) first
 
-pub loop-equation-preserved : goal.loop-equation-preserved
-loop-equation-preserved g c =
+pub loop-index-preserved : goal.loop-index-preserved
+loop-index-preserved g c =
     let says = SaysAt (g.O.TermOrder.above c.args.order.now) c.args.at.now in
-    let k = c.loop-equation.equation-index in
+    let k = c.loop-index.index in
     let found = c.in_ok-found.found in
     let leads : Located = record {
       conclusion = c.in-Some.first.conclusion;
       equation = c.in-Some.first.equation.now;
     } in
     let there : is_some found ≡ false = cc (c.is_some.ensures, c.if-is_some.false) in
-    passed_at (Gives says) c.equations-equation-items.result.now
+    passed_at (Gives says) c.equations-equations.result.now
     (closing_pair (target_of c.args.referral.now) c.args.clause.now
-    c.in-Some.first.equation.now) k c.equation-item.result found
-    (slice_get_read c.equations-equation-items.result.now
-    (length c.equations-equation-items.result.now) k c.equation-item.result refl
-    c.loop-equation-test.true c.equation-item.is) c.loop-equation.invariant there
+    c.in-Some.first.equation.now) k c.index-equations-index.result found
+    (slice_get_read c.equations-equations.result.now
+    (length c.equations-equations.result.now) k c.index-equations-index.result refl
+    c.loop-index-test.true c.index-equations-index.is) c.loop-index.invariant there
     c.in_ok-found.ensures
 
 pub returns : goal.returns
 returns g c =
     let says = SaysAt (g.O.TermOrder.above c.args.order.now) c.args.at.now in
-    let k = c.loop-equation.equation-index in
+    let k = c.loop-index.index in
     let leads : Located = record {
       conclusion = c.in-Some.first.conclusion;
       equation = c.in-Some.first.equation.now;
     } in
-    let given = subst (λ o. IsLeading c.args.clause.now o) c.in-Some.is c.requires.leading in
+    let given = (subst (λ o. IsLeading c.args.clause.now o) c.in-Some.is c.requires.leading).leads in
     let same_steps = ap (λ (es : List Equation). each es
     (closing_pair (target_of c.args.referral.now) c.args.clause.now
-    c.in-Some.first.equation.now)) c.equations-equation-items.ensures in
-    let all = none_found (Gives says) c.equations-equation-items.result.now
+    c.in-Some.first.equation.now)) c.equations-equations.ensures in
+    let all = none_found (Gives says) c.equations-equations.result.now
     (closing_pair (target_of c.args.referral.now) c.args.clause.now
-    c.in-Some.first.equation.now) k c.loop-equation-test.false c.loop-equation.invariant in
+    c.in-Some.first.equation.now) k c.loop-index-test.false c.loop-index.invariant in
     subst (λ (cs : List Candidate). NoneIs (Gives says) cs)
     (same_steps ∙ sym (by_equations c.args.at.now.here.now c.args.clause.now
     (target_of c.args.referral.now) leads given)) all

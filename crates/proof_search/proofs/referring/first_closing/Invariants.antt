@@ -4,7 +4,7 @@ use Rattle.proof_search.specs.Taking.{SaysAt}
 use Rattle.proof_search.proofs.Walking.{Passed}
 use Rattle.proof_search.proofs.referring.first_closing.Given as goal
 
-abbrev pub invariant-loop-equation : goal.invariant-loop-equation
-invariant-loop-equation g l =
-    Passed (Gives (SaysAt (g.O.TermOrder.above l.order) l.at)) l.equation-items
-    (closing_pair (target_of l.fn.referral) l.fn.clause l.by.equation.now) l.equation-index
+abbrev pub invariant-loop-index : goal.invariant-loop-index
+invariant-loop-index g l =
+    Passed (Gives (SaysAt (g.O.TermOrder.above l.order) l.at)) l.equations
+    (closing_pair (target_of l.fn.referral) l.fn.clause l.by.equation.now) l.index

@@ -1,6 +1,7 @@
-use Rattle.std.proofs.Common.{◌<◌, get_or, length, sym, subst}
+use Rattle.std.proofs.Common.{◌<◌, get_or, length, ap, sym, ◌∙◌, subst}
 use Rattle.inference_rules.specs.Answers.{clauses_of}
 use Rattle.inference_rules.specs.Nodes.{AreNodes}
+use Rattle.proof_search.specs.SideSpines.{listed_spines}
 use Rattle.proof_search.proofs.ListedNodes.{clause_read}
 use Rattle.proof_search.proofs.at.At.new.Goals as goal
 
@@ -35,4 +36,8 @@ returns-clause-is c =
       node = nodes c.args.number (get_or ns c.args.number c.index-nodes-number.result).clause
           listed;
       spots = c.in_ok-spots.ensures;
+      premise_spines =
+          c.in_ok-premise_spines.ensures ∙ ap listed_spines c.equations-premises.ensures;
+      conclusion_spines =
+          c.in_ok-conclusion_spines.ensures ∙ ap listed_spines c.equations-conclusions.ensures;
     }

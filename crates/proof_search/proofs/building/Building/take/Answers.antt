@@ -28,8 +28,8 @@ loop-clause-preserved c =
       steps = adds.steps;
       leadings = λ kept.
           places_more now.nodes.items c.push-in-loop-clause-2.new.self.items now.leadings.items
-          c.push-in-loop-clause.new.self.items node c.leading.result (adds.leadings kept)
-          c.leading.ensures c.in_ok-push-4.ensures.items c.in_ok-push-3.ensures.items;
+          c.push-in-loop-clause.new.self.items node c.in_ok-leading.field-0 (adds.leadings kept)
+          c.in_ok-leading.ensures c.in_ok-push-4.ensures.items c.in_ok-push-3.ensures.items;
       sides = adds.sides;
     }
 

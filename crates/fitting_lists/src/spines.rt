@@ -1,0 +1,107 @@
+ghost use Rattle.std.specs.Prelude.{◌≡◌, ◌↔◌, ◌<◌, IsTrue, IfOk, MatchResult};
+ghost use Rattle.term_core.specs.Tree.{app, trees_of};
+ghost use Rattle.term_core.specs.Measure.{list_weight};
+ghost use Rattle.fitting_lists.specs.Spines.{one_more, last_run, spine_of, EndsWithin, MayBecome};
+
+use term_core::{Node, SymId, Term};
+
+/// What ends a spine: a variable, that the last symbol has no arguments, or another symbol.
+#[derive(Clone, Copy, Debug, PartialEq, Eq)]
+pub enum SpineEnd {
+    Variable,
+    NoArguments,
+    Symbol(SymId),
+}
+
+/// The spine of a term: the symbol at its root, how often it stands from there on along last
+/// arguments, and what ends this. So succ(succ(plus(x, y))) has succ, 2 and plus. A variable has the
+/// length 0. Where spines don't fit, a pattern doesn't become a term, which is known without a walk.
+#[derive(Clone, Copy, Debug)]
+pub struct Spine {
+    pub root: Option<SymId>,
+    /// It is never above the greatest u32.
+    pub length: u32,
+    pub end: SpineEnd,
+}
+
+impl Spine {
+    pub fn of(term: &Term) -> Spine
+        ensures { result ≡ spine_of term.now }
+    {
+        match &term.node {
+            Node::Var(_) => Spine {
+                root: None,
+                length: 0,
+                end: SpineEnd::Variable,
+            },
+            Node::App(symbol, arguments) => spine_below(*symbol, arguments.as_slice()),
+        }
+    }
+
+    /// Whether a pattern with this spine may become a term with the other one.
+    pub fn may_become(self, other: Spine) -> bool
+        ensures { IsTrue result ↔ MayBecome self other }
+    {
+        if self.length == 0 {
+            return true;
+        }
+        self.root == other.root && self.ends_within(other)
+    }
+
+    /// The same of two spines with one symbol.
+    fn ends_within(self, other: Spine) -> bool
+        ensures { IsTrue result ↔ EndsWithin self other }
+    {
+        match self.end {
+            SpineEnd::Variable => self.length <= other.length,
+            _ => self.length == other.length && self.end == other.end,
+        }
+    }
+}
+
+/// The spine of the term of this symbol and these arguments.
+fn spine_below(symbol: SymId, arguments: &[Term]) -> Spine
+    ensures { result ≡ spine_of (app symbol.0 (trees_of arguments.now)) }
+{
+    let mut length: u32 = 1;
+    let mut rest = arguments;
+    'along: loop {
+        match next_along(symbol, rest) {
+            Ok(next) => {
+                length = length.saturating_add(1);
+                rest = next;
+            }
+            Err(end) => {
+                return Spine {
+                    root: Some(symbol),
+                    length,
+                    end,
+                };
+            }
+        }
+    }
+}
+
+/// The arguments of the last of the terms, where it begins with the symbol, or what ends the spine.
+fn next_along(symbol: SymId, terms: &[Term]) -> Result<&[Term], SpineEnd>
+    ensures run { let here = last_run symbol.0 (trees_of terms.now) in
+        MatchResult result
+        (λ next. here ≡ one_more (last_run symbol.0 (trees_of next.now)))
+        (λ end. here ≡ (0, end)) }
+    ensures falls { IfOk result (λ next. list_weight next.now < list_weight terms.now) }
+{
+    if terms.is_empty() {
+        return Err(SpineEnd::NoArguments);
+    }
+    let last = &terms[terms.len() - 1];
+    match &last.node {
+        Node::Var(_) => Err(SpineEnd::Variable),
+        Node::App(other, arguments) => {
+            if *other == symbol {
+                Ok(arguments.as_slice())
+            } else {
+                Err(SpineEnd::Symbol(*other))
+            }
+        }
+    }
+}
