@@ -2,9 +2,10 @@
 use Rattle.std.proofs.Common.{◌≡◌, ℕ, zero, suc, Some, ◌+◌, ◌-◌, ◌^◌, ◌<◌, ◌≤◌, ◌==◌, List, [], ◌∷◌, Bool, true, false, cond, inl, inr, refl, ap, sym, ◌∙◌, min, length, get_or, arith}
 use Rattle.std.specs.Prelude.{◌⊎◌}
 use Rattle.term_core.specs.Tree.{Tree, Trees, var, app, none, some, trees_of, instance, instances}
+use Rattle.fitting_lists.specs.declared.spines.Spine.{Spine}
 use Rattle.fitting_lists.specs.declared.spines.SpineEnd.{SpineEnd}
 use Rattle.fitting_lists.specs.declared.spines.SpineEnd.TheVariants.{Variable, Symbol}
-use Rattle.fitting_lists.specs.Spines.{numbered, Run, one_more, run, last_run, spine_from, spine_of, MayBecome}
+use Rattle.fitting_lists.specs.Spines.{numbered, Run, one_more, run, last_run, spine_from, spine_of, EndsWithin, MayBecome, IsAlong}
 
 -- what is so of the runs of a pattern and of the term that it becomes
 abbrev Within : Run → Run → Type 0
@@ -44,6 +45,15 @@ spines_fit list (var n) = inl refl
 spines_fit list (app f ts) =
     spines_at f (one_more (last_run f ts)) (one_more (last_run f (instances list ts)))
     (more_within (last_run f ts) (last_run f (instances list ts)) (last_within list f ts))
+
+ends_along : (p t : Spine) → EndsWithin p t → p.length ≤ t.length
+ends_along p t (inl h) = h.1
+ends_along p t (inr h) = omega (arith, h.0)
+
+-- such spines are along the term
+pub fit_along : (p : Spine) (t : Tree) → MayBecome p (spine_of t) → IsAlong p t
+fit_along p t (inl empty) = inl empty
+fit_along p t (inr h) = inr (h.0, ends_along p (spine_of t) h.1)
 
 -- the run of the last of some terms
 pub last_is :

@@ -52,3 +52,9 @@ EndsWithin p t =
 -- a pattern with the first spine may become a term with the second one
 abbrev pub MayBecome : Spine → Spine → Type 0
 MayBecome p t = (p.length ≡ 0) ⊎ ((p.root ≡ t.root) × EndsWithin p t)
+
+-- the symbol at the root of a pattern with this spine stands at least as often along the last
+-- arguments of the term
+abbrev pub IsAlong : Spine → Tree → Type 0
+IsAlong p t =
+    (p.length ≡ 0) ⊎ ((p.root ≡ (spine_of t).root) × (p.length ≤ (spine_of t).length))

@@ -1,7 +1,7 @@
 ghost use Rattle.std.specs.Prelude.{◌≡◌, List};
 ghost use Rattle.term_core.specs.Tree.{Tree, instance};
 ghost use Rattle.fitting_lists.specs.Examples.{WorkedExamples};
-ghost use Rattle.fitting_lists.specs.Spines.{spine_of, MayBecome};
+ghost use Rattle.fitting_lists.specs.Spines.{spine_of, MayBecome, IsAlong};
 
 /// The definitions say of a few clauses what one works out by hand.
 pub fn worked_examples()
@@ -12,4 +12,10 @@ pub fn worked_examples()
 pub fn spines_may_become()
     ensures { (list : List Tree) (p t : Tree) →
         instance list p ≡ t → MayBecome (spine_of p) (spine_of t) }
+{}
+
+/// Where some list makes a pattern a term, the symbol at the pattern's root stands as often along
+/// the term.
+pub fn spines_are_along()
+    ensures { (list : List Tree) (p t : Tree) → instance list p ≡ t → IsAlong (spine_of p) t }
 {}

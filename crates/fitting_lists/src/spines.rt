@@ -1,7 +1,7 @@
-ghost use Rattle.std.specs.Prelude.{◌≡◌, ◌↔◌, ◌<◌, IsTrue, IfOk, MatchResult};
+ghost use Rattle.std.specs.Prelude.{◌≡◌, ◌↔◌, ◌<◌, ◌≤◌, IsTrue, IfOk, MatchResult};
 ghost use Rattle.term_core.specs.Tree.{app, trees_of};
 ghost use Rattle.term_core.specs.Measure.{list_weight};
-ghost use Rattle.fitting_lists.specs.Spines.{one_more, last_run, spine_of, EndsWithin, MayBecome};
+ghost use Rattle.fitting_lists.specs.Spines.{one_more, last_run, spine_of, EndsWithin, MayBecome, IsAlong};
 
 use term_core::{Node, SymId, Term};
 
@@ -48,6 +48,24 @@ impl Spine {
         self.root == other.root && self.ends_within(other)
     }
 
+    /// Whether the root's symbol stands at least as often from the term's root on along last
+    /// arguments. Where it doesn't, no pattern with this spine becomes the term. The walk is no
+    /// longer than the spine.
+    pub fn is_along(self, term: &Term) -> bool
+        ensures { IsTrue result ↔ IsAlong self term.now }
+    {
+        if self.length == 0 {
+            return true;
+        }
+        match &term.node {
+            Node::Var(_) => false,
+            Node::App(symbol, arguments) => {
+                self.root == Some(*symbol)
+                    && stands_along(*symbol, arguments.as_slice(), self.length - 1)
+            }
+        }
+    }
+
     /// The same of two spines with one symbol.
     fn ends_within(self, other: Spine) -> bool
         ensures { IsTrue result ↔ EndsWithin self other }
@@ -80,6 +98,24 @@ fn spine_below(symbol: SymId, arguments: &[Term]) -> Spine
             }
         }
     }
+}
+
+/// Whether the symbol stands at least so often along last arguments, from the last of the terms on.
+fn stands_along(symbol: SymId, terms: &[Term], times: u32) -> bool
+    ensures { IsTrue result ↔ (times ≤ (last_run symbol.0 (trees_of terms.now)).0) }
+{
+    let mut left = times;
+    let mut rest = terms;
+    'along: while left > 0 {
+        match next_along(symbol, rest) {
+            Ok(next) => {
+                left -= 1;
+                rest = next;
+            }
+            Err(_) => return false,
+        }
+    }
+    true
 }
 
 /// The arguments of the last of the terms, where it begins with the symbol, or what ends the spine.
