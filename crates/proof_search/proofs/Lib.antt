@@ -17,6 +17,7 @@ mod LeadingPlaces
 mod LessSteps
 mod NeverRises
 mod FallingSteps
+mod UnfitSides
 mod CoverSteps
 mod ListedEntries
 -- Blocks that are built: their nodes, and how they go on.

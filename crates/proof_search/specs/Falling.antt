@@ -1,6 +1,6 @@
 -- Steps that rewrite a term to one that is less: whether they do is told by the two terms. Where
 -- one side of the equation is above the other one, no step from the other one does.
-use Rattle.std.specs.Prelude.{◌≡◌, ℕ, ◌≤◌, List, [], ◌∷◌, Some, slice_get}
+use Rattle.std.specs.Prelude.{◌≡◌, ◌⊎◌, ℕ, ◌≤◌, true, List, [], ◌∷◌, Some, slice_get}
 use Rattle.std.specs.List.{AllByRecursion}
 use Rattle.term_core.specs.Tree.{Tree, instance, tree_size}
 use Rattle.term_core.specs.declared.ids.SortId.{SortId}
@@ -12,11 +12,15 @@ use Rattle.spec_core.specs.declared.records.Goal.{Goal}
 use Rattle.clause_core.specs.declared.clauses.Clause.{Clause}
 use Rattle.clause_core.specs.Clauses.{ClauseIsSorted}
 use Rattle.clause_core.specs.Tidied.{goal_clause}
+use Rattle.fitting_lists.specs.Spines.{IsAlong}
 use Rattle.inference_rules.specs.Answers.{clauses_of}
 use Rattle.proof_search.specs.declared.at.At.{At}
+use Rattle.proof_search.specs.declared.falling_sides.FallingSides.{FallingSides}
 use Rattle.proof_search.specs.declared.rewriting.Rewriting.{Rewriting}
+use Rattle.proof_search.specs.declared.side_spines.SideSpines.{SideSpines}
 use Rattle.proof_search.specs.Referring.{Target, node, goal, target_of}
 use Rattle.proof_search.specs.FallingSides.{AreFalling}
+use Rattle.proof_search.specs.SideSpines.{side_spines}
 
 -- a goal of this name has this clause
 pub record IsGoalClause (at : At) (name : List ℕ) (d : Clause) : Type 0 where
@@ -31,12 +35,20 @@ abbrev pub IsReferred : At → Target → Clause → Type 0
 IsReferred at (node number) d = slice_get (clauses_of at.nodes.now) number ≡ Some d
 IsReferred at (goal name) d = IsGoalClause at name d
 
--- the clause is the one that is referred to, with its only conclusion and the sides that may fall
+-- the clause is the one that is referred to, with its only conclusion, the sides that may fall, and
+-- the spines of both
 pub record CanRewrite (above : Tree → Tree → Type 0) (at : At) (r : Rewriting) : Type 0 where
   pub sorted : ClauseIsSorted at.setting.now.spec.now.sig r.clause.now
   pub referred : IsReferred at (target_of r.referral.now) r.clause.now
   pub alone : r.clause.now.conclusions ≡ r.equation.now ∷ []
   pub falling : AreFalling above r.clause.now r.sides
+  pub spines : r.spines ≡ side_spines r.equation.now
+
+-- a side that may fall is along the term, by the spines of the sides
+abbrev pub MayFit : FallingSides → SideSpines → Tree → Type 0
+MayFit sides spines t =
+    ((sides.left ≡ true) × IsAlong spines.left t)
+    ⊎ ((sides.right ≡ true) × IsAlong spines.right t)
 
 -- the term is above the other one, and both are small enough for the order's test
 pub record FallsTo (above : Tree → Tree → Type 0) (t u : Tree) : Type 0 where

@@ -1,4 +1,4 @@
-ghost use Rattle.std.specs.Prelude.{◌≡◌, IfOk};
+ghost use Rattle.std.specs.Prelude.{◌≡◌, ◌↔◌, IsTrue, IfOk};
 ghost use Rattle.term_core.specs.References.{terms_of};
 ghost use Rattle.clause_core.specs.Clauses.{ClauseIsSorted};
 ghost use Rattle.clause_core.specs.Places.{side as side_of};
@@ -7,15 +7,16 @@ ghost use Rattle.proof_search.specs.Chosen.{clause_of, lemma_uses_by};
 ghost use Rattle.proof_search.specs.FallingSides.{AreFalling, KeepsSides};
 ghost use Rattle.proof_search.specs.Taking.{IsAt, IsThere, IsTaken, IsFound, SaysAt, place_of, term_of};
 ghost use Rattle.proof_search.specs.Referring.{node, target_of, rewritings, falling_rewriting, falling_rewritings, rewriting_step as step_by};
-ghost use Rattle.proof_search.specs.Falling.{IsReferred, CanRewrite};
+ghost use Rattle.proof_search.specs.Falling.{IsReferred, CanRewrite, MayFit};
 
 use crate::at::{Asked, At, taken};
 use crate::falling_sides::{FallingSides, only_conclusion};
 use crate::laws::never_rises;
 use crate::referring::Referral;
+use crate::side_spines::SideSpines;
 use clause_core::{Clause, tidying_laws};
 use clause_places::places_are_there;
-use fitting_lists::{Matcher, copies};
+use fitting_lists::{Matcher, copies, spines_are_along};
 use path_order::TermOrder;
 use place_comparison::place_decides;
 use routine_proof::Move;
@@ -30,6 +31,17 @@ struct Rewriting<'a> {
     clause: &'a Clause,
     equation: &'a Equation,
     sides: FallingSides,
+    spines: SideSpines,
+}
+
+impl<'a> Rewriting<'a> {
+    /// Whether a side that may fall may become the term, as far as its spine tells.
+    fn may_fit(&self, term: &Term) -> bool
+        ensures { IsTrue result ↔ MayFit self.now.sides self.now.spines term.now }
+    {
+        (self.sides.left && self.spines.left.is_along(term))
+            || (self.sides.right && self.spines.right.is_along(term))
+    }
 }
 
 /// The first step that rewrites by node 0 as a hypothesis.
@@ -113,6 +125,7 @@ fn first_rewriting<'a, O: TermOrder>(
     places_are_there();
     place_decides(order);
     never_rises(order);
+    spines_are_along();
     let Some(equation) = only_conclusion(clause) else {
         return Ok(None);
     };
@@ -121,8 +134,12 @@ fn first_rewriting<'a, O: TermOrder>(
         clause,
         equation,
         sides,
+        spines: SideSpines::of(equation),
     };
     for index in 0..at.spots.len() {
+        if !rewriting.may_fit(at.spots.term(index)) {
+            continue;
+        }
         let found = rewriting_at(alloc, order, at, matcher, &rewriting, index)?;
         if found.is_some() {
             return Ok(found);

@@ -14,7 +14,7 @@ pub(crate) struct SideSpines {
 }
 
 impl SideSpines {
-    fn of(equation: &Equation) -> SideSpines
+    pub(crate) fn of(equation: &Equation) -> SideSpines
         ensures { result ≡ side_spines equation.now }
     {
         SideSpines {

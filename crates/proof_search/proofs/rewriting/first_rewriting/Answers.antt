@@ -1,12 +1,18 @@
-use Rattle.std.proofs.Common.{◌≡◌, ◌<◌, length, true, false, arith}
+use Rattle.std.proofs.Common.{◌≡◌, ◌<◌, length, true, false, None, sym, subst, arith}
 use Rattle.std.specs.Prelude.{is_some}
+use Rattle.term_core.specs.Tree.{Tree}
 use Rattle.clause_places.specs.Spots.{spots, spot_of_index}
 use Rattle.routine_proof.specs.Candidates.{Gives}
+use Rattle.proof_search.specs.declared.side_spines.SideSpines.{SideSpines}
+use Rattle.proof_search.specs.Falling.{MayFit}
 use Rattle.proof_search.specs.Referring.{target_of, rewritings_at}
+use Rattle.proof_search.specs.SideSpines.{side_spines}
 use Rattle.proof_search.specs.Taking.{SaysAt}
 use Rattle.proof_search.proofs.FallingSteps.{first_at_spot, none_rewrites}
 use Rattle.proof_search.proofs.SpotsThere.{spot_listed, spot_there, spots_past}
-use Rattle.proof_search.proofs.Walking.{found_at, passed_at, none_found}
+use Rattle.proof_search.proofs.Tests.{not_true}
+use Rattle.proof_search.proofs.UnfitSides.{none_fits}
+use Rattle.proof_search.proofs.Walking.{found_at, passed_at, skipped_at, none_found}
 use Rattle.proof_search.proofs.rewriting.first_rewriting.Goals as goal
 
 pub returns-in_default : goal.returns-in_default
@@ -20,6 +26,7 @@ rewriting_at-requires-clause-able g c = record {
   referred = c.requires.referred;
   alone = c.in-Some.ensures;
   falling = c.requires.falling;
+  spines = c.of.ensures;
 }
 
 pub rewriting_at-requires-clause-there : goal.rewriting_at-requires-clause-there
@@ -45,6 +52,30 @@ returns-then-is_some g c =
     let there : is_some found ≡ true = cc (c.is_some.ensures, c.if-is_some.true) in
     found_at (Gives (SaysAt above at)) (spots at.here.now) (rewritings_at target d) k spot found
     (spot_listed at c.requires.at.spots k lt) c.loop-index.invariant there first
+
+pub loop-index-preserved-then-not-may_fit : goal.loop-index-preserved-then-not-may_fit
+loop-index-preserved-then-not-may_fit g c =
+    let above = g.O.TermOrder.above c.args.order.now in
+    let at = c.args.at.now in
+    let says = SaysAt above at in
+    let k = c.loop-index.index in
+    let spot = spot_of_index at.spots k in
+    let lt : k < length at.spots = omega (arith, c.loop-index-test.true, c.len-index-end.ensures) in
+    let d = c.args.clause.now in
+    let e = c.in-Some.equation.now in
+    let sides = c.args.sides in
+    let target = target_of c.args.referral.now in
+    let unfit : MayFit sides (side_spines e) spot.term → ⊥ = λ fits.
+    not_true c.may_fit.result c.if-not-may_fit.true
+    (c.may_fit.ensures.1
+    (subst (λ (x : SideSpines × Tree). MayFit sides x.0 x.1)
+    (λ i. (sym c.of.ensures i, sym c.term.ensures i)) fits)) in
+    let first = first_at_spot above d sides c.requires.falling e
+    c.in-Some.ensures c.place_decides.ensures c.never_rises.ensures at c.requires.at target
+    c.requires.sorted c.requires.referred spot None
+    (none_fits c.spines_are_along.ensures says target d spot.place spot.term e sides unfit) in
+    skipped_at (Gives says) (spots at.here.now) (rewritings_at target d) k spot
+    (spot_listed at c.requires.at.spots k lt) c.loop-index.invariant first
 
 pub loop-index-preserved : goal.loop-index-preserved
 loop-index-preserved g c =
