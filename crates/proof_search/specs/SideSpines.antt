@@ -1,5 +1,5 @@
 -- The spines of both sides of an equation.
-use Rattle.std.specs.Prelude.{List, map}
+use Rattle.std.specs.Prelude.{◌⊎◌, List, map}
 use Rattle.term_core.specs.Tree.{Tree}
 use Rattle.spec_core.specs.declared.records.Equation.{Equation}
 use Rattle.fitting_lists.specs.Spines.{spine_of, MayBecome}
@@ -19,3 +19,8 @@ listed_spines es = map side_spines es
 -- each side may become the other one's
 abbrev pub SidesMayBecome : SideSpines → SideSpines → Type 0
 SidesMayBecome p t = MayBecome p.left t.left × MayBecome p.right t.right
+
+-- the other ones as they are, or those of the equation with its sides swapped
+abbrev pub MayBecomeEither : SideSpines → SideSpines → Type 0
+MayBecomeEither p t =
+    SidesMayBecome p t ⊎ SidesMayBecome p (record { left = t.right; right = t.left })

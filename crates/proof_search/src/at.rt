@@ -8,6 +8,7 @@ ghost use Rattle.inference_rules.specs.Answers.{clauses_of};
 ghost use Rattle.inference_rules.specs.Nodes.{AreNodes};
 ghost use Rattle.routine_proof.specs.Candidates.{Meets};
 ghost use Rattle.proof_search.specs.Building.{IsWhole};
+ghost use Rattle.proof_search.specs.Leading.{MayClose};
 ghost use Rattle.proof_search.specs.Settings.{IsSetting};
 ghost use Rattle.proof_search.specs.SideSpines.{listed_spines};
 ghost use Rattle.proof_search.specs.Taking.{IsAt, IsTaken, SaysAt, asks_of, IsNotNeither};
@@ -17,6 +18,7 @@ use crate::setting::Setting;
 use crate::side_spines::{SideSpines, listed};
 use clause_core::{Child, Children, Clause, Reference, Relation, Step, one_answer};
 use clause_places::{Spots, places_are_there};
+use fitting_lists::LeadingPlace;
 use inference_rules::{Node, StepError, children};
 use path_order::TermOrder;
 use routine_proof::Move;
@@ -84,6 +86,27 @@ impl<'a> At<'a> {
         } else {
             self.premise_spines.as_slice()
         }
+    }
+
+    /// Whether an equation at this place of another clause may become one of the node's of its kind,
+    /// as written or swapped, by their spines.
+    pub(crate) fn may_close(&self, place: Option<LeadingPlace>) -> bool
+        requires { IsAt self.now }
+        ensures { IsTrue result ↔ MayClose self.now.here.now place }
+    {
+        let Some(place) = place else {
+            return false;
+        };
+        let spines = SideSpines {
+            left: place.left,
+            right: place.right,
+        };
+        for own in self.spines(place.conclusion) {
+            if spines.may_become_either(*own) {
+                return true;
+            }
+        }
+        false
     }
 }
 

@@ -97,7 +97,8 @@ pub(crate) fn first_subsumption<O: TermOrder>(
     Ok(None)
 }
 
-/// The first step by the node of this number that closes the node.
+/// The first step by the node of this number that closes the node. Where the spines tell that there
+/// is none, no equation is gone through.
 fn subsumption_by<'a, O: TermOrder>(
     alloc: Global,
     order: &O,
@@ -111,8 +112,12 @@ fn subsumption_by<'a, O: TermOrder>(
     match at.nodes.get(number as usize) {
         None => Ok(None),
         Some(node) => {
-            let referral = Referral::Node(number);
+            spines_may_become();
             let place = at.building.leadings[number as usize];
+            if !at.may_close(place) {
+                return Ok(None);
+            }
+            let referral = Referral::Node(number);
             let first = leading_at(&node.clause, place);
             first_closing(alloc, order, at, matcher, &referral, &node.clause, first)
         }

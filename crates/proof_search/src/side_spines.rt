@@ -1,5 +1,5 @@
 ghost use Rattle.std.specs.Prelude.{◌≡◌, ◌↔◌, IsTrue, IfOk};
-ghost use Rattle.proof_search.specs.SideSpines.{side_spines, listed_spines, SidesMayBecome};
+ghost use Rattle.proof_search.specs.SideSpines.{side_spines, listed_spines, SidesMayBecome, MayBecomeEither};
 
 use fitting_lists::Spine;
 use spec_core::Equation;
@@ -39,6 +39,13 @@ impl SideSpines {
         ensures { IsTrue result ↔ SidesMayBecome self other }
     {
         self.left.may_become(other.left) && self.right.may_become(other.right)
+    }
+
+    /// The same for the other ones as they are, or else swapped.
+    pub(crate) fn may_become_either(self, other: SideSpines) -> bool
+        ensures { IsTrue result ↔ MayBecomeEither self other }
+    {
+        self.may_become(other) || self.may_become(other.swapped())
     }
 }
 
