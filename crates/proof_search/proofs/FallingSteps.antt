@@ -47,7 +47,7 @@ module _ (sig : Sig) (to : List SortId) where
       (t, refl, subst (λ (x : SortId). Sorted sig to t x) same p.0)
   fit (t ∷ ts) (r ∷ ss) p (suc n) s at = fit ts ss p.1 n s at
 
-  instance_sorted :
+  pub instance_sorted :
       (list : List Tree) (ss : List SortId) → SortedAll sig to (trees_of list) ss →
       (t : Tree) (s : SortId) → Sorted sig ss t s → Sorted sig to (instance list t) s
   instance_sorted list ss p t s q =
@@ -135,7 +135,7 @@ kept_both f false true x y = refl
 kept_both f false false x y = refl
 
 -- the steps by both sides that have the variables of the clause
-by_sides :
+pub by_sides :
     (target : Target) (d : Clause) (e : Equation) (s : Spot) → d.conclusions ≡ e ∷ [] →
     rewritings_at target d s
     ≡ cond (has_all d (e.left ∷ [])) (rewriting_by target d s.place s.term true e.left ∷ []) []
@@ -195,7 +195,7 @@ module _ (above : Tree → Tree → Type 0) (d : Clause) (sides : FallingSides)
   over t u false (inl none) is all = absurd (let q : true ≡ false = sym all ∙ none in cc)
   over t u false (inr m) is all = m
 
-  side_given : (left : Bool) → marked left sides ≡ true → has_all d (side left e ∷ []) ≡ true
+  pub side_given : (left : Bool) → marked left sides ≡ true → has_all d (side left e ∷ []) ≡ true
   side_given left is =
       given (side left e) (side (not left) e) (marked left sides) (may.each left e alone) is
 

@@ -43,7 +43,7 @@ sorts_all : (sig : Sig) (vs : List VarInfo) →
 sorts_all sig [] h = tt
 sorts_all sig (v ∷ vs) h = (h.0, sorts_all sig vs h.1)
 
-sorted_goal : (spec : Spec) → TidyingLaws → IsWellSorted spec → (goal : Goal) →
+pub sorted_goal : (spec : Spec) → TidyingLaws → IsWellSorted spec → (goal : Goal) →
     GoalIsSorted spec.sig goal → ClauseIsSorted spec.sig (goal_clause goal)
 sorted_goal spec laws fine goal sorted =
     laws.keeps_sorts spec.sig (written_clause goal) fine.signature (record {

@@ -20,7 +20,7 @@ use Rattle.clause_core.specs.Comparing.{Compares}
 use Rattle.clause_core.specs.Limits.{IsWithin, clause_size}
 use Rattle.clause_core.specs.Places.{TermAt, side, holding}
 use Rattle.clause_core.specs.Instances.{instance_by}
-use Rattle.clause_core.specs.Referred.{AreTermsFor}
+use Rattle.clause_core.specs.Referred.{AreTermsFor, UsableGoal}
 use Rattle.clause_core.specs.Replacing.{Rewrites, rewritten_by}
 use Rattle.clause_core.specs.Rows.{compared_child}
 use Rattle.clause_core.specs.Says.{IsChild, AnswersWithin, Says}
@@ -32,11 +32,12 @@ use Rattle.place_comparison.specs.AtPlaces.{PlaceDecides}
 use Rattle.place_comparison.proofs.LimitsThere.{size_there}
 use Rattle.routine_proof.specs.Candidates.{all_less, Meets}
 use Rattle.proof_search.specs.declared.at.At.{At}
-use Rattle.proof_search.specs.Falling.{IsReferred, FallsTo}
+use Rattle.proof_search.specs.Falling.{IsGoalClause, IsReferred, FallsTo}
 use Rattle.proof_search.specs.Referring.{Target, node, goal, rewriting_step}
 use Rattle.proof_search.specs.Taking.{IsAt, IsTaken, SaysAt}
 
-never : {X : Type 0} (made : Children) (why : Why) →
+-- what is made is no reason
+pub never : {X : Type 0} (made : Children) (why : Why) →
     ◌≡◌ {A = Result Children Why} (Ok made) (Err why) → X
 never made why e = absurd (cc)
 
@@ -70,6 +71,21 @@ pub record Falling (above : Tree → Tree → Type 0) (spec : Spec) (c d : Claus
   pub within : IsWithin (instance_by list c.ctx d)
   pub rewrites : Rewrites c (instance_by list c.ctx d) there.term left
   pub falls : above there.term (side (not left) rewrites.equation)
+
+-- the clause of the goal that is used by this name is the one that is referred to
+pub named_clause :
+    {usable : ℕ → Type 0} (at : At) → IsAt at → (name : List ℕ) (d : Clause) →
+    IsGoalClause at name d → (lemma : UsableGoal at.setting.now.spec.now usable name) →
+    goal_clause lemma.goal ≡ d
+named_clause at is name d referred lemma =
+    let spec = at.setting.now.spec.now in
+    let number : lemma.number ≡ referred.number =
+    is.setting.fine.names lemma.number referred.number lemma.goal referred.goal lemma.is
+    referred.is (lemma.named ∙ sym referred.named) in
+    let same : lemma.goal ≡ referred.goal =
+    one_get spec.goals lemma.number referred.number lemma.goal referred.goal lemma.is
+    referred.is number in
+    ap goal_clause same ∙ sym referred.clause
 
 module _ (above : Tree → Tree → Type 0) (decides : PlaceDecides above) (at : At) (place : Place)
     (list : List Tree) (left : Bool) (made : Children) (less : Meets all_less made) where
@@ -129,15 +145,8 @@ module _ (above : Tree → Tree → Type 0) (decides : PlaceDecides above) (at :
       (by_row n.clause (λ instance. (number, instance) ∷ []) says)
   falling (node number) d is referred (inr q) = never made _ q.1
   falling (goal name) d is referred (inl (lemma, says)) =
-      let goals = at.setting.now.spec.now.goals in
-      let number : lemma.number ≡ referred.number =
-      is.setting.fine.names lemma.number referred.number lemma.goal referred.goal lemma.is
-      referred.is (lemma.named ∙ sym referred.named) in
-      let same : lemma.goal ≡ referred.goal =
-      one_get goals lemma.number referred.number lemma.goal referred.goal lemma.is referred.is
-      number in
       subst (λ (x : Clause). Falling above at.setting.now.spec.now c x place list left)
-      (ap goal_clause same ∙ sym referred.clause)
+      (named_clause at is name d referred lemma)
       (by_row (goal_clause lemma.goal) (λ instance. []) says)
   falling (goal name) d is referred (inr q) = never made _ q.1
 

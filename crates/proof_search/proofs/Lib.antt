@@ -10,6 +10,7 @@ mod RuleNumbers
 mod LemmaGoals
 -- The entries of the list.
 mod OtherRules
+mod PermutedSteps
 mod ListedNodes
 mod LemmaClauses
 mod FittingSteps

@@ -19,7 +19,7 @@ use Rattle.proof_search.specs.declared.falling_sides.FallingSides.{FallingSides}
 use Rattle.proof_search.specs.declared.rewriting.Rewriting.{Rewriting}
 use Rattle.proof_search.specs.declared.side_spines.SideSpines.{SideSpines}
 use Rattle.proof_search.specs.Referring.{Target, node, goal, target_of}
-use Rattle.proof_search.specs.FallingSides.{AreFalling}
+use Rattle.proof_search.specs.FallingSides.{AreFalling, AreLemmaSides}
 use Rattle.proof_search.specs.SideSpines.{side_spines}
 
 -- a goal of this name has this clause
@@ -35,13 +35,18 @@ abbrev pub IsReferred : At → Target → Clause → Type 0
 IsReferred at (node number) d = slice_get (clauses_of at.nodes.now) number ≡ Some d
 IsReferred at (goal name) d = IsGoalClause at name d
 
+-- the sides from which the clause of the node rewrites, or that of the goal
+abbrev pub AreSides : (Tree → Tree → Type 0) → Target → Clause → FallingSides → Type 0
+AreSides above (node number) d sides = AreFalling above d sides
+AreSides above (goal name) d sides = AreLemmaSides above d sides
+
 -- the clause is the one that is referred to, with its only conclusion, the sides that may fall, and
 -- the spines of both
 pub record CanRewrite (above : Tree → Tree → Type 0) (at : At) (r : Rewriting) : Type 0 where
   pub sorted : ClauseIsSorted at.setting.now.spec.now.sig r.clause.now
   pub referred : IsReferred at (target_of r.referral.now) r.clause.now
   pub alone : r.clause.now.conclusions ≡ r.equation.now ∷ []
-  pub falling : AreFalling above r.clause.now r.sides
+  pub falling : AreSides above (target_of r.referral.now) r.clause.now r.sides
   pub spines : r.spines ≡ side_spines r.equation.now
 
 -- a side that may fall is along the term, by the spines of the sides

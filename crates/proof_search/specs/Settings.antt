@@ -12,7 +12,7 @@ use Rattle.clause_core.specs.Tidied.{goal_clause}
 use Rattle.routine_proof.specs.Entries.{lemma_goals}
 use Rattle.proof_search.specs.declared.setting.LemmaGoal.{LemmaGoal}
 use Rattle.proof_search.specs.declared.setting.Setting.{Setting}
-use Rattle.proof_search.specs.FallingSides.{AreFalling}
+use Rattle.proof_search.specs.FallingSides.{AreLemmaSides}
 use Rattle.fitting_lists.specs.Leading.{IsPlace}
 
 -- whether the term has this symbol at the root
@@ -54,14 +54,14 @@ lemma_goal goal = (goal.name, goal_clause goal)
 pub record IsLemma (above : Tree → Tree → Type 0) (goal : Goal) (m : LemmaGoal) : Type 0 where
   pub is : named m ≡ lemma_goal goal
   pub leading : IsPlace m.clause m.leading
-  pub sides : AreFalling above m.clause m.sides
+  pub sides : AreLemmaSides above m.clause m.sides
 
 -- the lemmas are the goals of these numbers
 pub record AreLemmas (above : Tree → Tree → Type 0) (spec : Spec) (lemmas : List ℕ)
     (ms : List LemmaGoal) : Type 0 where
   pub are : map named ms ≡ map lemma_goal (lemma_goals spec lemmas)
   pub leadings : AllByRecursion (λ (m : LemmaGoal). IsPlace m.clause m.leading) ms
-  pub sides : AllByRecursion (λ (m : LemmaGoal). AreFalling above m.clause m.sides) ms
+  pub sides : AllByRecursion (λ (m : LemmaGoal). AreLemmaSides above m.clause m.sides) ms
 
 pub record IsSetting (s : Setting) : Type 0 where
   pub fine : IsWellSorted s.spec.now

@@ -1,12 +1,15 @@
-ghost use Rattle.std.specs.Prelude.{◌≡◌, [], ◌∷◌, MatchOption};
+ghost use Rattle.std.specs.Prelude.{◌≡◌, ◌↔◌, IsTrue, [], ◌∷◌, IfOk, MatchOption};
 ghost use Rattle.spec_core.specs.declared.records.Equation.{Equation as EquationOf};
-ghost use Rattle.proof_search.specs.FallingSides.{AreFalling, MayFall, marked};
+ghost use Rattle.fitting_lists.specs.Answering.{AreVariables};
+ghost use Rattle.fitting_lists.specs.Fitting.{both_sides};
+ghost use Rattle.proof_search.specs.FallingSides.{AreFalling, AreLemmaSides, HasSorts, MayFall, Permutes, marked};
 
 use clause_core::Clause;
-use fitting_lists::has_all_variables;
+use fitting_lists::{Matcher, has_all_variables};
 use path_order::TermOrder;
 use spec_core::Equation;
-use term_core::{Term, front};
+use std::alloc::Global;
+use term_core::{OutOfMemory, Term, front};
 
 /// The sides of a clause's only conclusion whose instances may be above those of the other side.
 #[derive(Clone, Copy)]
@@ -39,6 +42,42 @@ pub(crate) fn falling_sides<O: TermOrder>(order: &O, clause: &Clause) -> Falling
             right: may_fall(order, clause, &equation.right, &equation.left),
         },
     }
+}
+
+/// Those of a lemma. Of an equation that permutes the left side alone is kept: a step by the right
+/// side makes what one by the left side makes, too.
+pub(crate) fn lemma_sides<O: TermOrder>(
+    alloc: Global,
+    order: &O,
+    clause: &Clause,
+) -> Result<FallingSides, OutOfMemory>
+    requires { HasSorts clause.now }
+    ensures { IfOk result (AreLemmaSides (O.above order.now) clause.now) }
+{
+    let sides = falling_sides(order, clause);
+    if !sides.left || !sides.right || !clause.premises.is_empty() {
+        return Ok(sides);
+    }
+    let Some(equation) = only_conclusion(clause) else {
+        return Ok(sides);
+    };
+    if !permutes(alloc, clause.ctx.len(), equation)? {
+        return Ok(sides);
+    }
+    Ok(FallingSides {
+        left: true,
+        right: false,
+    })
+}
+
+/// Whether one list of terms for the equation's variables, of which there are so many, makes each
+/// side the other one, as in plus(x, y) = plus(y, x).
+fn permutes(alloc: Global, count: usize, equation: &Equation) -> Result<bool, OutOfMemory>
+    requires { AreVariables count (both_sides equation.now) }
+    ensures { IfOk result (λ yes. IsTrue yes ↔ Permutes count equation.now) }
+{
+    let mut matcher = Matcher::new(alloc);
+    matcher.fitting(count, equation, &equation.right, &equation.left)
 }
 
 /// Whether the side has all variables of the clause, and the other side isn't above it.

@@ -12,7 +12,8 @@
 //! is asked: rules of another function, clauses whose symbols differ, and a side of an equation
 //! that the other side is above. What each node asks anew is found once: which equation of a node
 //! leads, when the node is added, and of a lemma, for a whole goal (`leading_places`); which sides
-//! of lemmas may fall, for a whole goal, and of node 0, when a block begins (`falling_sides`).
+//! of lemmas may fall, for a whole goal, and of node 0, when a block begins (`falling_sides`). A
+//! lemma that permutes, as plus(x, y) = plus(y, x), rewrites from its left side alone.
 #![tactic(auto)]
 
 mod answers;

@@ -4,10 +4,10 @@ ghost use Rattle.clause_core.specs.Clauses.{ClauseIsSorted};
 ghost use Rattle.clause_core.specs.Places.{side as side_of};
 ghost use Rattle.routine_proof.specs.Candidates.{all_less, each};
 ghost use Rattle.proof_search.specs.Chosen.{clause_of, lemma_uses_by};
-ghost use Rattle.proof_search.specs.FallingSides.{AreFalling, KeepsSides};
+ghost use Rattle.proof_search.specs.FallingSides.{KeepsSides};
 ghost use Rattle.proof_search.specs.Taking.{IsAt, IsThere, IsTaken, IsFound, SaysAt, place_of, term_of};
 ghost use Rattle.proof_search.specs.Referring.{node, target_of, rewritings, falling_rewriting, falling_rewritings, rewriting_step as step_by};
-ghost use Rattle.proof_search.specs.Falling.{IsReferred, CanRewrite, MayFit};
+ghost use Rattle.proof_search.specs.Falling.{IsReferred, CanRewrite, AreSides, MayFit};
 
 use crate::at::{Asked, At, taken};
 use crate::falling_sides::{FallingSides, only_conclusion};
@@ -118,7 +118,7 @@ fn first_rewriting<'a, O: TermOrder>(
     requires at { IsAt at.now }
     requires sorted { ClauseIsSorted at.now.setting.now.spec.now.sig clause.now }
     requires referred { IsReferred at.now (target_of referral.now) clause.now }
-    requires falling { AreFalling (O.above order.now) clause.now sides }
+    requires falling { AreSides (O.above order.now) (target_of referral.now) clause.now sides }
     ensures { IfOk result (IsFound (O.above order.now) at.now
         (rewritings at.now.here.now (target_of referral.now) clause.now)) }
 {

@@ -1,11 +1,12 @@
 ghost use Rattle.std.specs.Prelude.{◌≡◌, [], IfOk, IsTrue, OnOk, map};
 ghost use Rattle.spec_core.specs.WellSorted.{IsWellSorted};
 ghost use Rattle.clause_core.specs.RuleInstances.{RuleAt, IsInstance};
-ghost use Rattle.proof_search.specs.FallingSides.{LemmasFall};
+ghost use Rattle.clause_core.specs.Tidied.{goal_clause};
+ghost use Rattle.proof_search.specs.FallingSides.{HasSorts, LemmasFall};
 ghost use Rattle.proof_search.specs.Settings.{IsSetting, IsTable, IsTableOf, AddsNumber, AreLemmas, IsLemma, numbers_of};
 
-use crate::falling_sides::{FallingSides, falling_sides};
-use clause_core::{Clause, of_goal};
+use crate::falling_sides::{FallingSides, lemma_sides};
+use clause_core::{Clause, of_goal, tidying_laws};
 use fitting_lists::{LeadingPlace, leading, may_become};
 use path_order::TermOrder;
 use spec_core::{Goal, Spec};
@@ -29,6 +30,7 @@ pub(crate) struct LemmaGoal {
     pub(crate) clause: Clause,
     /// The place of the clause's leading equation, where it has one.
     pub(crate) leading: Option<LeadingPlace>,
+    /// The sides from which it rewrites.
     pub(crate) sides: FallingSides,
 }
 
@@ -92,6 +94,7 @@ fn goals_of<O: TermOrder>(
     ensures { IfOk result (λ made.
         AreLemmas (O.above order.now) spec.now lemmas.now made.items) }
 {
+    tidying_laws();
     let mut made = Vec::new(alloc);
     for (number, goal) in spec.goals.as_slice().iter().enumerate() {
         if !lemmas.contains(&(number as u32)) {
@@ -104,12 +107,13 @@ fn goals_of<O: TermOrder>(
 
 /// The goal as a lemma.
 fn lemma_of<O: TermOrder>(alloc: Global, order: &O, goal: &Goal) -> Result<LemmaGoal, OutOfMemory>
+    requires { HasSorts (goal_clause goal.now) }
     ensures { IfOk result (IsLemma (O.above order.now) goal.now) }
 {
     let name = goal.name.copy(alloc)?;
     let clause = of_goal(alloc, goal)?;
     let leading = leading(alloc, &clause)?;
-    let sides = falling_sides(order, &clause);
+    let sides = lemma_sides(alloc, order, &clause)?;
     Ok(LemmaGoal {
         name,
         clause,

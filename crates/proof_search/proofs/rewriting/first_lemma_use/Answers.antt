@@ -2,7 +2,7 @@ use Rattle.std.proofs.Common.{◌≡◌, ℕ, List, true, false, ap, sym}
 use Rattle.std.specs.Prelude.{is_some}
 use Rattle.clause_core.specs.declared.clauses.Clause.{Clause}
 use Rattle.term_core.proofs.Items.{all_at}
-use Rattle.proof_search.specs.FallingSides.{AreFalling}
+use Rattle.proof_search.specs.FallingSides.{AreLemmaSides}
 use Rattle.routine_proof.specs.Candidates.{Gives}
 use Rattle.proof_search.specs.Taking.{SaysAt}
 use Rattle.proof_search.proofs.Walking.{found_at, passed_at, none_found, item_at, past_all}
@@ -71,7 +71,7 @@ pub first_rewriting-requires-clause-falling : goal.first_rewriting-requires-clau
 first_rewriting-requires-clause-falling g c =
     let goals = c.args.at.now.setting.now.goals.items in
     let k = c.loop-goal.goal-index in
-    all_at (λ (m : LemmaGoal). AreFalling (g.O.TermOrder.above c.args.order.now) m.clause m.sides)
+    all_at (λ (m : LemmaGoal). AreLemmaSides (g.O.TermOrder.above c.args.order.now) m.clause m.sides)
     goals c.requires.sides.lemmas k c.goal-item.result
     (item_at c.deref-goal-items.result.now goals k c.goal-item.result
     c.deref-goal-items.ensures.value c.loop-goal-test.true c.goal-item.is)

@@ -8,7 +8,8 @@ use Rattle.proof_search.specs.Falling.{MayFit}
 use Rattle.proof_search.specs.Referring.{target_of, rewritings_at}
 use Rattle.proof_search.specs.SideSpines.{side_spines}
 use Rattle.proof_search.specs.Taking.{SaysAt}
-use Rattle.proof_search.proofs.FallingSteps.{first_at_spot, none_rewrites}
+use Rattle.proof_search.proofs.FallingSteps.{none_rewrites}
+use Rattle.proof_search.proofs.PermutedSteps.{first_by_sides}
 use Rattle.proof_search.proofs.SpotsThere.{spot_listed, spot_there, spots_past}
 use Rattle.proof_search.proofs.Tests.{not_true}
 use Rattle.proof_search.proofs.UnfitSides.{none_fits}
@@ -46,9 +47,9 @@ returns-then-is_some g c =
     let lt : k < length at.spots = omega (arith, c.loop-index-test.true, c.len-index-end.ensures) in
     let d = c.args.clause.now in
     let target = target_of c.args.referral.now in
-    let first = first_at_spot above d c.args.sides c.requires.falling c.in-Some.equation.now
-    c.in-Some.ensures c.place_decides.ensures c.never_rises.ensures at c.requires.at target
-    c.requires.sorted c.requires.referred spot found c.in_ok-found.ensures in
+    let first = first_by_sides above d c.args.sides c.in-Some.equation.now c.in-Some.ensures at
+    c.requires.at c.requires.sorted target c.requires.falling c.place_decides.ensures
+    c.never_rises.ensures c.requires.referred spot found c.in_ok-found.ensures in
     let there : is_some found ≡ true = cc (c.is_some.ensures, c.if-is_some.true) in
     found_at (Gives (SaysAt above at)) (spots at.here.now) (rewritings_at target d) k spot found
     (spot_listed at c.requires.at.spots k lt) c.loop-index.invariant there first
@@ -70,9 +71,9 @@ loop-index-preserved-then-not-may_fit g c =
     (c.may_fit.ensures.1
     (subst (λ (x : SideSpines × Tree). MayFit sides x.0 x.1)
     (λ i. (sym c.of.ensures i, sym c.term.ensures i)) fits)) in
-    let first = first_at_spot above d sides c.requires.falling e
-    c.in-Some.ensures c.place_decides.ensures c.never_rises.ensures at c.requires.at target
-    c.requires.sorted c.requires.referred spot None
+    let first = first_by_sides above d sides e c.in-Some.ensures at c.requires.at c.requires.sorted
+    target c.requires.falling c.place_decides.ensures c.never_rises.ensures c.requires.referred
+    spot None
     (none_fits c.spines_are_along.ensures says target d spot.place spot.term e sides unfit) in
     skipped_at (Gives says) (spots at.here.now) (rewritings_at target d) k spot
     (spot_listed at c.requires.at.spots k lt) c.loop-index.invariant first
@@ -87,9 +88,9 @@ loop-index-preserved g c =
     let lt : k < length at.spots = omega (arith, c.loop-index-test.true, c.len-index-end.ensures) in
     let d = c.args.clause.now in
     let target = target_of c.args.referral.now in
-    let first = first_at_spot above d c.args.sides c.requires.falling c.in-Some.equation.now
-    c.in-Some.ensures c.place_decides.ensures c.never_rises.ensures at c.requires.at target
-    c.requires.sorted c.requires.referred spot found c.in_ok-found.ensures in
+    let first = first_by_sides above d c.args.sides c.in-Some.equation.now c.in-Some.ensures at
+    c.requires.at c.requires.sorted target c.requires.falling c.place_decides.ensures
+    c.never_rises.ensures c.requires.referred spot found c.in_ok-found.ensures in
     let there : is_some found ≡ false = cc (c.is_some.ensures, c.if-is_some.false) in
     passed_at (Gives (SaysAt above at)) (spots at.here.now) (rewritings_at target d) k spot found
     (spot_listed at c.requires.at.spots k lt) c.loop-index.invariant there first

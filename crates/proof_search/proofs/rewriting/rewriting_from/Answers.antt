@@ -16,8 +16,8 @@ use Rattle.proof_search.specs.Falling.{FallsTo}
 use Rattle.proof_search.specs.Referring.{target_of, rewriting_step, rewriting_by, falling_rewriting}
 use Rattle.proof_search.specs.Taking.{SaysAt, IsTaken, IsFound, place_of, term_of}
 use Rattle.term_core.proofs.Items.{if_ok_map}
-use Rattle.proof_search.proofs.FallingSteps.{falling_variables}
 use Rattle.proof_search.proofs.LessSteps.{none_rising}
+use Rattle.proof_search.proofs.PermutedSteps.{variables_by_sides}
 use Rattle.proof_search.proofs.TakenSteps.{none_answers, answered_found}
 use Rattle.proof_search.proofs.Tests.{not_true}
 use Rattle.proof_search.proofs.rewriting.rewriting_from.Goals as goal
@@ -88,8 +88,8 @@ rewriting-requires g c =
     let able = c.requires.able in
     subst (λ (x : ℕ × Tree). AreVariables x.0 (x.1 ∷ []))
     (λ i. (sym c.len-count.ensures i, sym c.side-from.ensures i))
-    (falling_variables (g.O.TermOrder.above c.args.order.now) r.clause.now r.sides able.falling
-    r.equation.now able.alone sig able.sorted c.args.left
+    (variables_by_sides (g.O.TermOrder.above c.args.order.now) r.clause.now r.sides r.equation.now
+    able.alone (target_of r.referral.now) able.falling sig able.sorted c.args.left
     (sym c.has.ensures ∙ c.if-not-has.false))
 
 pub returns-then-not-branch : goal.returns-then-not-branch

@@ -4,10 +4,12 @@ use Rattle.std.proofs.lemmas.List.{map-append}
 use Rattle.term_core.proofs.Items.{all_append}
 use Rattle.clause_core.specs.declared.clauses.Clause.{Clause}
 use Rattle.proof_search.specs.declared.setting.LemmaGoal.{LemmaGoal}
-use Rattle.proof_search.specs.FallingSides.{AreFalling}
+use Rattle.proof_search.specs.FallingSides.{AreLemmaSides}
 use Rattle.fitting_lists.specs.Leading.{IsPlace}
 use Rattle.proof_search.specs.Settings.{named}
+use Rattle.proof_search.proofs.LemmaClauses.{sorted_goal}
 use Rattle.proof_search.proofs.LemmaGoals.{lemma_skipped, added_at, all_lemmas}
+use Rattle.proof_search.proofs.Walking.{item_at}
 use Rattle.proof_search.proofs.setting.goals_of.Goals as goal
 
 pub loop-number-preserved-then-not-contains : goal.loop-number-preserved-then-not-contains
@@ -44,7 +46,7 @@ loop-number-preserved g c =
           more (λ (m : LemmaGoal). IsPlace m.clause m.leading) all.leadings is.leading;
       sides =
           more
-          (λ (m : LemmaGoal). AreFalling (g.O.TermOrder.above c.args.order.now) m.clause m.sides)
+          (λ (m : LemmaGoal). AreLemmaSides (g.O.TermOrder.above c.args.order.now) m.clause m.sides)
           all.sides is.sides;
     }
 
@@ -58,3 +60,14 @@ returns g c = record {
   leadings = c.loop-number.invariant.leadings;
   sides = c.loop-number.invariant.sides;
 }
+
+pub lemma_of-requires : goal.lemma_of-requires
+lemma_of-requires g c =
+    let spec = c.args.spec.now in
+    let k = c.loop-number.number in
+    let goal = c.goal-item.result in
+    let listed = item_at c.as_slice-goal-items.result.now spec.goals k goal
+    c.as_slice-goal-items.ensures c.loop-number-test.true c.goal-item.is in (
+      spec.sig,
+      sorted_goal spec c.tidying_laws.ensures c.requires goal (c.requires.goals k goal listed),
+    )
