@@ -47,11 +47,33 @@ pub fn search(
 {
     let opened = OpenSpec::new(alloc, spec, goal)?;
     let prepared = PartialGoal::new(alloc, spec, goal, &opened)?;
+    search_prepared(alloc, spec, goal, &prepared, depth, tries, budget)
+}
+
+/// The same, where the goal is prepared.
+fn search_prepared(
+    alloc: Global,
+    spec: &Spec,
+    goal: &Goal,
+    prepared: &PartialGoal,
+    depth: u32,
+    tries: u32,
+    budget: u32,
+) -> Result<Search, OutOfMemory>
+    requires fine { IsWellSorted spec.now }
+    requires listed { (k : ℕ) × (slice_get spec.now.goals k ≡ Some goal.now) }
+    requires spec { prepared.now.spec ≡ spec.now }
+    requires goal { prepared.now.goal ≡ goal.now }
+    ensures finds { IfOk result (λ r. NoOverlap spec.now → GroupsAreWhole spec.now
+        → Finds spec.now goal.now budget tries (substitutions spec.now goal.now depth) r) }
+    ensures found { IfOk result
+        (IsFalse spec.now goal.now tries (substitutions spec.now goal.now depth)) }
+{
     let odometer = Odometer::new(alloc, &spec.sig)?;
     let sorts = sorts_of_vars(alloc, goal.vars.as_slice())?;
     let sizes = block_sizes(alloc, &spec.sig, sorts.as_slice(), depth)?;
     let walk = Walk {
-        prepared: &prepared,
+        prepared,
         odometer: &odometer,
         sizes: &sizes,
         depth,

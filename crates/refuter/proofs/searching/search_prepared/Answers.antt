@@ -9,16 +9,17 @@ use Rattle.spec_core.specs.Overlap.{NoOverlap}
 use Rattle.spec_core.specs.Groups.{GroupsAreWhole}
 use Rattle.spec_core.specs.Order.{substitutions}
 use Rattle.spec_core.proofs.Ranges.{sorts_in_range}
-use Rattle.ground_eval.specs.Opened.{Partial}
+use Rattle.spec_core.specs.declared.records.Goal.{Goal}
+use Rattle.spec_core.specs.declared.records.Spec.{Spec}
 use Rattle.refuter.specs.Blocks.{AreBlockSizes}
 use Rattle.refuter.specs.Finds.{Finds, IsFalse}
 use Rattle.refuter.specs.Walk.{IsReady}
 use Rattle.refuter.proofs.Progress.{variables_are}
 use Rattle.refuter.proofs.Walks.{sorts_long}
-use Rattle.refuter.proofs.searching.search.Goals as goal
+use Rattle.refuter.proofs.searching.search_prepared.Goals as goal
 
-pub new-requires-3-clause-in_range : goal.new-requires-3-clause-in_range
-new-requires-3-clause-in_range c = sorts_in_range c.args.spec.now.sig c.requires.fine.signature
+pub new-requires-clause-in_range : goal.new-requires-clause-in_range
+new-requires-clause-in_range c = sorts_in_range c.args.spec.now.sig c.requires.fine.signature
 
 pub block_sizes-requires-clause-in_range : goal.block_sizes-requires-clause-in_range
 block_sizes-requires-clause-in_range c = sorts_in_range c.args.spec.now.sig c.requires.fine.signature
@@ -57,15 +58,15 @@ search-requires-clause-walk c =
       room = ap (λ n. 255 * n) (c.len.ensures ∙ ap (λ ss. length ss) are);
       counted = subst (λ ns. AreBlockSizes c.args.spec.now.sig c.args.depth (sorts_of c.args.goal.now.vars) ns) (sym c.deref.ensures.value) sizes;
     } in
-    subst (λ (p : Partial). IsReady p.spec p.goal c.args.depth c.in_ok-odometer.odometer (255 * c.len.result) c.deref.result.now) (sym c.in_ok-prepared.ensures) walk
+    subst (λ (p : Spec × Goal). IsReady p.0 p.1 c.args.depth c.in_ok-odometer.odometer (255 * c.len.result) c.deref.result.now) (λ i. (sym c.requires.spec i, sym c.requires.goal i)) walk
 
 pub search-requires-clause-sorts : goal.search-requires-clause-sorts
-search-requires-clause-sorts c = c.as_slice-3.ensures ∙ c.in_ok-sorts.ensures ∙ ap (λ vars. sorts_of vars) c.as_slice.ensures ∙ ap (λ (p : Partial). sorts_of p.goal.vars) (sym c.in_ok-prepared.ensures)
+search-requires-clause-sorts c = c.as_slice-3.ensures ∙ c.in_ok-sorts.ensures ∙ ap (λ vars. sorts_of vars) c.as_slice.ensures ∙ ap (λ (g : Goal). sorts_of g.vars) (sym c.requires.goal)
 
 pub returns-clause-finds : goal.returns-clause-finds
 returns-clause-finds c =
-    subst (λ (p : Partial). IfOk c.search.result (λ r. NoOverlap p.spec → GroupsAreWhole p.spec → Finds p.spec p.goal c.args.budget c.args.tries (substitutions p.spec p.goal c.args.depth) r)) c.in_ok-prepared.ensures c.search.ensures.finds
+    subst (λ (p : Spec × Goal). IfOk c.search.result (λ r. NoOverlap p.0 → GroupsAreWhole p.0 → Finds p.0 p.1 c.args.budget c.args.tries (substitutions p.0 p.1 c.args.depth) r)) (λ i. (c.requires.spec i, c.requires.goal i)) c.search.ensures.finds
 
 pub returns-clause-found : goal.returns-clause-found
 returns-clause-found c =
-    subst (λ (p : Partial). IfOk c.search.result (IsFalse p.spec p.goal c.args.tries (substitutions p.spec p.goal c.args.depth))) c.in_ok-prepared.ensures c.search.ensures.found
+    subst (λ (p : Spec × Goal). IfOk c.search.result (IsFalse p.0 p.1 c.args.tries (substitutions p.0 p.1 c.args.depth))) (λ i. (c.requires.spec i, c.requires.goal i)) c.search.ensures.found
