@@ -35,39 +35,54 @@ const STEPS: u32 = 1_000;
 
 fn main(rt: HostRuntime) -> Result<()> {
     let words: Vec<String> = env::args(&rt)?.collect(rt.alloc())?;
-    let alloc = rt.alloc();
-    let done = match words.as_slice() {
-        [_, mode, file, depth, tries] if mode.as_str() == "search" => {
-            let bytes = fs::read(&rt, file.as_str())?;
-            searched(
-                alloc,
-                &specification(alloc, &bytes)?,
-                number(depth)?,
-                number(tries)?,
-            )?
-        }
-        [_, mode, shape, size, times] if mode.as_str() == "above" => {
-            compared_terms(alloc, shape.as_str(), number(size)?, number(times)?)?
-        }
-        [_, mode, file, times] => {
-            let bytes = fs::read(&rt, file.as_str())?;
-            repeated(alloc, mode.as_str(), &bytes, number(times)?)?
-        }
-        [_, mode, file, term, budget, times] if mode.as_str() == "eval" => {
-            let bytes = fs::read(&rt, file.as_str())?;
-            let spec = specification(alloc, &bytes)?;
-            evaluated(
-                alloc,
-                &spec,
-                term.as_str().as_bytes(),
-                number(budget)?,
-                number(times)?,
-            )?
-        }
-        _ => bail!("the words are no mode of this program"),
-    };
+    let done = done_by(&rt, words.as_slice())?;
     println!(rt; "done {done}")?;
     Ok(())
+}
+
+/// What the words ask for, done.
+fn done_by(rt: &HostRuntime, words: &[String]) -> Result<u64> {
+    match words {
+        [_, mode, file, depth, tries] if mode.as_str() == "search" => {
+            searched_in(rt, file.as_str(), number(depth)?, number(tries)?)
+        }
+        [_, mode, shape, size, times] if mode.as_str() == "above" => {
+            compared_terms(rt.alloc(), shape.as_str(), number(size)?, number(times)?)
+        }
+        [_, mode, file, times] => repeated_in(rt, mode.as_str(), file.as_str(), number(times)?),
+        [_, mode, file, term, budget, times] if mode.as_str() == "eval" => {
+            evaluated_in(
+                rt,
+                file.as_str(),
+                term.as_str(),
+                number(budget)?,
+                number(times)?,
+            )
+        }
+        _ => bail!("the words are no mode of this program"),
+    }
+}
+
+/// A search for counterexamples of a file's goals.
+fn searched_in(rt: &HostRuntime, file: &str, depth: u32, tries: u32) -> Result<u64> {
+    let alloc = rt.alloc();
+    let bytes = fs::read(rt, file)?;
+    let spec = specification(alloc, &bytes)?;
+    searched(alloc, &spec, depth, tries)
+}
+
+/// What is done with a file's text so many times.
+fn repeated_in(rt: &HostRuntime, mode: &str, file: &str, times: u32) -> Result<u64> {
+    let bytes = fs::read(rt, file)?;
+    repeated(rt.alloc(), mode, &bytes, times)
+}
+
+/// The evaluation of a term over a file's specification, so many times.
+fn evaluated_in(rt: &HostRuntime, file: &str, term: &str, budget: u32, times: u32) -> Result<u64> {
+    let alloc = rt.alloc();
+    let bytes = fs::read(rt, file)?;
+    let spec = specification(alloc, &bytes)?;
+    evaluated(alloc, &spec, term.as_bytes(), budget, times)
 }
 
 /// What is done with a text so many times.
