@@ -8,7 +8,7 @@ use Rattle.spec_core.specs.Groups.{Whole, alone, split}
 use Rattle.term_core.proofs.Members.{In}
 use Rattle.spec_core.proofs.Groups.{in_rests, bool_cases, begins_with}
 use Rattle.spec_core.proofs.Determined.{boolean_inj}
-use Rattle.bank_machine.specs.Tests.{Agrees, GoesOn}
+use Rattle.rule_code.specs.Tests.{Agrees, GoesOn}
 
 pub agrees_self : (k : ℕ) (gs : List Guard) → k ≤ length gs → Agrees k gs gs
 agrees_self zero gs h = tt

@@ -12,36 +12,36 @@ use Rattle.spec_core.specs.WellSorted.{IsWellSorted}
 use Rattle.spec_core.specs.declared.records.Rule.{Rule}
 use Rattle.value_bank.specs.Cells.{Cell, cell, IsTerm, AreTerms}
 use Rattle.value_bank.proofs.Terms.{same_cell}
-use Rattle.bank_machine.specs.declared.rule_codes.RuleCode.{RuleCode}
-use Rattle.bank_machine.specs.declared.decision_trees.DecisionTree.{DecisionTree}
-use Rattle.bank_machine.specs.declared.following.Branch.{Branch}
+use Rattle.rule_code.specs.declared.rule_codes.RuleCode.{RuleCode}
+use Rattle.rule_code.specs.declared.decision_trees.DecisionTree.{DecisionTree}
+use Rattle.rule_code.specs.declared.following.Branch.{Branch}
+use Rattle.rule_code.specs.Blocks.{HasBlock}
+use Rattle.rule_code.specs.Branches.{IsFollowerOn, IsBranch}
+use Rattle.rule_code.specs.Code.{decide, entries}
+use Rattle.rule_code.specs.Compiled.{Fills, IsNext}
+use Rattle.rule_code.specs.Homes.{AreOwnHomes}
+use Rattle.rule_code.specs.Instructions.{ends, IsCodeAt}
+use Rattle.rule_code.specs.Programs.{Program, IsProgram}
+use Rattle.rule_code.specs.RuleCodes.{IsRuleCode}
+use Rattle.rule_code.specs.Tests.{GoesOn}
+use Rattle.rule_code.proofs.Branching.{goes_within, same_width, same_homes, taken_terms}
+use Rattle.rule_code.proofs.Matches.{some_same, entry_at}
+use Rattle.rule_code.proofs.Ranges.{item_listed}
+use Rattle.rule_code.proofs.Slots.{slot_kept}
+use Rattle.rule_code.proofs.Testing.{slot_there, slot_within, slot_term, terms_count, trees_list}
 use Rattle.bank_machine.specs.declared.turns.Turn.TheVariants.{Moved, Stuck}
-use Rattle.bank_machine.specs.Blocks.{HasBlock}
-use Rattle.bank_machine.specs.Branches.{IsFollowerOn, IsBranch}
-use Rattle.bank_machine.specs.Code.{decide, entries}
-use Rattle.bank_machine.specs.Compiled.{Fills, IsNext}
-use Rattle.bank_machine.specs.Homes.{AreOwnHomes}
-use Rattle.bank_machine.specs.Instructions.{ends, IsCodeAt}
 use Rattle.bank_machine.specs.Owed.{Owes, Pays}
-use Rattle.bank_machine.specs.Programs.{Program, IsProgram}
 use Rattle.bank_machine.specs.Ranged.{AreThere}
-use Rattle.bank_machine.specs.RuleCodes.{IsRuleCode}
 use Rattle.bank_machine.specs.Sound.{IsFit}
 use Rattle.bank_machine.specs.Stacks.{Stack, stack, IsAt}
 use Rattle.bank_machine.specs.States.{Frame, frame, State, Follows, Moves, decides, NoneGoesIn}
-use Rattle.bank_machine.specs.Tests.{GoesOn}
 use Rattle.bank_machine.specs.Turns.{Works, Turns}
-use Rattle.bank_machine.proofs.Branching.{goes_within, same_width, same_homes, taken_terms}
 use Rattle.bank_machine.proofs.Entering.{all_of}
-use Rattle.bank_machine.proofs.Matches.{some_same, entry_at}
 use Rattle.bank_machine.proofs.Moving.{none_goes_nothing}
 use Rattle.bank_machine.proofs.Pending.{entries_kept}
-use Rattle.bank_machine.proofs.Ranges.{item_listed}
-use Rattle.bank_machine.proofs.Slots.{slot_kept}
 use Rattle.bank_machine.proofs.Owing.{does_right, owes_on}
 use Rattle.bank_machine.proofs.StackMoves.{end_is, end_ranged, end_pays}
 use Rattle.bank_machine.proofs.Stacked.{waits_above, take_take, length_take}
-use Rattle.bank_machine.proofs.Testing.{slot_there, slot_within, slot_term, terms_count, trees_list}
 
 -- the term of a cell
 pub cell_value : (cells : List Cell) (p f : ℕ) (args : List ℕ) (v : Tree) → IsTerm cells p v → slice_get cells p ≡ Some (cell f args) → (terms : List Tree) × (v ≡ app f (trees_of terms)) × (length args ≡ length terms)

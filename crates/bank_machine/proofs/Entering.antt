@@ -16,25 +16,25 @@ use Rattle.spec_core.specs.Sorts.{Sorted, SortedAll, IsBuilt}
 use Rattle.spec_core.specs.WellSorted.{IsWellSorted, RuleIsSorted, sorts_of}
 use Rattle.spec_core.proofs.Values.{env_built}
 use Rattle.value_bank.specs.Cells.{Cell, AreTerms}
-use Rattle.bank_machine.specs.declared.rule_codes.RuleCode.{RuleCode}
-use Rattle.bank_machine.specs.declared.decision_trees.DecisionTree.{DecisionTree}
-use Rattle.bank_machine.specs.declared.left_sides.LeftSide.{LeftSide}
-use Rattle.bank_machine.specs.Code.{Step, End, entries}
-use Rattle.bank_machine.specs.Compiled.{Fills, IsNext}
-use Rattle.bank_machine.specs.Homes.{IsLeftSide}
-use Rattle.bank_machine.specs.Instructions.{Instruction, IsCodeAt}
-use Rattle.bank_machine.specs.Matching.{Unpacks, HaveHomes}
-use Rattle.bank_machine.specs.RuleCodes.{IsRuleCode}
+use Rattle.rule_code.specs.declared.rule_codes.RuleCode.{RuleCode}
+use Rattle.rule_code.specs.declared.decision_trees.DecisionTree.{DecisionTree}
+use Rattle.rule_code.specs.declared.left_sides.LeftSide.{LeftSide}
+use Rattle.rule_code.specs.Code.{Step, End, entries}
+use Rattle.rule_code.specs.Compiled.{Fills, IsNext}
+use Rattle.rule_code.specs.Homes.{IsLeftSide}
+use Rattle.rule_code.specs.Instructions.{Instruction, IsCodeAt}
+use Rattle.rule_code.specs.Matching.{Unpacks, HaveHomes}
+use Rattle.rule_code.specs.RuleCodes.{IsRuleCode}
+use Rattle.rule_code.specs.DecisionTrees.{Lists, IsTree}
+use Rattle.rule_code.specs.Index.{numbers_of}
+use Rattle.rule_code.specs.Programs.{program, IsProgram}
+use Rattle.rule_code.proofs.Ranges.{symbol_in_range, item_listed}
+use Rattle.rule_code.proofs.Matches.{entry_at, some_slot, tests_match, unpacked_count}
+use Rattle.rule_code.proofs.Testing.{read_is}
 use Rattle.bank_machine.specs.Sound.{IsReady}
 use Rattle.bank_machine.specs.States.{frame}
-use Rattle.bank_machine.specs.DecisionTrees.{Lists, IsTree}
-use Rattle.bank_machine.specs.Index.{numbers_of}
-use Rattle.bank_machine.specs.Programs.{program, IsProgram}
 use Rattle.bank_machine.proofs.Numbers.{RuleAt, number_has_rule}
-use Rattle.bank_machine.proofs.Ranges.{symbol_in_range, item_listed}
 use Rattle.bank_machine.specs.Calls.{FoundBy}
-use Rattle.bank_machine.proofs.Matches.{entry_at, some_slot, tests_match, unpacked_count}
-use Rattle.bank_machine.proofs.Testing.{read_is}
 
 pub entries_count : (env : List Tree) (homes : List ℕ) → length (entries env homes) ≡ length homes
 entries_count env [] = refl

@@ -16,12 +16,12 @@ use Rattle.spec_core.specs.WellSorted.{IsWellSorted, sorts_of}
 use Rattle.spec_core.proofs.Keeps.{right_sorted, keeps}
 use Rattle.spec_core.proofs.Determined.{sorted_by_left, one_rule}
 use Rattle.term_core.proofs.Items.{all_at}
-use Rattle.bank_machine.specs.Code.{Step, build, call, End, slot, last, decide, slots, entries}
-use Rattle.bank_machine.specs.Compiled.{IsStep, Codes, CodesAll, IsBody, Holds, Fills, IsNext}
+use Rattle.rule_code.specs.Code.{Step, build, call, End, slot, last, decide, slots, entries}
+use Rattle.rule_code.specs.Compiled.{IsStep, Codes, CodesAll, IsBody, Holds, Fills, IsNext}
+use Rattle.rule_code.proofs.Slots.{AreSlots, slot_kept, slot_next, holds_kept}
 use Rattle.bank_machine.specs.States.{builds, enters, enters_last, returns, decides, recalls, CallsIn}
 use Rattle.bank_machine.specs.Sound.{IsReady, IsFit}
 use Rattle.bank_machine.specs.SoundLaws.{StartIsSound, MovesKeepSound, SoundIsReady}
-use Rattle.bank_machine.proofs.Slots.{AreSlots, slot_kept, slot_next, holds_kept}
 use Rattle.bank_machine.proofs.Pending.{entries_kept}
 
 module _ (spec : Spec) where

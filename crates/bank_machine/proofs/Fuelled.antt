@@ -8,15 +8,15 @@ use Rattle.term_core.specs.Tree.{Tree}
 use Rattle.spec_core.specs.Sig.{Sig}
 use Rattle.spec_core.specs.declared.records.Rule.{Rule}
 use Rattle.value_bank.specs.Cells.{Cell}
+use Rattle.rule_code.specs.Code.{Step, End, slot, last, decide}
+use Rattle.rule_code.specs.Compiled.{IsBody, IsNext}
+use Rattle.rule_code.specs.Instructions.{Instruction, does, ends, IsCodeAt}
+use Rattle.rule_code.specs.Programs.{Program}
+use Rattle.rule_code.proofs.Branching.{goes_within}
 use Rattle.bank_machine.specs.declared.held.Held.{Held}
-use Rattle.bank_machine.specs.Code.{Step, End, slot, last, decide}
-use Rattle.bank_machine.specs.Compiled.{IsBody, IsNext}
 use Rattle.bank_machine.specs.Fuel.{most_guards, behind, moves_from, held_moves, block_moves, frames_moves, state_moves, stack_moves, call_moves, fuel, most_added}
-use Rattle.bank_machine.specs.Instructions.{Instruction, does, ends, IsCodeAt}
-use Rattle.bank_machine.specs.Programs.{Program}
 use Rattle.bank_machine.specs.Stacks.{Stack, stack, Waits, IsAt}
 use Rattle.bank_machine.specs.States.{Frame, State, Moves, builds, enters, enters_last, returns, decides, recalls}
-use Rattle.bank_machine.proofs.Branching.{goes_within}
 
 module _ (most room : ℕ) (code : List Instruction) where
   pub block_is : (k : ℕ) (steps : List Step) (end : End) → IsCodeAt code k steps end → moves_from most room (drop k code) ≡ block_moves most room steps end

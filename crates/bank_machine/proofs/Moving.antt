@@ -14,10 +14,10 @@ use Rattle.spec_core.specs.Gives.{Gives}
 use Rattle.spec_core.proofs.Values.{no_match, call_costs}
 use Rattle.spec_core.proofs.Guarded.{call_by, call_makes, guards_same, both_match}
 use Rattle.spec_core.proofs.Determined.{one_rule, determined}
-use Rattle.bank_machine.specs.Code.{Step, build, call, End, slot, last, decide, slots, entries, Does}
+use Rattle.rule_code.specs.Code.{Step, build, call, End, slot, last, decide, slots, entries, Does}
+use Rattle.rule_code.specs.Tests.{GoesOn, IsPending, IsDecided}
 use Rattle.bank_machine.specs.States.{Frame, StateGives, Enters, builds, enters, enters_last, returns, recalls, CallsIn, decides, NoneGoesIn}
 use Rattle.bank_machine.specs.Laws.{MovesAreRight, MovesAreWhole, AtItsEnd, CallsCost, NoMatchGivesNothing, NoneGoesOnGivesNothing}
-use Rattle.bank_machine.specs.Tests.{GoesOn, IsPending, IsDecided}
 use Rattle.bank_machine.proofs.Asked.{goes_along, goes_both}
 use Rattle.bank_machine.proofs.Pending.{pending_right, pending_whole}
 

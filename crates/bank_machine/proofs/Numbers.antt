@@ -7,8 +7,8 @@ use Rattle.spec_core.specs.declared.records.Rule.{Rule}
 use Rattle.spec_core.specs.declared.records.Spec.{Spec}
 use Rattle.spec_core.specs.WellSorted.{IsWellSorted, IsLeft}
 use Rattle.spec_core.specs.Sig.{Sig}
-use Rattle.bank_machine.specs.Heads.{has_head}
-use Rattle.bank_machine.specs.Index.{numbers_of}
+use Rattle.rule_code.specs.Heads.{has_head}
+use Rattle.rule_code.specs.Index.{numbers_of}
 
 listed_from : (f n : ℕ) (rs : List Rule) (k : ℕ) (rule : Rule) → slice_get rs k ≡ Some rule → has_head f rule.left ≡ true → (j : ℕ) × (slice_get (numbers_of f n rs) j ≡ Some (n + k))
 listed_from f n [] k rule at h = absurd (let q : None ≡ Some rule = at in cc)

@@ -5,9 +5,9 @@ use Rattle.term_core.specs.Tree.{Tree, app}
 use Rattle.spec_core.specs.declared.records.Spec.{Spec}
 use Rattle.spec_core.specs.Gives.{Gives}
 use Rattle.spec_core.specs.WellSorted.{IsWellSorted}
+use Rattle.rule_code.specs.Code.{Step, End, call, slots, Does}
+use Rattle.rule_code.specs.Instructions.{Instruction, does}
 use Rattle.bank_machine.specs.declared.held.Held.{Held}
-use Rattle.bank_machine.specs.Code.{Step, End, call, slots, Does}
-use Rattle.bank_machine.specs.Instructions.{Instruction, does}
 use Rattle.bank_machine.specs.Owed.{IsOwed, Owes}
 use Rattle.bank_machine.specs.Ranged.{AreThere}
 use Rattle.bank_machine.specs.Stacks.{held}

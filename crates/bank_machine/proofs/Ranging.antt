@@ -6,12 +6,12 @@ use Rattle.term_core.specs.Tree.{Tree, Trees, var, app, none, some}
 use Rattle.spec_core.specs.declared.records.Rule.{Rule}
 use Rattle.spec_core.specs.declared.records.Spec.{Spec}
 use Rattle.spec_core.specs.Sig.{Sig}
-use Rattle.bank_machine.specs.Code.{Step, build, call, End, slot, last, decide}
-use Rattle.bank_machine.specs.Compiled.{IsStep, Codes, CodesAll, IsBody, IsNext}
+use Rattle.rule_code.specs.Code.{Step, build, call, End, slot, last, decide}
+use Rattle.rule_code.specs.Compiled.{IsStep, Codes, CodesAll, IsBody, IsNext}
+use Rattle.rule_code.specs.Homes.{AreOwnHomes}
+use Rattle.rule_code.proofs.Slots.{slots_less}
 use Rattle.bank_machine.specs.States.{State, Moves, builds, enters, enters_last, returns, decides, recalls}
-use Rattle.bank_machine.specs.Homes.{AreOwnHomes}
 use Rattle.bank_machine.specs.Ranged.{AreThere, IsRanged, IsRangedState}
-use Rattle.bank_machine.proofs.Slots.{slots_less}
 
 module _ (rules : List Rule) (sig : Sig) (homes : List ℕ) where
   -- behind the code of a term its slot is there, as all others, and the rest goes on

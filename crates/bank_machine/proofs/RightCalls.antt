@@ -5,16 +5,16 @@ use Rattle.term_core.proofs.Numbers.{same_or_not}
 use Rattle.spec_core.specs.declared.records.Spec.{Spec}
 use Rattle.value_bank.specs.Cells.{Cell, AddsCells}
 use Rattle.value_bank.proofs.Terms.{term_kept, terms_kept}
-use Rattle.bank_machine.specs.declared.instructions.Kind.{Kind}
-use Rattle.bank_machine.specs.declared.instructions.Kind.TheVariants.{Call}
+use Rattle.rule_code.specs.declared.instructions.Kind.{Kind}
+use Rattle.rule_code.specs.declared.instructions.Kind.TheVariants.{Call}
+use Rattle.rule_code.specs.Code.{call}
+use Rattle.rule_code.specs.Instructions.{Instruction, instruction, does}
+use Rattle.rule_code.proofs.Matches.{some_same}
+use Rattle.rule_code.proofs.RuleIndex.{set_same, set_other, at_end}
 use Rattle.bank_machine.specs.declared.kept_calls.Known.{Known}
 use Rattle.bank_machine.specs.declared.kept_calls.KeptCall.{KeptCall}
 use Rattle.bank_machine.specs.declared.kept_calls.KeptCalls.{KeptCalls}
-use Rattle.bank_machine.specs.Code.{call}
-use Rattle.bank_machine.specs.Instructions.{Instruction, instruction, does}
 use Rattle.bank_machine.specs.KeptCalls.{IsKept, Says, SaysNoMore, SaysAlso, HaveNoValues, IsRight, AreRight}
-use Rattle.bank_machine.proofs.Matches.{some_same}
-use Rattle.bank_machine.proofs.RuleIndex.{set_same, set_other, at_end}
 
 -- places without values
 

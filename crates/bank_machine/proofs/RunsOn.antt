@@ -5,12 +5,12 @@ use Rattle.term_core.specs.declared.ids.SortId.{SortId}
 use Rattle.spec_core.specs.WellSorted.{IsWellSorted}
 use Rattle.value_bank.specs.Cells.{Cell, IsTerm}
 use Rattle.value_bank.specs.declared.bank.ValueId.{ValueId}
+use Rattle.rule_code.specs.Code.{slot}
+use Rattle.rule_code.specs.Programs.{Program}
 use Rattle.bank_machine.specs.declared.answers.BankEval.TheVariants.{Value, Spent}
 use Rattle.bank_machine.specs.declared.turns.Turn.TheVariants.{Moved, Done, Stuck}
-use Rattle.bank_machine.specs.Code.{slot}
 use Rattle.bank_machine.specs.Fuel.{fuel}
 use Rattle.bank_machine.specs.Owed.{Pays}
-use Rattle.bank_machine.specs.Programs.{Program}
 use Rattle.bank_machine.specs.Runs.{Ran}
 use Rattle.bank_machine.specs.Stacks.{Stack, IsAt}
 use Rattle.bank_machine.specs.States.{State, state, Moves, Runs, stays, then}

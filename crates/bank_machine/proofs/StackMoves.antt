@@ -10,26 +10,27 @@ use Rattle.spec_core.specs.Gives.{Gives}
 use Rattle.spec_core.specs.WellSorted.{IsWellSorted}
 use Rattle.value_bank.specs.Cells.{Cell, cell, IsTerm, AreTerms, AddsCells}
 use Rattle.value_bank.proofs.Terms.{one_terms, terms_kept}
+use Rattle.rule_code.specs.Code.{Step, build, call, End, slot, last, slots, entries}
+use Rattle.rule_code.specs.Instructions.{Instruction, does, ends, IsCodeAt}
+use Rattle.rule_code.specs.Programs.{Program}
+use Rattle.rule_code.proofs.Matches.{some_same}
+use Rattle.rule_code.proofs.Slots.{slots_kept, slots_less}
+use Rattle.rule_code.proofs.Joined.{take_whole, drop_whole}
+use Rattle.rule_code.proofs.Testing.{slot_term, slot_there, slot_within}
 use Rattle.bank_machine.specs.declared.kept_calls.Known.{Known}
 use Rattle.bank_machine.specs.declared.turns.Turn.TheVariants.{Moved, Done, Stuck}
-use Rattle.bank_machine.specs.Code.{Step, build, call, End, slot, last, slots, entries}
-use Rattle.bank_machine.specs.Instructions.{Instruction, does, ends, IsCodeAt}
 use Rattle.bank_machine.specs.Calls.{IsCallAt, IsFound}
 use Rattle.bank_machine.specs.KeptCalls.{IsRight}
 use Rattle.bank_machine.specs.Owed.{IsOwed, Owes, Pays, HasCalled}
-use Rattle.bank_machine.specs.Programs.{Program}
 use Rattle.bank_machine.specs.Ranged.{AreThere, IsRanged, IsRangedEnd}
 use Rattle.bank_machine.specs.Sound.{IsReady}
 use Rattle.bank_machine.specs.Stacks.{Stack, stack, held, gathered, Waits, Stands, IsAt, IsReturned}
 use Rattle.bank_machine.specs.States.{Frame, frame, State, state, Moves, builds, enters, enters_last, returns, recalls, Enters, CallsIn, CallsNext}
 use Rattle.bank_machine.specs.Turns.{Works, Turns}
-use Rattle.bank_machine.proofs.Matches.{some_same}
 use Rattle.bank_machine.proofs.Moving.{call_next_costs, no_match_nothing, move_whole}
 use Rattle.bank_machine.proofs.Owing.{does_right, owes_on, owes_entered, owes_returned, call_gives}
-use Rattle.bank_machine.proofs.Slots.{slots_kept, slots_less}
 use Rattle.bank_machine.proofs.Fitting.{sound_ready}
-use Rattle.bank_machine.proofs.Stacked.{slot_added, frame_returned, stands_kept, waits_above, take_whole, drop_whole, length_take}
-use Rattle.bank_machine.proofs.Testing.{slot_term, slot_there, slot_within}
+use Rattle.bank_machine.proofs.Stacked.{slot_added, frame_returned, stands_kept, waits_above, length_take}
 
 -- places of slots
 

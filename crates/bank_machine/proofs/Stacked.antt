@@ -4,30 +4,17 @@ use Rattle.std.proofs.lemmas.List.{take-append-le, drop-append-le}
 use Rattle.term_core.specs.Tree.{Tree, trees_of}
 use Rattle.value_bank.specs.Cells.{Cell, IsTerm, AreTerms, AddsCells}
 use Rattle.value_bank.proofs.Terms.{terms_kept}
-use Rattle.bank_machine.specs.Code.{Step, End}
+use Rattle.rule_code.specs.Code.{Step, End}
+use Rattle.rule_code.proofs.Joined.{joined}
 use Rattle.bank_machine.specs.States.{Frame, State, state}
 use Rattle.bank_machine.specs.declared.held.Held.{Held}
 use Rattle.bank_machine.specs.Stacks.{Waits, Stands}
-
-pub joined : (cells : List Cell) (ps qs : List ℕ) (us vs : List Tree) → AreTerms cells ps (trees_of us) → AreTerms cells qs (trees_of vs) → AreTerms cells (ps ++ qs) (trees_of (us ++ vs))
-joined cells [] qs [] vs h k = k
-joined cells [] qs (u ∷ us) vs h k = absurd h
-joined cells (p ∷ ps) qs [] vs h k = absurd h
-joined cells (p ∷ ps) qs (u ∷ us) vs h k = (h.0, joined cells ps qs us vs h.1 k)
 
 pub take_take : (xs : List ℕ) (a b : ℕ) → a ≤ b → take a (take b xs) ≡ take a xs
 take_take xs zero b le = refl
 take_take xs (suc a) zero le = absurd (omega (arith, le))
 take_take [] (suc a) (suc b) le = refl
 take_take (x ∷ xs) (suc a) (suc b) le = ap (λ z. x ∷ z) (take_take xs a b (omega (arith, le)))
-
-pub take_whole : (xs ys : List ℕ) → take (length xs) (xs ++ ys) ≡ xs
-take_whole [] ys = refl
-take_whole (x ∷ xs) ys = ap (λ z. x ∷ z) (take_whole xs ys)
-
-pub drop_whole : (xs ys : List ℕ) → drop (length xs) (xs ++ ys) ≡ ys
-drop_whole [] ys = refl
-drop_whole (x ∷ xs) ys = drop_whole xs ys
 
 pub length_take : (xs : List ℕ) (n : ℕ) → n ≤ length xs → length (take n xs) ≡ n
 length_take xs zero le = refl

@@ -11,10 +11,13 @@ use Rattle.spec_core.specs.WellSorted.{IsWellSorted}
 use Rattle.value_bank.specs.Cells.{Cell, AreTerms}
 use Rattle.value_bank.specs.declared.bank.ValueId.{ValueId}
 use Rattle.value_bank.proofs.Placed.{term_within}
+use Rattle.rule_code.specs.Compiled.{IsBody, Holds}
+use Rattle.rule_code.specs.Programs.{Program, first_numbers}
+use Rattle.rule_code.proofs.Grown.{first_numbers_count, first_number_at}
+use Rattle.rule_code.proofs.Matches.{some_slot}
+use Rattle.rule_code.proofs.Testing.{terms_count}
 use Rattle.bank_machine.specs.declared.answers.BankEval.{BankEval}
 use Rattle.bank_machine.specs.declared.answers.BankEval.TheVariants.{Value, Spent}
-use Rattle.bank_machine.specs.Compiled.{IsBody, Holds}
-use Rattle.bank_machine.specs.Programs.{Program, first_numbers}
 use Rattle.bank_machine.specs.Ranged.{AreThere}
 use Rattle.bank_machine.specs.Runs.{StandAt, CanRun, IsBankEval, Ran}
 use Rattle.bank_machine.specs.Stacks.{stack}
@@ -22,11 +25,8 @@ use Rattle.bank_machine.specs.States.{State, state}
 use Rattle.bank_machine.specs.Turns.{Works}
 use Rattle.bank_machine.proofs.Entering.{all_of}
 use Rattle.bank_machine.proofs.Fitting.{start_sound}
-use Rattle.bank_machine.proofs.Grown.{first_numbers_count, first_number_at}
-use Rattle.bank_machine.proofs.Matches.{some_slot}
 use Rattle.bank_machine.proofs.Ranging.{body_ranged}
 use Rattle.bank_machine.proofs.Running.{run_gives, run_whole}
-use Rattle.bank_machine.proofs.Testing.{terms_count}
 
 -- the place of a value is within
 pub id_within : (cells : List Cell) (ids : List ValueId) (values : List Tree) → StandAt cells ids values → (i : ℕ) (id : ValueId) → slice_get ids i ≡ Some id → id.0 < length cells

@@ -5,9 +5,9 @@ use Rattle.term_core.specs.declared.ids.SortId.{SortId}
 use Rattle.spec_core.specs.declared.records.Rule.{Rule}
 use Rattle.spec_core.specs.declared.records.Spec.{Spec}
 use Rattle.value_bank.specs.Cells.{Cell, AreTerms}
-use Rattle.bank_machine.specs.Instructions.{IsCodeAt}
-use Rattle.bank_machine.specs.Matched.{Extends}
-use Rattle.bank_machine.specs.Programs.{Program}
+use Rattle.rule_code.specs.Instructions.{IsCodeAt}
+use Rattle.rule_code.specs.Matched.{Extends}
+use Rattle.rule_code.specs.Programs.{Program}
 use Rattle.bank_machine.specs.Sound.{IsReady}
 use Rattle.bank_machine.specs.States.{Frame, Enters}
 

@@ -1,10 +1,10 @@
 -- How many moves are left before the next use of a rule, at most, and how many cells a run adds.
 use Rattle.std.specs.Prelude.{ℕ, suc, ◌+◌, ◌*◌, ◌-◌, max, List, [], ◌∷◌, length, drop, reverse}
 use Rattle.spec_core.specs.declared.records.Rule.{Rule}
+use Rattle.rule_code.specs.Code.{Step, End, slot, last, decide}
+use Rattle.rule_code.specs.Instructions.{Instruction, does, ends}
+use Rattle.rule_code.specs.Programs.{Program}
 use Rattle.bank_machine.specs.declared.held.Held.{Held}
-use Rattle.bank_machine.specs.Code.{Step, End, slot, last, decide}
-use Rattle.bank_machine.specs.Instructions.{Instruction, does, ends}
-use Rattle.bank_machine.specs.Programs.{Program}
 use Rattle.bank_machine.specs.Stacks.{Stack}
 use Rattle.bank_machine.specs.States.{Frame, State}
 

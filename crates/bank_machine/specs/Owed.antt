@@ -4,10 +4,10 @@ use Rattle.std.specs.List.{AllByRecursion}
 use Rattle.term_core.specs.Tree.{Tree, app}
 use Rattle.spec_core.specs.declared.records.Spec.{Spec}
 use Rattle.spec_core.specs.Gives.{Gives}
+use Rattle.rule_code.specs.Code.{call, slots, Does}
+use Rattle.rule_code.specs.Instructions.{Instruction, does}
+use Rattle.rule_code.specs.Programs.{Program}
 use Rattle.bank_machine.specs.declared.held.Held.{Held}
-use Rattle.bank_machine.specs.Code.{call, slots, Does}
-use Rattle.bank_machine.specs.Instructions.{Instruction, does}
-use Rattle.bank_machine.specs.Programs.{Program}
 use Rattle.bank_machine.specs.Ranged.{AreThere}
 use Rattle.bank_machine.specs.Stacks.{Stack}
 use Rattle.bank_machine.specs.States.{Frame, frame, State}

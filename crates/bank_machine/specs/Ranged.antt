@@ -2,8 +2,8 @@
 use Rattle.std.specs.Prelude.{ℕ, suc, ◌<◌, List, [], ◌∷◌, length}
 use Rattle.std.specs.List.{AllByRecursion}
 use Rattle.spec_core.specs.declared.records.Rule.{Rule}
-use Rattle.bank_machine.specs.Code.{Step, build, call, End, slot, last, decide}
-use Rattle.bank_machine.specs.Homes.{AreOwnHomes}
+use Rattle.rule_code.specs.Code.{Step, build, call, End, slot, last, decide}
+use Rattle.rule_code.specs.Homes.{AreOwnHomes}
 use Rattle.bank_machine.specs.States.{Frame, State}
 
 abbrev pub AreThere : ℕ → List ℕ → Type 0

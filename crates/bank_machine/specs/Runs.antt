@@ -10,10 +10,10 @@ use Rattle.spec_core.specs.Overlap.{NoOverlap}
 use Rattle.spec_core.specs.Sorts.{Sorted, IsBuilt}
 use Rattle.value_bank.specs.Cells.{Cell, IsTerm, AreTerms}
 use Rattle.value_bank.specs.declared.bank.ValueId.{ValueId}
+use Rattle.rule_code.specs.Code.{slot}
+use Rattle.rule_code.specs.Programs.{Program, IsSide}
 use Rattle.bank_machine.specs.declared.answers.BankEval.{BankEval}
 use Rattle.bank_machine.specs.declared.answers.BankEval.TheVariants.{Value, Spent}
-use Rattle.bank_machine.specs.Code.{slot}
-use Rattle.bank_machine.specs.Programs.{Program, IsSide}
 use Rattle.bank_machine.specs.States.{State, state, StateGives, Runs}
 
 -- the values stand at these places

@@ -7,7 +7,7 @@ use Rattle.spec_core.specs.declared.records.Spec.{Spec}
 use Rattle.spec_core.specs.Sig.{IsConstructor}
 use Rattle.std.specs.List.{AllByRecursion}
 use Rattle.spec_core.specs.Sorts.{Sorted, IsBuilt, AreBuilt, IsValue}
-use Rattle.bank_machine.specs.Code.{Step, build, call, End, slot, last, decide, slots, entries}
+use Rattle.rule_code.specs.Code.{Step, build, call, End, slot, last, decide, slots, entries}
 use Rattle.bank_machine.specs.States.{Frame, State}
 
 module _ (spec : Spec) where

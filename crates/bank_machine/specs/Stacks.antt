@@ -2,10 +2,10 @@
 use Rattle.std.specs.Prelude.{◌≡◌, ℕ, ◌+◌, ◌≤◌, List, [], ◌∷◌, ◌++◌, Option, Some, None, take, drop, length, slice_index, reverse}
 use Rattle.term_core.specs.Tree.{trees_of}
 use Rattle.value_bank.specs.Cells.{Cell, AreTerms}
+use Rattle.rule_code.specs.Instructions.{Instruction, IsCodeAt}
+use Rattle.rule_code.specs.Code.{Step, End}
 use Rattle.bank_machine.specs.declared.held.Held.{Held}
 use Rattle.bank_machine.specs.declared.stack.Stack.{Stack as Kept}
-use Rattle.bank_machine.specs.Instructions.{Instruction, IsCodeAt}
-use Rattle.bank_machine.specs.Code.{Step, End}
 use Rattle.bank_machine.specs.States.{Frame, State}
 
 abbrev pub held : ℕ → ℕ → ℕ → Held

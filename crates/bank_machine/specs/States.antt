@@ -8,10 +8,10 @@ use Rattle.spec_core.specs.Sorts.{Sorted, AreBuilt}
 use Rattle.term_core.specs.declared.ids.SortId.{SortId}
 use Rattle.term_core.specs.Variables.{Numbered}
 use Rattle.spec_core.specs.Gives.{Gives}
-use Rattle.bank_machine.specs.Tests.{GoesOn}
-use Rattle.bank_machine.specs.Code.{Step, build, call, End, slot, last, decide, slots, entries, Does}
-use Rattle.bank_machine.specs.Compiled.{Fills, IsNext}
-use Rattle.bank_machine.specs.Homes.{AreOwnHomes}
+use Rattle.rule_code.specs.Tests.{GoesOn}
+use Rattle.rule_code.specs.Code.{Step, build, call, End, slot, last, decide, slots, entries, Does}
+use Rattle.rule_code.specs.Compiled.{Fills, IsNext}
+use Rattle.rule_code.specs.Homes.{AreOwnHomes}
 
 -- code that is under way: its slots so far, its further steps and its end
 pub record Frame : Type 0 where

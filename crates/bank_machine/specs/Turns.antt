@@ -5,11 +5,11 @@ use Rattle.term_core.specs.declared.ids.SortId.{SortId}
 use Rattle.spec_core.specs.Groups.{GroupsAreWhole}
 use Rattle.spec_core.specs.Overlap.{NoOverlap}
 use Rattle.value_bank.specs.Cells.{Cell, IsTerm}
+use Rattle.rule_code.specs.Code.{slot}
+use Rattle.rule_code.specs.Programs.{Program}
 use Rattle.bank_machine.specs.declared.turns.Turn.{Turn}
 use Rattle.bank_machine.specs.declared.turns.Turn.TheVariants.{Moved, Done, Stuck}
-use Rattle.bank_machine.specs.Code.{slot}
 use Rattle.bank_machine.specs.Owed.{Pays}
-use Rattle.bank_machine.specs.Programs.{Program}
 use Rattle.bank_machine.specs.Ranged.{IsRangedState}
 use Rattle.bank_machine.specs.Sound.{IsSound}
 use Rattle.bank_machine.specs.Stacks.{Stack, IsAt}

@@ -1,15 +1,5 @@
-ghost use Rattle.bank_machine.specs.Laws.{CodeIsRight, CodeIsWhole, MovesAreRight, MovesAreWhole, AtItsEnd, CallsCost, NoMatchGivesNothing, NoneGoesOnGivesNothing, RunGives, RunIsWhole, TestsMatch, TestsDecide, RepeatsDecide};
+ghost use Rattle.bank_machine.specs.Laws.{MovesAreRight, MovesAreWhole, AtItsEnd, CallsCost, NoMatchGivesNothing, NoneGoesOnGivesNothing, RunGives, RunIsWhole};
 ghost use Rattle.bank_machine.specs.SoundLaws.{StartIsSound, MovesKeepSound, SoundIsReady};
-
-/// What the code of a term gives, the term gives.
-pub fn code_is_right()
-    ensures { CodeIsRight }
-{}
-
-/// What a term gives, its code gives.
-pub fn code_is_whole()
-    ensures { CodeIsWhole }
-{}
 
 /// What the next state gives at some cost, the state gives at that cost and the cost of the move.
 pub fn moves_are_right()
@@ -52,22 +42,6 @@ pub fn run_gives()
 /// come to gives costs, where left sides don't overlap and groups are whole.
 pub fn run_is_whole()
     ensures { RunIsWhole }
-{}
-
-/// Where the tests of a left side pass and the slots of each variable have one value, it is the call
-/// with the values.
-pub fn tests_match()
-    ensures { TestsMatch }
-{}
-
-/// Where one of them fails, it is so under no entries.
-pub fn tests_decide()
-    ensures { TestsDecide }
-{}
-
-/// Where two slots of one variable differ, it is so under no entries.
-pub fn repeats_decide()
-    ensures { RepeatsDecide }
 {}
 
 /// The code of a sorted term is a sound state: each call that comes is sorted, and has values as

@@ -2,16 +2,13 @@ ghost use Rattle.std.specs.Prelude.{◌≡◌, ◌≤◌, ◌<◌, ◌+◌, ℕ,
 ghost use Rattle.term_core.specs.Variables.{Occurs};
 ghost use Rattle.spec_core.specs.TermText.{SymbolsAreInRange};
 ghost use Rattle.spec_core.specs.WellSorted.{IsWellSorted};
-ghost use Rattle.bank_machine.specs.Blocks.{AddsCode};
-ghost use Rattle.bank_machine.specs.Lengths.{term_length, rules_length};
-ghost use Rattle.bank_machine.specs.Programs.{AreRuleCodes, IsSide, first_numbers};
+ghost use Rattle.rule_code.specs.Blocks.{AddsCode};
+ghost use Rattle.rule_code.specs.Lengths.{term_length, rules_length};
+ghost use Rattle.rule_code.specs.Programs.{IsSide, first_numbers};
 
-use crate::blocks::emit_body;
-use crate::code::Code;
-use crate::decision_trees::DecisionTree;
-use crate::growing::grow_trees;
-use crate::index::index_rules;
-use crate::rule_codes::RuleCode;
+use rule_code::{
+    Code, DecisionTree, RuleCode, compile_rules, emit_body, grow_trees, index_rules,
+};
 use spec_core::Spec;
 use std::alloc::Global;
 use std::marker::Model;
@@ -28,7 +25,7 @@ pub struct Machine<'a> {
 }
 
 impl<'a> Model for Machine<'a> {
-    ghost use Rattle.bank_machine.specs.Programs.{Program, program, IsProgram};
+    ghost use Rattle.rule_code.specs.Programs.{Program, program, IsProgram};
     ghost use Rattle.spec_core.specs.contracts.records.Spec as spec_contract;
     ghost use Rattle.std.specs.Coded.{codes};
 
@@ -91,20 +88,6 @@ impl<'a> Machine<'a> {
         };
         Ok((made, place))
     }
-}
-
-/// The code of each rule.
-fn compile_rules(alloc: Global, spec: &Spec, code: &mut Code) -> Result<Vec<RuleCode>, OutOfMemory>
-    requires { IsWellSorted spec.now }
-    ensures codes { IfOk result (λ made. AreRuleCodes spec.now code.new (length spec.now.rules) made.items) }
-    ensures few { IfOk result (λ _. length code.new ≤ length code.old + rules_length spec.now.rules) }
-{
-    let count = spec.rules.len();
-    let mut made = Vec::with_capacity(alloc, count)?;
-    for number in 0..count {
-        made.push(RuleCode::of(alloc, spec, number, code)?)?;
-    }
-    Ok(made)
 }
 
 /// The numbers below `count`.

@@ -1,17 +1,17 @@
 ghost use Rattle.std.specs.Prelude.{ℕ, List, ◌≡◌, ◌<◌, ◌+◌, ◌^◌, Some, IfOk, slice_get};
 ghost use Rattle.spec_core.specs.WellSorted.{IsWellSorted};
-ghost use Rattle.bank_machine.specs.Code.{call as call_step};
-ghost use Rattle.bank_machine.specs.Instructions.{does};
+ghost use Rattle.rule_code.specs.Code.{call as call_step};
+ghost use Rattle.rule_code.specs.Instructions.{does};
 ghost use Rattle.bank_machine.specs.KeptCalls.{AreRight, IsRight};
 ghost use Rattle.bank_machine.specs.Owed.{HasCalled};
 ghost use Rattle.bank_machine.specs.Stacks.{shown, gathered};
 ghost use Rattle.bank_machine.specs.Turns.{IsWorking, IsTurn};
 
-use crate::instructions::Kind;
 use crate::kept_calls::{KeptCalls, Known};
 use crate::machine::Machine;
 use crate::stack::Stack;
 use crate::turns::Turn;
+use rule_code::Kind;
 use term_core::OutOfMemory;
 use value_bank::Bank;
 

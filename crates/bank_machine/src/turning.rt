@@ -1,17 +1,17 @@
 ghost use Rattle.std.specs.Prelude.{ℕ, suc, List, ◌≡◌, ◌<◌, ◌≤◌, ◌+◌, ◌^◌, Some, IfOk, length, slice_get};
 ghost use Rattle.spec_core.specs.WellSorted.{IsWellSorted};
 ghost use Rattle.value_bank.specs.Cells.{AddsCells};
-ghost use Rattle.bank_machine.specs.Code.{build as build_step, call as call_step, slot as slot_end, last as last_end, decide as decide_end};
-ghost use Rattle.bank_machine.specs.Instructions.{does, ends};
+ghost use Rattle.rule_code.specs.Code.{build as build_step, call as call_step, slot as slot_end, last as last_end, decide as decide_end};
+ghost use Rattle.rule_code.specs.Instructions.{does, ends};
 ghost use Rattle.bank_machine.specs.KeptCalls.{AreRight};
 ghost use Rattle.bank_machine.specs.Stacks.{shown};
 ghost use Rattle.bank_machine.specs.Turns.{IsWorking, IsUnderWay, IsTurn};
 
-use crate::instructions::Kind;
 use crate::kept_calls::{KeptCalls, Known};
 use crate::machine::Machine;
 use crate::stack::Stack;
 use crate::turns::Turn;
+use rule_code::Kind;
 use term_core::OutOfMemory;
 use value_bank::Bank;
 

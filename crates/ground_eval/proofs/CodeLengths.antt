@@ -8,8 +8,8 @@ use Rattle.spec_core.specs.declared.records.Equation.{Equation}
 use Rattle.spec_core.specs.declared.records.Goal.{Goal}
 use Rattle.spec_core.specs.declared.records.Guard.{Guard}
 use Rattle.spec_core.specs.declared.records.Rule.{Rule}
+use Rattle.rule_code.specs.Lengths.{term_length, tests_length, rules_length}
 use Rattle.bank_machine.specs.Fuel.{most_guards}
-use Rattle.bank_machine.specs.Lengths.{term_length, tests_length, rules_length}
 use Rattle.constants.specs.Shifted.{shifted, shifted_all, shifted_equation, shifted_guard, shifted_rule, shifted_goal}
 use Rattle.ground_eval.specs.Prepared.{sides_length, goal_length}
 

@@ -6,8 +6,8 @@ use Rattle.spec_core.specs.declared.records.Spec.{Spec}
 use Rattle.value_bank.specs.Cells.{Cell, AddsCells}
 use Rattle.value_bank.specs.declared.bank.ValueId.{ValueId}
 use Rattle.value_bank.proofs.Terms.{term_kept, terms_kept}
+use Rattle.rule_code.specs.Programs.{Program}
 use Rattle.bank_machine.specs.KeptCalls.{AreRight}
-use Rattle.bank_machine.specs.Programs.{Program}
 use Rattle.bank_machine.specs.declared.kept_calls.KeptCalls.{KeptCalls}
 use Rattle.ground_eval.specs.declared.comparing.SidePair.{SidePair}
 use Rattle.ground_eval.specs.Prepared.{CanCompareAll}

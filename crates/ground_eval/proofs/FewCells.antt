@@ -9,9 +9,9 @@ use Rattle.term_core.proofs.Items.{drop_here}
 use Rattle.term_core.specs.Tree.{Tree, trees_of, tree_size, sizes}
 use Rattle.spec_core.specs.declared.records.Goal.{Goal}
 use Rattle.spec_core.specs.declared.records.Spec.{Spec}
+use Rattle.rule_code.specs.Lengths.{rules_length}
+use Rattle.rule_code.specs.Programs.{Program}
 use Rattle.bank_machine.specs.Fuel.{most_guards, most_added}
-use Rattle.bank_machine.specs.Lengths.{rules_length}
-use Rattle.bank_machine.specs.Programs.{Program}
 use Rattle.ground_eval.specs.declared.comparing.SidePair.{SidePair}
 use Rattle.ground_eval.specs.declared.marks.Constants.{Constants}
 use Rattle.ground_eval.specs.Looked.{most_compared, most_run, most_evaluated, most_over, most_looked}

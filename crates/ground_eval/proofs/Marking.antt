@@ -5,7 +5,7 @@ use Rattle.std.proofs.lemmas.Option.{slice_get_within, slice_get_read}
 use Rattle.term_core.specs.Tree.{Tree, Trees, var, app, some}
 use Rattle.value_bank.specs.Cells.{Cell, cell, IsTerm, AreTerms, AddsCells}
 use Rattle.value_bank.proofs.Terms.{one_term_at, term_kept}
-use Rattle.bank_machine.proofs.Homes.{get_either}
+use Rattle.rule_code.proofs.Homes.{get_either}
 use Rattle.ground_eval.specs.Constants.{IsConstant, HasConstant, SomeHasConstant, HeadsAreApart, AreApart, IsMarked, AreMarks}
 
 -- the term at a place has the symbol of the cell

@@ -15,7 +15,7 @@ use Rattle.spec_core.specs.Truth.{AreValuesOf}
 use Rattle.spec_core.proofs.Determined.{occurs_within}
 use Rattle.value_bank.specs.Cells.{Cell}
 use Rattle.value_bank.specs.declared.bank.ValueId.{ValueId}
-use Rattle.bank_machine.specs.Programs.{Program}
+use Rattle.rule_code.specs.Programs.{Program}
 use Rattle.constants.specs.Shifted.{closed, shifted_equation}
 use Rattle.constants.proofs.Extended.{info_constant, value_kept}
 use Rattle.open_walk.specs.OpenGives.{VariablesAreBelow}

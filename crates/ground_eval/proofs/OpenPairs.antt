@@ -4,7 +4,7 @@ use Rattle.std.specs.Prelude.{slice_get}
 use Rattle.spec_core.specs.declared.records.Equation.{Equation}
 use Rattle.value_bank.specs.Cells.{Cell, AddsCells}
 use Rattle.value_bank.specs.declared.bank.ValueId.{ValueId}
-use Rattle.bank_machine.specs.Programs.{Program}
+use Rattle.rule_code.specs.Programs.{Program}
 use Rattle.ground_eval.specs.declared.comparing.SidePair.{SidePair}
 use Rattle.ground_eval.specs.OpenSides.{Setting, CanOpen, CanOpenAll, with_constants}
 use Rattle.ground_eval.proofs.SharedSides.{stand_kept}

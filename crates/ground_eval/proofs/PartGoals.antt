@@ -20,9 +20,9 @@ use Rattle.spec_core.specs.Verdict.{ConclusionsSay, PremisesSay, IsVerdict}
 use Rattle.spec_core.proofs.Determined.{occurs_within}
 use Rattle.value_bank.specs.Cells.{Cell}
 use Rattle.value_bank.specs.declared.bank.ValueId.{ValueId}
-use Rattle.bank_machine.specs.Programs.{Program}
+use Rattle.rule_code.specs.Programs.{Program}
+use Rattle.rule_code.proofs.Testing.{terms_count}
 use Rattle.bank_machine.specs.Runs.{StandAt}
-use Rattle.bank_machine.proofs.Testing.{terms_count}
 use Rattle.constants.specs.Shifted.{closed, shifted_goal}
 use Rattle.constants.proofs.ShiftedRules.{shifted_goal_sorted}
 use Rattle.open_walk.specs.OpenGives.{VariablesAreBelow}

@@ -8,8 +8,8 @@ use Rattle.spec_core.specs.declared.records.VarInfo.{VarInfo}
 use Rattle.spec_core.specs.WellSorted.{sorts_of}
 use Rattle.value_bank.specs.Cells.{Cell, IsTerm, AreTerms, AddsCells}
 use Rattle.value_bank.specs.declared.bank.ValueId.{ValueId}
+use Rattle.rule_code.proofs.Joined.{joined}
 use Rattle.bank_machine.specs.Runs.{StandAt}
-use Rattle.bank_machine.proofs.Stacked.{joined}
 use Rattle.ground_eval.proofs.SharedSides.{stand_kept}
 
 -- a variable's sort is that of the list

@@ -12,8 +12,8 @@ use Rattle.value_bank.specs.Cells.{Cell}
 use Rattle.value_bank.specs.Answers.{IsAnswer, IsLarge}
 use Rattle.value_bank.specs.declared.bank.ValueId.{ValueId}
 use Rattle.value_bank.proofs.Terms.{one_term_at}
+use Rattle.rule_code.specs.Programs.{Program, IsSide}
 use Rattle.bank_machine.specs.declared.answers.BankEval.TheVariants as found
-use Rattle.bank_machine.specs.Programs.{Program, IsSide}
 use Rattle.bank_machine.specs.Runs.{CanRun, IsBankEval}
 use Rattle.ground_eval.specs.declared.answers.Eval.{Eval}
 use Rattle.ground_eval.specs.declared.answers.Eval.TheVariants.{Value, Large, Spent}

@@ -15,23 +15,23 @@ use Rattle.spec_core.specs.Sig.{Sig}
 use Rattle.spec_core.specs.WellSorted.{EquationsAreSorted, GoalIsSorted, sorts_of}
 use Rattle.value_bank.specs.Cells.{Cell, IsTerm, AreTerms, AddsCells}
 use Rattle.value_bank.specs.Ground.{IsGround, AreGround}
-use Rattle.bank_machine.proofs.Homes.{get_either}
-use Rattle.bank_machine.proofs.Stacked.{joined}
+use Rattle.rule_code.proofs.Homes.{get_either}
+use Rattle.rule_code.proofs.Joined.{joined}
 use Rattle.ground_eval.proofs.Lists.{take_here}
 use Rattle.value_bank.specs.declared.bank.ValueId.{ValueId}
 use Rattle.value_bank.proofs.Terms.{term_kept, terms_kept}
+use Rattle.rule_code.specs.Blocks.{AddsCode}
+use Rattle.rule_code.specs.Programs.{Program, IsSide, first_numbers}
+use Rattle.rule_code.specs.Compiled.{IsBody}
+use Rattle.rule_code.proofs.Placed.{code_kept}
 use Rattle.bank_machine.specs.declared.answers.BankEval.TheVariants.{Value, Spent}
-use Rattle.bank_machine.specs.Blocks.{AddsCode}
-use Rattle.bank_machine.specs.Programs.{Program, IsSide, first_numbers}
-use Rattle.bank_machine.specs.Compiled.{IsBody}
 use Rattle.bank_machine.specs.Runs.{StandAt, CanRun, IsBankEval}
-use Rattle.bank_machine.proofs.Placed.{code_kept}
 use Rattle.ground_eval.specs.declared.answers.Sides.TheVariants.{Same, Differ, Spent as SidesAreSpent}
 use Rattle.ground_eval.specs.declared.comparing.SidePair.{SidePair}
 use Rattle.ground_eval.specs.Prepared.{HasCode, HaveCode, IsPrepared, CanCompare, CanCompareAll}
 use Rattle.ground_eval.specs.Sides.{HasOneSort, SidesAre}
 use Rattle.ground_eval.proofs.GoalSides.{values_built, have_one_sort}
-use Rattle.bank_machine.proofs.Testing.{terms_count}
+use Rattle.rule_code.proofs.Testing.{terms_count}
 use Rattle.spec_core.specs.Truth.{AreValuesOf}
 use Rattle.spec_core.specs.declared.records.Goal.{Goal}
 use Rattle.spec_core.specs.declared.records.VarInfo.{VarInfo}

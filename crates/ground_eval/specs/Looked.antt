@@ -1,8 +1,8 @@
 -- The most cells that verdicts of a goal add to a bank.
 use Rattle.std.specs.Prelude.{ℕ, suc, ◌+◌, ◌*◌, ◌^◌, length}
+use Rattle.rule_code.specs.Lengths.{rules_length}
+use Rattle.rule_code.specs.Programs.{Program}
 use Rattle.bank_machine.specs.Fuel.{most_guards, most_added}
-use Rattle.bank_machine.specs.Lengths.{rules_length}
-use Rattle.bank_machine.specs.Programs.{Program}
 use Rattle.ground_eval.specs.Opened.{Partial}
 use Rattle.ground_eval.specs.Prepared.{goal_length}
 

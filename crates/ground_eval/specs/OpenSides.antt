@@ -13,8 +13,8 @@ use Rattle.spec_core.specs.Overlap.{NoOverlap}
 use Rattle.spec_core.specs.Groups.{GroupsAreWhole}
 use Rattle.value_bank.specs.Cells.{Cell}
 use Rattle.value_bank.specs.declared.bank.ValueId.{ValueId}
-use Rattle.bank_machine.specs.Lengths.{rules_length}
-use Rattle.bank_machine.specs.Programs.{Program}
+use Rattle.rule_code.specs.Lengths.{rules_length}
+use Rattle.rule_code.specs.Programs.{Program}
 use Rattle.constants.specs.Shifted.{shifted, closed, shifted_equation}
 use Rattle.open_walk.specs.OpenGives.{VariablesAreBelow}
 use Rattle.open_walk.specs.OpenVerdict.{OpenSame, OpenDiffer, OpenConclusionsSay, OpenPremisesSay, IsOpenVerdict}

@@ -7,8 +7,8 @@ use Rattle.spec_core.specs.declared.records.Goal.{Goal}
 use Rattle.spec_core.specs.Sorts.{IsBuilt}
 use Rattle.value_bank.specs.Cells.{Cell}
 use Rattle.value_bank.specs.declared.bank.ValueId.{ValueId}
-use Rattle.bank_machine.specs.Lengths.{term_length}
-use Rattle.bank_machine.specs.Programs.{Program, IsSide}
+use Rattle.rule_code.specs.Lengths.{term_length}
+use Rattle.rule_code.specs.Programs.{Program, IsSide}
 use Rattle.bank_machine.specs.Runs.{StandAt}
 use Rattle.ground_eval.specs.declared.comparing.SidePair.{SidePair}
 use Rattle.ground_eval.specs.Sides.{HasOneSort}

@@ -6,7 +6,7 @@ ghost use Rattle.spec_core.specs.WellSorted.{IsWellSorted, GoalIsSorted, Equatio
 ghost use Rattle.std.specs.List.{AllByRecursion};
 ghost use Rattle.value_bank.specs.Cells.{AddsCells};
 ghost use Rattle.value_bank.specs.Ground.{IsGround};
-ghost use Rattle.bank_machine.specs.Blocks.{AddsCode};
+ghost use Rattle.rule_code.specs.Blocks.{AddsCode};
 ghost use Rattle.bank_machine.specs.KeptCalls.{AreRight};
 ghost use Rattle.bank_machine.specs.Runs.{StandAt};
 ghost use Rattle.ground_eval.specs.Looked.{most_compared};

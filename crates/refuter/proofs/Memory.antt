@@ -8,7 +8,7 @@ use Rattle.term_core.proofs.Members.{In}
 use Rattle.spec_core.specs.Sig.{Sig}
 use Rattle.spec_core.specs.Order.{product, values}
 use Rattle.value_bank.specs.Cells.{Cell, AreTerms}
-use Rattle.bank_machine.proofs.Testing.{terms_count}
+use Rattle.rule_code.proofs.Testing.{terms_count}
 use Rattle.refuter.specs.declared.parts.Look.{Look}
 use Rattle.refuter.specs.declared.parts.Look.TheVariants.{Whole, Cut, Found}
 use Rattle.refuter.specs.declared.walking.Walk.{Walk}

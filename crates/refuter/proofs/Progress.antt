@@ -17,7 +17,7 @@ use Rattle.refuter.specs.Bounded.{rows_within}
 use Rattle.refuter.specs.After.{rows_after}
 use Rattle.refuter.specs.Moves.{GoesOn}
 use Rattle.value_bank.specs.Cells.{Cell, AreTerms}
-use Rattle.bank_machine.proofs.Stacked.{joined}
+use Rattle.rule_code.proofs.Joined.{joined}
 use Rattle.refuter.proofs.InLists.{first_in}
 use Rattle.refuter.proofs.Members.{all_flat_map, all_map}
 use Rattle.refuter.proofs.Chains.{first_row, next_row}

@@ -9,7 +9,7 @@ use Rattle.value_bank.specs.Cells.{Cell, cell, IsTerm, AreTerms, AddsCells}
 use Rattle.value_bank.specs.Ground.{IsGround, AreGround}
 use Rattle.value_bank.proofs.Terms.{term_kept, terms_kept, one_term_at}
 use Rattle.value_bank.proofs.Placed.{app_placed}
-use Rattle.bank_machine.proofs.Stacked.{joined}
+use Rattle.rule_code.proofs.Joined.{joined}
 use Rattle.ground_eval.proofs.Lists.{take_here}
 use Rattle.refuter.specs.Sizes.{GivesSize, AreSizes, IsSizeBy, IsNoted, CanRead}
 

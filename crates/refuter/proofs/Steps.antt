@@ -18,7 +18,7 @@ use Rattle.refuter.specs.Moves.{IsPlaceOf, GoesOn}
 use Rattle.value_bank.specs.Cells.{Cell, cell, IsTerm, AreTerms, AddsCells}
 use Rattle.value_bank.proofs.Terms.{term_kept, one_term_at, one_terms, same_cell}
 use Rattle.value_bank.proofs.Placed.{app_placed}
-use Rattle.bank_machine.proofs.Stacked.{drop_whole, take_whole}
+use Rattle.rule_code.proofs.Joined.{drop_whole, take_whole}
 use Rattle.refuter.proofs.InLists.{filter_parts, flat_map_parts, map_parts, begun_parts, first_in}
 use Rattle.refuter.proofs.Bounded.{values_step, values_zero, values_none, rows_begin, rows_end}
 use Rattle.refuter.proofs.Least.{rows_have, row_fits, none_fits, some_fits}

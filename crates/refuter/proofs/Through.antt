@@ -12,7 +12,7 @@ use Rattle.spec_core.specs.declared.records.Goal.{Goal}
 use Rattle.spec_core.specs.WellSorted.{sorts_of}
 use Rattle.value_bank.specs.Cells.{Cell, AreTerms, AddsCells}
 use Rattle.value_bank.proofs.Terms.{terms_kept}
-use Rattle.bank_machine.proofs.Testing.{terms_count}
+use Rattle.rule_code.proofs.Testing.{terms_count}
 use Rattle.refuter.specs.declared.parts.Look.{Look}
 use Rattle.refuter.specs.declared.parts.Look.TheVariants.{Whole}
 use Rattle.refuter.specs.declared.parts.Tally.{Tally}

@@ -15,8 +15,8 @@ use Rattle.spec_core.specs.Sig.{Sig, IsSort}
 use Rattle.spec_core.specs.WellSorted.{sorts_of}
 use Rattle.spec_core.specs.Truth.{AreValuesOf}
 use Rattle.value_bank.specs.Cells.{Cell, AreTerms}
-use Rattle.bank_machine.proofs.Stacked.{joined}
-use Rattle.bank_machine.proofs.Testing.{terms_count}
+use Rattle.rule_code.proofs.Joined.{joined}
+use Rattle.rule_code.proofs.Testing.{terms_count}
 use Rattle.refuter.specs.Bounded.{rows_within}
 use Rattle.ground_eval.specs.Opened.{AreFirstValues}
 use Rattle.refuter.specs.Blocks.{rows_of, block, IsBegun}

@@ -9,7 +9,7 @@ use Rattle.spec_core.specs.declared.records.VarInfo.{VarInfo}
 use Rattle.spec_core.specs.Order.{substitutions}
 use Rattle.spec_core.specs.Truth.{AreValuesOf}
 use Rattle.spec_core.specs.WellSorted.{sorts_of}
-use Rattle.bank_machine.proofs.Ranges.{sorted_in_range}
+use Rattle.rule_code.proofs.Ranges.{sorted_in_range}
 use Rattle.refuter.specs.declared.answers.Search.{Search}
 use Rattle.refuter.specs.declared.answers.Search.TheVariants.{Found, NotFound}
 use Rattle.refuter.specs.Finds.{IsFalse}

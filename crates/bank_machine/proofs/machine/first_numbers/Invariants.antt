@@ -1,5 +1,5 @@
 use Rattle.std.proofs.Common.{◌≡◌}
-use Rattle.bank_machine.specs.Programs.{first_numbers}
+use Rattle.rule_code.specs.Programs.{first_numbers}
 use Rattle.bank_machine.proofs.machine.first_numbers.Given as goal
 
 abbrev pub invariant-loop-number : goal.invariant-loop-number

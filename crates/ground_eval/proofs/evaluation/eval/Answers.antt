@@ -6,9 +6,9 @@ use Rattle.spec_core.specs.TermText.{SymbolsAreInRange}
 use Rattle.spec_core.proofs.Determined.{occurs_within}
 use Rattle.value_bank.specs.Answers.{IsAnswer}
 use Rattle.value_bank.proofs.Placed.{term_within}
+use Rattle.rule_code.proofs.Ranges.{sorted_in_range}
 use Rattle.bank_machine.specs.declared.answers.BankEval.TheVariants as found
 use Rattle.bank_machine.specs.Runs.{IsBankEval}
-use Rattle.bank_machine.proofs.Ranges.{sorted_in_range}
 use Rattle.ground_eval.specs.declared.answers.Eval.TheVariants.{Value, Large}
 use Rattle.ground_eval.proofs.Same.{eval_only, ground_runs, value_read, value_large, none_found}
 use Rattle.ground_eval.proofs.evaluation.eval.Goals as goal

@@ -1,6 +1,6 @@
 use Rattle.std.proofs.Common.{◌≡◌, ◌↔◌, refl, sym, subst, false, true}
 use Rattle.std.specs.Prelude.{IsTrue, List, ℕ}
-use Rattle.bank_machine.proofs.Ranges.{item_listed}
+use Rattle.rule_code.proofs.Ranges.{item_listed}
 use Rattle.term_core.specs.Tree.{Trees, none}
 use Rattle.value_bank.specs.Cells.{AreTerms}
 use Rattle.ground_eval.specs.Constants.{SomeHasConstant}

@@ -2,8 +2,8 @@ use Rattle.std.proofs.Common.{◌≡◌, refl, sym, ◌∙◌, subst, arith, len
 use Rattle.spec_core.specs.declared.records.Spec.{Spec}
 use Rattle.spec_core.specs.TermText.{SymbolsAreInRange}
 use Rattle.spec_core.proofs.Determined.{occurs_within}
-use Rattle.bank_machine.proofs.Placed.{adds_both}
-use Rattle.bank_machine.proofs.Ranges.{item_listed, sorted_in_range}
+use Rattle.rule_code.proofs.Placed.{adds_both}
+use Rattle.rule_code.proofs.Ranges.{item_listed, sorted_in_range}
 use Rattle.ground_eval.specs.Prepared.{HasCode, pair_of}
 use Rattle.ground_eval.proofs.CodeLengths.{next_sides}
 use Rattle.ground_eval.proofs.SharedSides.{side_kept, pairs_kept, pair_added}

@@ -1,5 +1,5 @@
 use Rattle.std.proofs.Common.{◌≡◌, ◌+◌, ◌≤◌, take, drop, length}
-use Rattle.bank_machine.specs.Blocks.{AddsCode}
+use Rattle.rule_code.specs.Blocks.{AddsCode}
 use Rattle.ground_eval.specs.Prepared.{HaveCode, sides_length}
 use Rattle.ground_eval.proofs.prepared.compile_sides.Given as goal
 

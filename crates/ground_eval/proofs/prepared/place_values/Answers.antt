@@ -1,6 +1,6 @@
 use Rattle.std.proofs.Common.{refl, length}
 use Rattle.value_bank.proofs.Placed.{adds_both}
-use Rattle.bank_machine.proofs.Ranges.{item_listed}
+use Rattle.rule_code.proofs.Ranges.{item_listed}
 use Rattle.ground_eval.proofs.FewCells.{values_few}
 use Rattle.ground_eval.proofs.SharedSides.{value_stands}
 use Rattle.ground_eval.proofs.prepared.place_values.Goals as goal

@@ -2,7 +2,7 @@ use Rattle.std.proofs.Common.{arith, ◌∙◌, ◌++◌, ◌∷◌, [], refl, a
 use Rattle.term_core.specs.Tree.{sizes, trees_of}
 use Rattle.term_core.proofs.Trees.{sizes-append}
 use Rattle.value_bank.proofs.Placed.{adds_both, term_within}
-use Rattle.bank_machine.proofs.Ranges.{item_listed}
+use Rattle.rule_code.proofs.Ranges.{item_listed}
 use Rattle.ground_eval.proofs.Lists.{take_here}
 use Rattle.refuter.proofs.Sizing.{next_place}
 use Rattle.refuter.proofs.sized_bank.place_terms.Goals as goal

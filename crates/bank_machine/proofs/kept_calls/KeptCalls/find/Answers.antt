@@ -1,5 +1,5 @@
 use Rattle.std.proofs.Common.{sym, ◌∙◌}
-use Rattle.bank_machine.proofs.Ranges.{item_listed}
+use Rattle.rule_code.proofs.Ranges.{item_listed}
 use Rattle.bank_machine.proofs.RightCalls.{says_known}
 use Rattle.bank_machine.proofs.kept_calls.KeptCalls.find.Goals as goal
 

@@ -1,7 +1,7 @@
 use Rattle.std.proofs.Common.{sym, ◌∙◌, subst, length}
 use Rattle.value_bank.specs.Cells.{AreBelow}
 use Rattle.value_bank.proofs.Placed.{terms_within}
-use Rattle.bank_machine.specs.Code.{slots}
+use Rattle.rule_code.specs.Code.{slots}
 use Rattle.bank_machine.specs.Stacks.{shown}
 use Rattle.bank_machine.proofs.StackMoves.{build_slots, build_args, built}
 use Rattle.bank_machine.proofs.machine.Machine.build.Goals as goal

@@ -2,12 +2,12 @@ use Rattle.std.proofs.Common.{◌≤◌, ◌+◌, Some, ap, ◌∙◌, subst, ar
 use Rattle.std.proofs.lemmas.Option.{slice_get_within}
 use Rattle.term_core.specs.Tree.{var, instance}
 use Rattle.value_bank.proofs.Placed.{term_within}
-use Rattle.bank_machine.specs.Branches.{IsFollowerOn}
-use Rattle.bank_machine.specs.Programs.{Program, IsProgram}
+use Rattle.rule_code.specs.Branches.{IsFollowerOn}
+use Rattle.rule_code.specs.Programs.{Program, IsProgram}
+use Rattle.rule_code.proofs.Ranges.{item_listed}
+use Rattle.rule_code.proofs.Testing.{read_is}
 use Rattle.bank_machine.specs.Stacks.{shown}
 use Rattle.bank_machine.proofs.Deciding.{answer_slot, answer_term, rule_within, none_follows, no_branch, other_within, next_block, cut_within, followed, asked_rule, answered_by}
-use Rattle.bank_machine.proofs.Ranges.{item_listed}
-use Rattle.bank_machine.proofs.Testing.{read_is}
 use Rattle.bank_machine.proofs.machine.Machine.decide.Goals as goal
 
 pub slot-requires : goal.slot-requires

@@ -7,14 +7,14 @@ use Rattle.term_core.specs.Tree.{app, instance, trees_of}
 use Rattle.spec_core.specs.declared.records.Rule.{Rule}
 use Rattle.spec_core.specs.WellSorted.{IsWellSorted}
 use Rattle.value_bank.specs.Cells.{AreTerms}
-use Rattle.bank_machine.specs.Index.{numbers_of}
+use Rattle.rule_code.specs.Index.{numbers_of}
+use Rattle.rule_code.specs.Matched.{Tells}
+use Rattle.rule_code.specs.Programs.{Program, program}
+use Rattle.rule_code.proofs.Matches.{some_same}
+use Rattle.rule_code.proofs.Descending.{rest_is}
 use Rattle.bank_machine.specs.Calls.{IsCallAt, IsFound, FoundBy}
-use Rattle.bank_machine.specs.Matched.{Tells}
-use Rattle.bank_machine.specs.Programs.{Program, program}
 use Rattle.bank_machine.specs.Sound.{IsReady}
-use Rattle.bank_machine.proofs.Matches.{some_same}
 use Rattle.bank_machine.proofs.Entering.{tree_there, tree_at, tried, number_within, as_many, call_is, entered}
-use Rattle.bank_machine.proofs.Descending.{rest_is}
 use Rattle.bank_machine.proofs.Numbers.{match_listed}
 use Rattle.bank_machine.proofs.machine.Machine.find.Goals as goal
 

@@ -1,9 +1,9 @@
 use Rattle.std.proofs.Common.{◌≡◌, ◌-◌, Some, ap, sym, ◌∙◌, subst}
 use Rattle.std.specs.Prelude.{slice_get}
 use Rattle.term_core.proofs.Items.{if_ok_map}
-use Rattle.bank_machine.specs.Instructions.{instruction}
+use Rattle.rule_code.specs.Instructions.{instruction}
+use Rattle.rule_code.specs.Programs.{Program}
 use Rattle.bank_machine.specs.KeptCalls.{IsRight}
-use Rattle.bank_machine.specs.Programs.{Program}
 use Rattle.bank_machine.specs.Stacks.{gathered}
 use Rattle.bank_machine.proofs.RightCalls.{step_before, right_also}
 use Rattle.bank_machine.proofs.machine.Machine.keep.Goals as goal

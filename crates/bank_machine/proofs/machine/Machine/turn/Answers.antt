@@ -1,6 +1,6 @@
 use Rattle.std.proofs.Common.{◌<◌, sym, subst, length}
 use Rattle.term_core.proofs.Items.{if_ok_map}
-use Rattle.bank_machine.specs.Programs.{Program}
+use Rattle.rule_code.specs.Programs.{Program}
 use Rattle.bank_machine.proofs.Fuelled.{code_there}
 use Rattle.bank_machine.proofs.RightCalls.{right_kept}
 use Rattle.bank_machine.proofs.machine.Machine.turn.Goals as goal

@@ -1,10 +1,10 @@
 use Rattle.std.proofs.Common.{◌+◌, ◌≤◌, ap, ◌∙◌, subst, length, arith}
-use Rattle.bank_machine.specs.Blocks.{AddsCode}
-use Rattle.bank_machine.specs.Lengths.{term_length}
-use Rattle.bank_machine.specs.Programs.{Program}
-use Rattle.bank_machine.proofs.Placed.{block_adds}
-use Rattle.bank_machine.proofs.Lengths.{body_length}
-use Rattle.bank_machine.proofs.Grown.{first_numbers_count, program_kept, side_added}
+use Rattle.rule_code.specs.Blocks.{AddsCode}
+use Rattle.rule_code.specs.Lengths.{term_length}
+use Rattle.rule_code.specs.Programs.{Program}
+use Rattle.rule_code.proofs.Placed.{block_adds}
+use Rattle.rule_code.proofs.Lengths.{body_length}
+use Rattle.rule_code.proofs.Grown.{first_numbers_count, program_kept, side_added}
 use Rattle.bank_machine.proofs.machine.Machine.with_term.Goals as goal
 
 pub emit_body-requires-clause-variables : goal.emit_body-requires-clause-variables

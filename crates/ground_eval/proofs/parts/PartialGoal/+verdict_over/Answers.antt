@@ -9,8 +9,8 @@ use Rattle.spec_core.specs.Gives.{boolean}
 use Rattle.spec_core.specs.WellSorted.{IsWellSorted, GoalIsSorted, sorts_of}
 use Rattle.value_bank.specs.declared.bank.ValueId.{ValueId}
 use Rattle.value_bank.proofs.Placed.{adds_both}
+use Rattle.rule_code.proofs.Ranges.{item_listed}
 use Rattle.bank_machine.specs.Runs.{StandAt}
-use Rattle.bank_machine.proofs.Ranges.{item_listed}
 use Rattle.ground_eval.specs.Entries.{SayOfAll}
 use Rattle.ground_eval.specs.Opened.{Partial}
 use Rattle.ground_eval.proofs.Comparable.{right_still}

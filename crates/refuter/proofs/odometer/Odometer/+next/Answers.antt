@@ -10,7 +10,7 @@ use Rattle.term_core.proofs.Members.{in_contained, contained_in}
 use Rattle.value_bank.specs.Cells.{IsTerm, AreTerms, AreBelow, AddsCells}
 use Rattle.value_bank.proofs.Terms.{term_kept}
 use Rattle.value_bank.proofs.Placed.{terms_within, term_within}
-use Rattle.bank_machine.proofs.Stacked.{drop_whole}
+use Rattle.rule_code.proofs.Joined.{drop_whole}
 use Rattle.ground_eval.proofs.Lists.{take_here}
 use Rattle.refuter.specs.After.{rows_after, values_after}
 use Rattle.refuter.specs.Moves.{IsPlaceOf, GoesOn}

@@ -1,7 +1,7 @@
 use Rattle.std.proofs.Common.{arith, subst}
 use Rattle.ground_eval.specs.Opened.{IsPart}
 use Rattle.refuter.proofs.Walks.{first_values, variables_long}
-use Rattle.bank_machine.proofs.Testing.{terms_count}
+use Rattle.rule_code.proofs.Testing.{terms_count}
 use Rattle.refuter.proofs.walking.Walk.ask.Goals as goal
 
 pub size-requires-clause-last : goal.size-requires-clause-last

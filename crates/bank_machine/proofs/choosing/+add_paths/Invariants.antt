@@ -1,5 +1,0 @@
-use Rattle.term_core.specs.Measure.{list_weight}
-use Rattle.bank_machine.proofs.choosing.+add_paths.Given as goal
-
-abbrev pub decreases-add_paths : goal.decreases-add_paths
-decreases-add_paths l = list_weight l.terms.now

@@ -1,5 +1,0 @@
-use Rattle.bank_machine.specs.Branches.{AreBranchesBelow}
-use Rattle.bank_machine.proofs.following.find_branches.Given as goal
-
-abbrev pub invariant-loop-asked : goal.invariant-loop-asked
-invariant-loop-asked l = AreBranchesBelow l.rules l.rule l.asked l.branches.items

@@ -1,0 +1,27 @@
+ghost use Rattle.rule_code.specs.Laws.{CodeIsRight, CodeIsWhole, TestsMatch, TestsDecide, RepeatsDecide};
+
+/// What the code of a term gives, the term gives.
+pub fn code_is_right()
+    ensures { CodeIsRight }
+{}
+
+/// What a term gives, its code gives.
+pub fn code_is_whole()
+    ensures { CodeIsWhole }
+{}
+
+/// Where the tests of a left side pass and the slots of each variable have one value, it is the call
+/// with the values.
+pub fn tests_match()
+    ensures { TestsMatch }
+{}
+
+/// Where one of them fails, it is so under no entries.
+pub fn tests_decide()
+    ensures { TestsDecide }
+{}
+
+/// Where two slots of one variable differ, it is so under no entries.
+pub fn repeats_decide()
+    ensures { RepeatsDecide }
+{}
