@@ -6,9 +6,7 @@ ghost use Rattle.rule_code.specs.Blocks.{AddsCode};
 ghost use Rattle.rule_code.specs.Lengths.{term_length, rules_length};
 ghost use Rattle.rule_code.specs.Programs.{IsSide, first_numbers};
 
-use rule_code::{
-    Code, DecisionTree, RuleCode, compile_rules, emit_body, grow_trees, index_rules,
-};
+use rule_code::{Code, DecisionTree, RuleCode, compile_rules, emit_body, grow_trees, index_rules};
 use spec_core::Spec;
 use std::alloc::Global;
 use std::marker::Model;

@@ -1,8 +1,8 @@
 //! Evaluation of ground terms, and the verdict of a goal under values, each within a budget of rule
 //! uses.
 //!
-//! It stands on term_core, spec_core, value_bank, bank_machine, and, for verdicts where only the
-//! first variables have values, on constants and open_walk. Its contracts say against
+//! It stands on term_core, spec_core, value_bank, rule_code, bank_machine, and, for verdicts where
+//! only the first variables have values, on constants and open_walk. Its contracts say against
 //! spec_core's definitions that a value and its cost are right, that Spent comes only where nothing
 //! fits the budget, and that a verdict is the goal's. Who wants one verdict calls [`verdict`]. A
 //! search makes one [`PartialGoal`] and one bank for the verdicts of a goal and uses the clauses of

@@ -54,7 +54,11 @@ impl RuleCode {
 }
 
 /// Adds the code of each rule, one behind the other.
-pub fn compile_rules(alloc: Global, spec: &Spec, code: &mut Code) -> Result<Vec<RuleCode>, OutOfMemory>
+pub fn compile_rules(
+    alloc: Global,
+    spec: &Spec,
+    code: &mut Code,
+) -> Result<Vec<RuleCode>, OutOfMemory>
     requires { IsWellSorted spec.now }
     ensures codes { IfOk result (λ made. AreRuleCodes spec.now code.new (length spec.now.rules) made.items) }
     ensures few { IfOk result (λ _. length code.new ≤ length code.old + rules_length spec.now.rules) }
