@@ -20,10 +20,10 @@ impl Clause {
     }
 
     /// A copy whose place holds another term.
-    pub fn holding(&self, alloc: Global, place: &Place, new: &Term) -> Result<Clause, OutOfMemory>
+    pub fn holding(&self, alloc: Global, place: &Place, new: Term) -> Result<Clause, OutOfMemory>
         requires { TermAt self.now place.now }
         ensures { IfOk result (λ made. (p : TermAt self.now place.now) →
-            made ≡ holding_clause p new.now) }
+            made ≡ holding_clause p new) }
     {
         let Some(equation) = self.equation(place.conclusion, place.number) else {
             unreachable!()
@@ -52,11 +52,11 @@ fn replaced(
     equation: &Equation,
     left: bool,
     path: &[u8],
-    new: &Term,
+    new: Term,
 ) -> Result<Equation, OutOfMemory>
     requires { (t : Tree) × IsAt path.now (side_of left equation.now) t }
     ensures { IfOk result (λ made. (t : Tree) × (made ≡ with_side left equation.now t)
-        × IsReplaced path.now (side_of left equation.now) new.now t) }
+        × IsReplaced path.now (side_of left equation.now) new t) }
 {
     let changed = match side(equation, left).replace(alloc, path, new) {
         Ok(changed) => changed,

@@ -31,7 +31,7 @@ pub(crate) fn rewritten(
     let Some(new) = small_instance(alloc, right, theta)? else {
         return Ok(None);
     };
-    Ok(Some(clause.holding(alloc, place, &new)?))
+    Ok(Some(clause.holding(alloc, place, new)?))
 }
 
 /// The child of `case` by a rule of the group, tidied, or None where it passes the limits of

@@ -126,7 +126,8 @@ pub(crate) fn child_holding<O: TermOrder>(
     if !within_at(here, place, old, new) {
         return Err(StepError::Why(Why::Limit));
     }
-    let child = here.holding(alloc, place, new)?;
+    let held = new.copy(alloc)?;
+    let child = here.holding(alloc, place, held)?;
     let clause = into_tidied(alloc, child)?;
     let mut clauses = Seq::new(alloc);
     clauses.push(Child { clause, relation })?;

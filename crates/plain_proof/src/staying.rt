@@ -65,7 +65,7 @@ fn after_use(
         None => unreachable!(),
         Some(entries) => {
             let new = entries.apply(alloc, &rule.right)?;
-            match term.replace(alloc, place, &new) {
+            match term.replace(alloc, place, new) {
                 Ok(made) => Ok(made),
                 Err(ReplaceError::OutOfMemory) => Err(OutOfMemory),
                 Err(ReplaceError::NoSuchPlace) => unreachable!(),

@@ -82,7 +82,7 @@ fn is_exchanged(
         Some(part) => is(alloc, part, found)?,
         None => found == "none",
     };
-    match whole.replace(alloc, &places, &term(alloc, new)?) {
+    match whole.replace(alloc, &places, term(alloc, new)?) {
         Ok(changed) => Ok(part && is(alloc, &changed, made)?),
         Err(ReplaceError::NoSuchPlace) => Ok(part && made == "none"),
         Err(ReplaceError::OutOfMemory) => bail!("out of memory"),

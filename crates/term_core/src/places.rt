@@ -55,12 +55,12 @@ impl Term {
 
     /// The term with the subterm at the path exchanged for `new`. `NoSuchPlace` comes where `at`
     /// answers None.
-    pub fn replace(&self, alloc: Global, path: &[u8], new: &Term) -> Result<Term, ReplaceError>
-        ensures replaced { IfOk result (λ made. IsReplaced path.now self.now new.now made) }
+    pub fn replace(&self, alloc: Global, path: &[u8], new: Term) -> Result<Term, ReplaceError>
+        ensures replaced { IfOk result (λ made. IsReplaced path.now self.now new made) }
         ensures no_such_place { result ≡ Err ReplaceError.NoSuchPlace → HasNoPlace path.now self.now }
     {
         let Some((number, rest)) = front(path) else {
-            return Ok(new.copy(alloc)?);
+            return Ok(new);
         };
         let Node::App(sym, args) = &self.node else {
             return Err(ReplaceError::NoSuchPlace);

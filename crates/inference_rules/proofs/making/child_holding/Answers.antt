@@ -1,4 +1,5 @@
 use Rattle.std.proofs.Common.{◌≡◌, List, [], ◌∷◌, ◌++◌, true, false, ap, sym, ◌∙◌}
+use Rattle.term_core.specs.Tree.{Tree}
 use Rattle.clause_core.specs.declared.clauses.Clause.{Clause}
 use Rattle.clause_core.specs.declared.answers.Child.{Child}
 use Rattle.clause_core.specs.Places.{holding}
@@ -23,7 +24,7 @@ pub returns : goal.returns
 returns g c = λ at referred are.
     let is = (term_one c.args.here.now c.args.place.now at c.requires.there.0).0 ∙ c.requires.there.1 in
     let relation = c.relation_at-relation.result in
-    let child : c.in_ok-clause.clause ≡ tidied (holding at c.args.new.now) = c.in_ok-clause.ensures ∙ ap tidied (c.in_ok-child.ensures at) in
+    let child : c.in_ok-clause.clause ≡ tidied (holding at c.args.new.now) = c.in_ok-clause.ensures ∙ ap tidied (c.in_ok-child.ensures at ∙ ap (λ (t : Tree). holding at t) c.in_ok-held.ensures) in
     let item : Child = record { clause = c.in_ok-clause.clause; relation = relation } in
     let clauses : c.push.new.self ≡ record { clause = tidied (holding at c.args.new.now); relation = relation } ∷ [] =
     c.in_ok-push.ensures.pushed ∙ ap (λ (ds : List Child). ds ++ item ∷ []) c.new-clauses.ensures ∙ ap (λ (d : Clause). record { clause = d; relation = relation } ∷ []) child in

@@ -21,8 +21,8 @@ returns c =
     let made_list : c.push.new.self.items ≡ d ∷ [] = c.in_ok-push.ensures.items ∙ ap (λ (es : List Equation). es ++ d ∷ []) c.new-made.ensures.items in
     if_ok_map c.exchanged.result
     (λ made. (at : EquationAt (equations place.conclusion clause) place.number) → made ≡ exchanged place.conclusion clause at c.push.new.self.items)
-    (λ made. (p : TermAt clause place) → made ≡ holding p c.args.new.now)
-    (λ made is. holds clause place e c.in-Some.ensures.0 c.in-Some.ensures.1 c.args.new.now h.0 d made h.1
-    (subst (λ path. IsReplaced path (side place.left e) c.args.new.now h.0) c.as_slice.ensures h.2)
+    (λ made. (p : TermAt clause place) → made ≡ holding p c.args.new)
+    (λ made is. holds clause place e c.in-Some.ensures.0 c.in-Some.ensures.1 c.args.new h.0 d made h.1
+    (subst (λ path. IsReplaced path (side place.left e) c.args.new h.0) c.as_slice.ensures h.2)
     (λ at. is at ∙ ap (λ es. exchanged place.conclusion clause at es) made_list))
     c.exchanged.ensures
