@@ -18,11 +18,11 @@ use Rattle.spike_cli.specs.Evaluations.{IsEvaluation, valued, spent, refused}
 use Rattle.spike_cli.specs.Reads.{AreBytesOf}
 use Rattle.spike_cli.specs.Replays.{IsFileReplay, IsReplay, accepted as accepted_report, no_report, refused as refused_report, replayed, too_long_report}
 use Rattle.spike_cli.specs.Parts.{AppendsPartOf}
-use Rattle.spike_cli.specs.Meanings.{IsAcceptedAs}
-use Rattle.spike_cli.specs.Refusals.{IsRefusalOf}
-use Rattle.spike_cli.specs.Tellings.{Tells, IsLineOf}
-use Rattle.spike_cli.specs.declared.refusals.Refusal.{Refusal}
-use Rattle.spike_cli.specs.declared.refusals.Refusal.TheVariants.{Line, OutOfMemory as NoMemory}
+use Rattle.accepted_spec.specs.Meanings.{IsAcceptedAs}
+use Rattle.accepted_spec.specs.Refusals.{IsRefusalOf}
+use Rattle.accepted_spec.specs.Tellings.{Tells, IsLineOf}
+use Rattle.accepted_spec.specs.declared.refusals.Refusal.{Refusal}
+use Rattle.accepted_spec.specs.declared.refusals.Refusal.TheVariants.{Line, OutOfMemory as NoMemory}
 use Rattle.spike_cli.specs.Runs.{IsEnd, MayWriteOn, MayWriteFor, refusal, on_spec, Ended, RefusedBytes, ReadsFile, MayWrite, for_file, for_load, Means}
 use Rattle.spec_grammar.specs.declared.limits.TheConstants.{MAX_FILE_BYTES}
 use Rattle.spike_cli.specs.Stops.{Finishes, FinishesReading, Refuses, MeansFor, status_ended, status_of, status_of_stop}

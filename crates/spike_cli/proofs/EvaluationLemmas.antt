@@ -11,10 +11,10 @@ use Rattle.spec_core.specs.Gives.{Gives}
 use Rattle.path_order.specs.Above.{Above}
 use Rattle.clause_core.specs.Admitted.{IsAdmitted}
 use Rattle.spec_core.proofs.Keeps.{keeps}
-use Rattle.spike_cli.specs.declared.refusals.Refusal.{Refusal}
+use Rattle.accepted_spec.specs.declared.refusals.Refusal.{Refusal}
 use Rattle.spike_cli.specs.declared.statuses.Status.{Status}
 use Rattle.spike_cli.specs.declared.statuses.Status.TheVariants as status
-use Rattle.spike_cli.specs.Refusals.{IsTermRefusal}
+use Rattle.accepted_spec.specs.Refusals.{IsTermRefusal}
 use Rattle.std.specs.Prelude.{Result, Ok, Err, IfOk, codes, if◌then◌else◌}
 use Rattle.refuter.proofs.Numbers.{le_true, le_false}
 use Rattle.ground_eval.specs.Evals.{IsEval}
@@ -22,10 +22,10 @@ use Rattle.ground_eval.specs.declared.answers.Eval.{Eval}
 use Rattle.ground_eval.specs.declared.answers.Eval.TheVariants.{Value, Large, Spent}
 use Rattle.term_core.specs.declared.memory.OutOfMemory.{OutOfMemory}
 use Rattle.spike_cli.specs.declared.statuses.Ending.{Ending}
-use Rattle.spike_cli.specs.Meanings.{TermTextStandsFor}
+use Rattle.accepted_spec.specs.Meanings.{TermTextStandsFor}
 use Rattle.spike_cli.specs.Evaluations.{IsEvaluation, value_text, lines_with, spent_line, valued, spent, refused}
-use Rattle.spike_cli.specs.Tellings.{Tells, IsLineOf}
-use Rattle.spike_cli.proofs.ClaimLemmas.{sorted_in_range}
+use Rattle.accepted_spec.specs.Tellings.{Tells, IsLineOf}
+use Rattle.accepted_spec.proofs.SymbolsInRange.{sorted_in_range}
 use Rattle.spike_cli.proofs.Endings.{line_told}
 
 -- a value has symbols of the signature

@@ -5,9 +5,7 @@ pub mod TrueClaims
 pub mod AcceptedClaims
 pub mod ReportedClaims
 pub mod Unproved
-pub mod Accepting
 pub mod CheckLines
-pub mod Told
 pub mod Endings
 pub mod EvaluationLemmas
 pub mod OneText

@@ -17,9 +17,9 @@ use Rattle.search_claims.specs.Claims.{report_of}
 use Rattle.spec_grammar.specs.declared.raw.RawSpec.{RawSpec}
 use Rattle.spike_cli.specs.declared.statuses.Status.TheVariants.{Done, No}
 use Rattle.spike_cli.specs.Loads.{IsLoad, SomeReport}
-use Rattle.spike_cli.specs.Meanings.{IsAcceptedAs}
+use Rattle.accepted_spec.specs.Meanings.{IsAcceptedAs}
 use Rattle.spike_cli.specs.Outcomes.{OneEnding, OneReplay}
-use Rattle.spike_cli.specs.Refusals.{IsRefusalOf}
+use Rattle.accepted_spec.specs.Refusals.{IsRefusalOf}
 use Rattle.spike_cli.specs.Replays.{IsReplay}
 use Rattle.spike_cli.specs.Reports.{IsReport}
 

@@ -26,10 +26,10 @@ use Rattle.spec_admit.specs.FirstFault.{Tells as IsFirstFault}
 use Rattle.spec_admit.specs.Laws.{NoFaultWhereAdmitted, OneFault}
 use Rattle.spec_admit.specs.declared.faults.AdmitFault.{AdmitFault}
 use Rattle.spec_admit.specs.declared.faults.AdmitFault.TheVariants.{Linear, Order, Overlap, Guards, Coverage, OutOfMemory}
-use Rattle.spike_cli.specs.AdmitLines.{IsAdmitLine}
-use Rattle.spike_cli.specs.declared.refusals.Subject.TheVariants.{File, Term}
-use Rattle.spike_cli.specs.Meanings.{TextStandsFor, IsAcceptedAs, TermTextStandsFor}
-use Rattle.spike_cli.specs.Refusals.{IsTextRefusal, IsRefusalOf, no_specification, not_admitted, IsTermRefusal}
+use Rattle.accepted_spec.specs.AdmitLines.{IsAdmitLine}
+use Rattle.accepted_spec.specs.declared.refusals.Subject.TheVariants.{File, Term}
+use Rattle.accepted_spec.specs.Meanings.{TextStandsFor, IsAcceptedAs, TermTextStandsFor}
+use Rattle.accepted_spec.specs.Refusals.{IsTextRefusal, IsRefusalOf, no_specification, not_admitted, IsTermRefusal}
 use Rattle.spike_cli.proofs.OneText.{one_raw, taken_or_refused, same_refusal}
 
 same_raw : (bytes : List ℕ) (raw other : RawSpec) → TextDerives IsSpecText bytes raw → TextDerives IsSpecText bytes other → raw ≡ other

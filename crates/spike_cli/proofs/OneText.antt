@@ -13,8 +13,8 @@ use Rattle.spec_syntax.specs.declared.fault.SyntaxFault.{SyntaxFault}
 use Rattle.spec_syntax.specs.declared.fault.SyntaxFault.TheVariants.{Text, Syntax, Limit, OutOfMemory}
 use Rattle.sort_check.specs.declared.faults.SortFault.{SortFault}
 use Rattle.sort_check.specs.declared.faults.SortFault.TheVariants.{Sort}
-use Rattle.spike_cli.specs.declared.refusals.Subject.{Subject}
-use Rattle.spike_cli.specs.Refusals.{IsFaultLine, IsSortLine, IsRefusalLine, faulty, unsorted}
+use Rattle.accepted_spec.specs.declared.refusals.Subject.{Subject}
+use Rattle.accepted_spec.specs.Refusals.{IsFaultLine, IsSortLine, IsRefusalLine, faulty, unsorted}
 
 -- a fault has one line
 one_line : (subject : Subject) (fault : SyntaxFault) (line other : List ℕ) → IsFaultLine subject fault line → IsFaultLine subject fault other → line ≡ other

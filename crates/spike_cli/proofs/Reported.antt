@@ -7,7 +7,7 @@ use Rattle.spec_grammar.specs.KeepsLimits.{KeepsLimits}
 use Rattle.spec_grammar.proofs.KeepsLimits.{keeps_limits}
 use Rattle.sort_check.specs.Goals.{GoalStands}
 use Rattle.sort_check.specs.StandsFor.{StandsFor}
-use Rattle.spike_cli.specs.Meanings.{IsAcceptedAs}
+use Rattle.accepted_spec.specs.Meanings.{IsAcceptedAs}
 use Rattle.spike_cli.specs.Within.{HasReports}
 use Rattle.spike_cli.proofs.OneEnding.{well_sorted_meaning}
 use Rattle.spike_cli.proofs.StandingNames.{names_stand, rules_few}

@@ -9,8 +9,8 @@ use Rattle.spec_core.specs.Gives.{Gives}
 use Rattle.spike_cli.specs.declared.statuses.Status.{Status}
 use Rattle.spike_cli.specs.declared.statuses.Status.TheVariants.{Done, Open, Refused}
 use Rattle.value_bank.specs.declared.reading.TheConstants.{TERM_SYMBOLS}
-use Rattle.spike_cli.specs.Meanings.{TermTextStandsFor}
-use Rattle.spike_cli.specs.Refusals.{IsTermRefusal}
+use Rattle.accepted_spec.specs.Meanings.{TermTextStandsFor}
+use Rattle.accepted_spec.specs.Refusals.{IsTermRefusal}
 
 -- the value's text, or `large` where it has too many symbols
 abbrev pub value_text : Sig → Tree → List ℕ

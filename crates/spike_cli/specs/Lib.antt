@@ -1,8 +1,5 @@
 -- What the program promises, in the order in which to read it.
 pub mod Claims
-pub mod Meanings
-pub mod AdmitLines
-pub mod Refusals
 pub mod Checks
 pub mod Reports
 pub mod SearchAlone
@@ -16,8 +13,6 @@ pub mod Runs
 pub mod Outcomes
 pub mod Codes
 -- What only this crate's own contracts speak of.
-pub mod Tellings
-pub mod Ranges
 pub mod Within
 pub mod Lemmas
 pub mod Stops

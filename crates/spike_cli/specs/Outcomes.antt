@@ -12,8 +12,8 @@ use Rattle.proof_script.specs.Texts.{IsReportText}
 use Rattle.acceptance.specs.Accepting.{IsAccepted}
 use Rattle.spike_cli.specs.declared.statuses.Status.{Status}
 use Rattle.spike_cli.specs.declared.statuses.Status.TheVariants.{Done}
-use Rattle.spike_cli.specs.Meanings.{IsAcceptedAs, TermTextStandsFor}
-use Rattle.spike_cli.specs.Refusals.{IsRefusalOf, IsTermRefusal}
+use Rattle.accepted_spec.specs.Meanings.{IsAcceptedAs, TermTextStandsFor}
+use Rattle.accepted_spec.specs.Refusals.{IsRefusalOf, IsTermRefusal}
 use Rattle.spike_cli.specs.Replays.{IsReplay}
 
 -- over a declared signature a term's text stands for one term at most, and none where it has a line

@@ -10,8 +10,8 @@ use Rattle.spec_grammar.specs.declared.limits.TheConstants.{MAX_FILE_BYTES}
 use Rattle.spike_cli.specs.Parts.{AppendsPartOf}
 use Rattle.command_line.specs.Tasks.{Task, checking, refuting, proving, evaluating, replaying, Asks, AsksToLoad, AskNothing}
 use Rattle.spike_cli.specs.Reads.{AreBytesOf, IsLonger}
-use Rattle.spike_cli.specs.Meanings.{IsAcceptedAs}
-use Rattle.spike_cli.specs.Refusals.{too_long_line, IsRefusalOf}
+use Rattle.accepted_spec.specs.Meanings.{IsAcceptedAs}
+use Rattle.accepted_spec.specs.Refusals.{IsRefusalOf}
 use Rattle.spike_cli.specs.Checks.{check_text, IsCheck}
 use Rattle.spike_cli.specs.Reports.{BeginsReport, IsReport, search_alone}
 use Rattle.spike_cli.specs.Evaluations.{IsEvaluation, IsEvaluationText}
@@ -21,6 +21,10 @@ use Rattle.spike_cli.specs.Loads.{IsLoad}
 -- the line for words that are no command
 abbrev pub usage_line : List ℕ
 usage_line = codes "usage: spike check|eval|prove|refute|replay|load\n"
+
+-- the line for a file that is too long
+abbrev pub too_long_line : List ℕ
+too_long_line = codes "refused length\n"
 
 -- the files that a task reads behind its first one, and all of them in the order of the words
 abbrev pub further_files : Task → List (List ℕ)

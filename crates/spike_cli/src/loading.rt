@@ -11,11 +11,10 @@ ghost use Rattle.spike_cli.specs.Within.{HasReports};
 ghost use Rattle.spike_cli.specs.declared.statuses.Status.TheVariants.{Done};
 
 use crate::laws::{one_ending, one_replay};
-use crate::reading::{Accepted, specification};
-use crate::refusals::Refusal;
 use crate::reporting::write_report;
 use crate::statuses::Status;
 use crate::stops::Stop;
+use accepted_spec::{Accepted, Refusal, specification};
 use clause_core::Report;
 use command_line::ProofBounds;
 use io_core::{Sink, SureSink, write_all};

@@ -16,14 +16,11 @@
 //! program's name, the system's files and standard output, and ends with the code of its status.
 #![tactic(auto)]
 
-mod admission;
 mod checking;
 mod claims;
 mod evaluating;
 mod laws;
 mod loading;
-mod reading;
-mod refusals;
 mod replaying;
 mod reporting;
 mod running;

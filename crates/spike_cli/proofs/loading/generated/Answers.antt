@@ -2,9 +2,9 @@ use Rattle.std.proofs.Common.{◌≡◌, ◌≤◌, ◌∙◌, List, ℕ, sym, s
 use Rattle.load_text.specs.Accepted.{IsAcceptedAs}
 use Rattle.load_text.specs.LoadSpec.{load_spec}
 use Rattle.spec_grammar.specs.declared.limits.TheConstants.{MAX_FILE_BYTES}
-use Rattle.spike_cli.specs.Refusals.{IsRefusalOf}
-use Rattle.spike_cli.specs.Tellings.{Tells}
-use Rattle.spike_cli.specs.declared.refusals.Refusal.{Refusal}
+use Rattle.accepted_spec.specs.Refusals.{IsRefusalOf}
+use Rattle.accepted_spec.specs.Tellings.{Tells}
+use Rattle.accepted_spec.specs.declared.refusals.Refusal.{Refusal}
 use Rattle.spike_cli.proofs.LoadLengths.{load_short}
 use Rattle.spike_cli.proofs.LoadedGoals.{not_refused, same_spec}
 use Rattle.spike_cli.proofs.Reported.{has_reports}

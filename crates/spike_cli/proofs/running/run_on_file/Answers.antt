@@ -6,8 +6,7 @@ use Rattle.command_line.specs.Tasks.{Asks, AskNothing}
 use Rattle.command_line.specs.declared.commands.Command.{Command}
 use Rattle.spike_cli.specs.declared.statuses.Status.TheVariants.{Refused, Usage}
 use Rattle.spike_cli.specs.Reads.{AreBytesOf, IsLonger}
-use Rattle.spike_cli.specs.Refusals.{too_long_line}
-use Rattle.spike_cli.specs.Runs.{IsTooLong, usage, too_long, usage_line}
+use Rattle.spike_cli.specs.Runs.{IsTooLong, usage, too_long, too_long_line, usage_line}
 use Rattle.spec_grammar.specs.declared.limits.TheConstants.{MAX_FILE_BYTES}
 use Rattle.spike_cli.specs.Stops.{MeansFor}
 use Rattle.spike_cli.proofs.Endings.{line_means, file_means}

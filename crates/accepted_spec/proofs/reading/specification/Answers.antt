@@ -3,11 +3,11 @@ use Rattle.std.specs.Prelude.{Err}
 use Rattle.spec_grammar.specs.Grammar.{IsSpecText}
 use Rattle.spec_grammar.proofs.KeepsLimits.{keeps_limits}
 use Rattle.sort_check.specs.FirstFault.{HasFirstFault}
-use Rattle.spike_cli.specs.declared.refusals.Subject.TheVariants.{File}
+use Rattle.accepted_spec.specs.declared.refusals.Subject.TheVariants.{File}
 use Rattle.sort_check.proofs.FewDeclarations.{few_declarations}
-use Rattle.spike_cli.proofs.Told.{syntax_told, sort_told}
-use Rattle.spike_cli.proofs.Accepting.{spec_within, text_told, accepted_as, refused_as, back_printable}
-use Rattle.spike_cli.proofs.reading.specification.Goals as goal
+use Rattle.accepted_spec.proofs.Told.{syntax_told, sort_told}
+use Rattle.accepted_spec.proofs.Accepting.{spec_within, text_told, accepted_as, refused_as, back_printable}
+use Rattle.accepted_spec.proofs.reading.specification.Goals as goal
 
 pub elaborate-requires : goal.elaborate-requires
 elaborate-requires c = record { few = few_declarations c.in-Ok.raw (keeps_limits c.args.bytes.now c.in-Ok.raw c.in-Ok.ensures.derived) }

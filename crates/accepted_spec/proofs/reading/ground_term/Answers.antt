@@ -2,9 +2,9 @@ use Rattle.std.proofs.Common.{ap}
 use Rattle.std.specs.Prelude.{Err}
 use Rattle.spec_grammar.specs.Grammar.{IsTermText}
 use Rattle.sort_check.specs.FirstFault.{TermHasFirstFault}
-use Rattle.spike_cli.specs.declared.refusals.Subject.TheVariants.{Term}
-use Rattle.spike_cli.proofs.Told.{syntax_told, sort_told}
-use Rattle.spike_cli.proofs.reading.ground_term.Goals as goal
+use Rattle.accepted_spec.specs.declared.refusals.Subject.TheVariants.{Term}
+use Rattle.accepted_spec.proofs.Told.{syntax_told, sort_told}
+use Rattle.accepted_spec.proofs.reading.ground_term.Goals as goal
 
 pub returns-in-Err-clause-refused : goal.returns-in-Err-clause-refused
 returns-in-Err-clause-refused c = syntax_told Term IsTermText (TermHasFirstFault c.args.sig.now) c.args.bytes.now c.in-Err.fault c.in-Err.ensures.fault c.syntax_refusal.result c.syntax_refusal.ensures

@@ -1,8 +1,8 @@
 use Rattle.std.proofs.Common.{◌≡◌, ◌++◌, drop}
 use Rattle.std.specs.List.{AllByRecursion, flat_map}
 use Rattle.spec_core.specs.TermText.{SymbolsAreInRange}
-use Rattle.spike_cli.specs.AdmitLines.{other_text}
-use Rattle.spike_cli.proofs.admission.append_others.Given as goal
+use Rattle.accepted_spec.specs.AdmitLines.{other_text}
+use Rattle.accepted_spec.proofs.admission.append_others.Given as goal
 
 abbrev pub invariant-loop-value : goal.invariant-loop-value
 invariant-loop-value l =

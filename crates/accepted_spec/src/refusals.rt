@@ -2,8 +2,8 @@ ghost use Rattle.std.specs.Prelude.{◌≡◌, ◌++◌, IfOk, OnOk, codes};
 ghost use Rattle.std.specs.Fmt.{decimal};
 ghost use Rattle.spec_grammar.specs.Limits.{limit_word as word_of_limit};
 ghost use Rattle.sort_check.specs.Texts.{kind_text as text_of_kind};
-ghost use Rattle.spike_cli.specs.Refusals.{subject_text, IsFaultLine, IsSortLine};
-ghost use Rattle.spike_cli.specs.Tellings.{Tells};
+ghost use Rattle.accepted_spec.specs.Refusals.{subject_text, IsFaultLine, IsSortLine};
+ghost use Rattle.accepted_spec.specs.Tellings.{Tells};
 
 use sort_check::{SortFault, SortKind};
 use spec_syntax::{LimitKind, SyntaxFault};
@@ -26,7 +26,7 @@ pub enum Refusal {
 }
 
 impl From<OutOfMemory> for Refusal {
-    ghost use Rattle.spike_cli.specs.declared.refusals.Refusal.TheVariants.{OutOfMemory as out_of_memory};
+    ghost use Rattle.accepted_spec.specs.declared.refusals.Refusal.TheVariants.{OutOfMemory as out_of_memory};
 
     ghost from_gives = { λ _ refusal. refusal ≡ out_of_memory };
 

@@ -5,9 +5,9 @@ ghost use Rattle.spec_grammar.specs.declared.limits.TheConstants.{MAX_FILE_BYTES
 ghost use Rattle.spec_core.specs.WellSorted.{IsWellSorted};
 ghost use Rattle.path_order.specs.Above.{Above};
 ghost use Rattle.clause_core.specs.Admitted.{IsAdmitted};
-ghost use Rattle.spike_cli.specs.Meanings.{IsAcceptedAs, TermTextStandsFor};
-ghost use Rattle.spike_cli.specs.Refusals.{IsRefusalOf, IsTermRefusal};
-ghost use Rattle.spike_cli.specs.Tellings.{Tells};
+ghost use Rattle.accepted_spec.specs.Meanings.{IsAcceptedAs, TermTextStandsFor};
+ghost use Rattle.accepted_spec.specs.Refusals.{IsRefusalOf, IsTermRefusal};
+ghost use Rattle.accepted_spec.specs.Tellings.{Tells};
 
 use crate::admission::admit_refusal;
 use crate::refusals::{Refusal, Subject, sort_refusal, syntax_refusal};
@@ -27,6 +27,7 @@ pub struct Accepted {
 }
 
 impl Accepted {
+    /// What goals are searched and terms are evaluated in.
     pub fn spec(&self) -> &Spec
         ensures is { result.now ≡ self.now.admitted.spec }
         ensures sorted { IsWellSorted result.now }

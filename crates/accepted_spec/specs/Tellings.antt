@@ -1,7 +1,7 @@
 -- What a refusal tells.
 use Rattle.std.specs.Prelude.{◌≡◌, ℕ, List}
-use Rattle.spike_cli.specs.declared.refusals.Refusal.{Refusal}
-use Rattle.spike_cli.specs.declared.refusals.Refusal.TheVariants.{Line, OutOfMemory}
+use Rattle.accepted_spec.specs.declared.refusals.Refusal.{Refusal}
+use Rattle.accepted_spec.specs.declared.refusals.Refusal.TheVariants.{Line, OutOfMemory}
 
 -- the refusal's line is one of these; want of memory has none
 abbrev pub Tells : (List ℕ → Type 0) → Refusal → Type 0

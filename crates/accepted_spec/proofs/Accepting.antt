@@ -11,19 +11,19 @@ use Rattle.coverage_check.proofs.Namings.{named_missing}
 use Rattle.spec_admit.specs.FirstFault.{Tells as IsFirstFault}
 use Rattle.spec_admit.specs.declared.faults.AdmitFault.{AdmitFault}
 use Rattle.spec_admit.specs.declared.faults.AdmitFault.TheVariants.{Linear, Order, Overlap, Guards, Coverage, OutOfMemory as no_memory}
-use Rattle.spike_cli.specs.declared.refusals.Refusal.{Refusal}
-use Rattle.spike_cli.specs.declared.refusals.Refusal.TheVariants.{Line, OutOfMemory}
-use Rattle.spike_cli.specs.Tellings.{Tells}
-use Rattle.spike_cli.specs.Ranges.{IsPrintableFault}
+use Rattle.accepted_spec.specs.declared.refusals.Refusal.{Refusal}
+use Rattle.accepted_spec.specs.declared.refusals.Refusal.TheVariants.{Line, OutOfMemory}
+use Rattle.accepted_spec.specs.Tellings.{Tells}
+use Rattle.accepted_spec.specs.Ranges.{IsPrintableFault}
 use Rattle.spec_grammar.specs.Derives.{TextDerives}
 use Rattle.spec_grammar.specs.Grammar.{IsSpecText}
 use Rattle.spec_grammar.specs.declared.raw.RawSpec.{RawSpec}
 use Rattle.sort_check.specs.StandsFor.{StandsFor}
 use Rattle.clause_core.specs.Admitted.{IsAdmitted}
-use Rattle.spike_cli.specs.Meanings.{TextStandsFor, IsAcceptedAs}
-use Rattle.spike_cli.specs.AdmitLines.{IsAdmitLine}
-use Rattle.spike_cli.specs.Refusals.{IsTextRefusal, IsRefusalOf, no_specification, not_admitted}
-use Rattle.spike_cli.proofs.ClaimLemmas.{values_in_range, symbol_in_range}
+use Rattle.accepted_spec.specs.Meanings.{TextStandsFor, IsAcceptedAs}
+use Rattle.accepted_spec.specs.AdmitLines.{IsAdmitLine}
+use Rattle.accepted_spec.specs.Refusals.{IsTextRefusal, IsRefusalOf, no_specification, not_admitted}
+use Rattle.accepted_spec.proofs.SymbolsInRange.{values_in_range, symbol_in_range}
 
 -- what is within a bound is within a greater one
 module _ (n m : ℕ) (more : n ≤ m) where

@@ -8,11 +8,11 @@ use Rattle.spec_syntax.specs.declared.fault.SyntaxFault.TheVariants as syntax
 use Rattle.sort_check.specs.declared.faults.SortFault.{SortFault}
 use Rattle.sort_check.specs.declared.faults.SortFault.TheVariants as sort
 use Rattle.sort_check.specs.declared.faults.SortKind.{SortKind}
-use Rattle.spike_cli.specs.declared.refusals.Subject.{Subject}
-use Rattle.spike_cli.specs.declared.refusals.Refusal.{Refusal}
-use Rattle.spike_cli.specs.declared.refusals.Refusal.TheVariants.{Line, OutOfMemory}
-use Rattle.spike_cli.specs.Refusals.{IsFaultLine, IsSortLine, IsRefusalLine, faulty, unsorted}
-use Rattle.spike_cli.specs.Tellings.{Tells}
+use Rattle.accepted_spec.specs.declared.refusals.Subject.{Subject}
+use Rattle.accepted_spec.specs.declared.refusals.Refusal.{Refusal}
+use Rattle.accepted_spec.specs.declared.refusals.Refusal.TheVariants.{Line, OutOfMemory}
+use Rattle.accepted_spec.specs.Refusals.{IsFaultLine, IsSortLine, IsRefusalLine, faulty, unsorted}
+use Rattle.accepted_spec.specs.Tellings.{Tells}
 
 module _ {R : Type 0} (subject : Subject) (IsText : R → List Marked → Type 0) (HasFirst : R → ℕ → SortKind → Type 0) (bytes : List ℕ) where
   pub syntax_told : (fault : SyntaxFault) → TellsFault IsText bytes fault → (r : Refusal) → Tells (IsFaultLine subject fault) r → Tells (IsRefusalLine subject IsText HasFirst bytes) r

@@ -19,14 +19,10 @@ use Rattle.sort_check.specs.declared.faults.SortFault.TheVariants.{Sort}
 use Rattle.sort_check.specs.declared.faults.SortFault.TheVariants as sort
 use Rattle.sort_check.specs.declared.faults.SortKind.{SortKind}
 use Rattle.sort_check.specs.Texts.{kind_text}
-use Rattle.spike_cli.specs.Meanings.{TextStandsFor}
-use Rattle.spike_cli.specs.AdmitLines.{IsAdmitLine}
-use Rattle.spike_cli.specs.declared.refusals.Subject.{Subject}
-use Rattle.spike_cli.specs.declared.refusals.Subject.TheVariants.{File, Term}
-
--- the line for a file that is too long
-abbrev pub too_long_line : List ℕ
-too_long_line = codes "refused length\n"
+use Rattle.accepted_spec.specs.Meanings.{TextStandsFor}
+use Rattle.accepted_spec.specs.AdmitLines.{IsAdmitLine}
+use Rattle.accepted_spec.specs.declared.refusals.Subject.{Subject}
+use Rattle.accepted_spec.specs.declared.refusals.Subject.TheVariants.{File, Term}
 
 -- what a line begins with: `refused` for a file, and `refused term` for a term
 abbrev pub subject_text : Subject → List ℕ

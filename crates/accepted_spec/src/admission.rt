@@ -2,10 +2,10 @@ ghost use Rattle.std.specs.Prelude.{◌≡◌, ◌<◌, ◌++◌, IfOk, OnOk, le
 ghost use Rattle.std.specs.Fmt.{decimal};
 ghost use Rattle.std.specs.List.{AllByRecursion, flat_map};
 ghost use Rattle.spec_core.specs.TermText.{SymbolsAreInRange};
-ghost use Rattle.spike_cli.specs.AdmitLines as lines;
-ghost use Rattle.spike_cli.specs.AdmitLines.{IsAdmitLine, other_text, part_text, values_text};
-ghost use Rattle.spike_cli.specs.Ranges.{IsPrintableFault};
-ghost use Rattle.spike_cli.specs.Tellings.{Tells};
+ghost use Rattle.accepted_spec.specs.AdmitLines as lines;
+ghost use Rattle.accepted_spec.specs.AdmitLines.{IsAdmitLine, other_text, part_text, values_text};
+ghost use Rattle.accepted_spec.specs.Ranges.{IsPrintableFault};
+ghost use Rattle.accepted_spec.specs.Tellings.{Tells};
 
 use crate::refusals::Refusal;
 use spec_admit::AdmitFault;

@@ -1,0 +1,3 @@
+pub mod SymbolsInRange
+mod Accepting
+mod Told
