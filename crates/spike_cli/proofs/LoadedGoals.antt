@@ -1,6 +1,6 @@
 -- The generated text is accepted, its report is read again and replayed, and so what is written counts
 -- its claims.
-use Rattle.std.proofs.Common.{◌≡◌, ◌∙◌, ℕ, List, ap, sym, subst}
+use Rattle.std.proofs.Common.{◌≡◌, ◌∙◌, ℕ, List, ap, subst}
 use Rattle.std.specs.Prelude.{IfOk, Result, Ok, Err}
 use Rattle.spec_core.specs.declared.records.Spec.{Spec}
 use Rattle.spec_core.specs.WellSorted.{IsWellSorted}
@@ -21,7 +21,6 @@ use Rattle.accepted_spec.specs.Meanings.{IsAcceptedAs}
 use Rattle.spike_cli.specs.Outcomes.{OneEnding, OneReplay}
 use Rattle.accepted_spec.specs.Refusals.{IsRefusalOf}
 use Rattle.spike_cli.specs.Replays.{IsReplay}
-use Rattle.spike_cli.specs.Reports.{IsReport}
 
 pub if_ok_more :
     {A E : Type 0} (P Q : A → Type 0) → ((a : A) → P a → Q a) → (result : Result A E) →

@@ -1,5 +1,5 @@
 -- Two reports with the same bounds have claims of the same kinds, so that what `load` writes is one text.
-use Rattle.std.proofs.Common.{◌≡◌, ◌∙◌, ℕ, ◌+◌, List, [], ◌∷◌, ◌++◌, Bool, None, inl, inr, refl, ap, sym, subst, length, length-append, arith}
+use Rattle.std.proofs.Common.{◌≡◌, ◌∙◌, ℕ, ◌+◌, List, [], ◌∷◌, ◌++◌, Bool, inl, inr, refl, ap, sym, subst, length, length-append, arith}
 use Rattle.term_core.specs.Tree.{Tree}
 use Rattle.std.specs.Prelude.{cond, sum_by}
 use Rattle.std.proofs.lemmas.List.Sums.{sum_by-cons}

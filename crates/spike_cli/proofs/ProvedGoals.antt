@@ -1,5 +1,5 @@
 -- The numbers of the goals that claims prove, and the routine proofs over them.
-use Rattle.std.proofs.Common.{◌≡◌, ℕ, zero, suc, ◌+◌, List, [], ◌∷◌, ◌++◌, Some, None, inl, inr, refl, sym, ◌∙◌, ap, subst, arith, length, append_assoc}
+use Rattle.std.proofs.Common.{◌≡◌, ℕ, suc, ◌+◌, List, [], ◌∷◌, ◌++◌, Some, None, inl, inr, refl, sym, ◌∙◌, ap, subst, arith, length, append_assoc}
 use Rattle.std.specs.Prelude.{slice_get, Contains}
 use Rattle.std.specs.List.{AllByRecursion, range_with_len}
 use Rattle.std.proofs.lemmas.List.{append-nil}
@@ -13,8 +13,8 @@ use Rattle.clause_core.specs.declared.reports.Outcome.TheVariants.{Proved, Refut
 use Rattle.clause_core.specs.declared.steps.Step.{Step}
 use Rattle.clause_core.specs.Tidied.{goal_clause}
 use Rattle.acceptance.specs.Claims.{IsProvedBy, ProvedBefore, SaysProved}
-use Rattle.routine_proof.specs.First.{HasNone, FirstIs, NoneIs}
-use Rattle.routine_proof.specs.Routine.{Start, starts, IsProof, IsFirstProof}
+use Rattle.routine_proof.specs.First.{HasNone, FirstIs}
+use Rattle.routine_proof.specs.Routine.{starts, IsProof, IsFirstProof}
 use Rattle.search_claims.proofs.Shown.{claimed_names, goal_names, item_before}
 use Rattle.command_line.specs.declared.bounds.ProofBounds.{ProofBounds}
 use Rattle.spike_cli.specs.Claims.{HasRoutine, number_proved, proved_from, proved_goals}

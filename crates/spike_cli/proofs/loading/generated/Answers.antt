@@ -1,4 +1,4 @@
-use Rattle.std.proofs.Common.{◌≡◌, ◌≤◌, ◌∙◌, List, ℕ, sym, subst, length}
+use Rattle.std.proofs.Common.{◌≤◌, ◌∙◌, List, ℕ, sym, subst, length}
 use Rattle.load_text.specs.Accepted.{IsAcceptedAs}
 use Rattle.load_text.specs.LoadSpec.{load_spec}
 use Rattle.spec_grammar.specs.declared.limits.TheConstants.{MAX_FILE_BYTES}

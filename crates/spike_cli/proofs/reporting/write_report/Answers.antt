@@ -2,7 +2,6 @@ use Rattle.std.proofs.Common.{◌≡◌, ◌≤◌, ◌<◌, ◌+◌, ◌∙◌,
 use Rattle.std.specs.Prelude.{slice_get, codes}
 use Rattle.std.proofs.lemmas.List.{append-nil, length-take, take_all}
 use Rattle.std.proofs.lemmas.Option.{slice_get_read}
-use Rattle.std.proofs.Math.Seq.{take-length}
 use Rattle.io_core.specs.Piece.{Appended}
 use Rattle.spec_core.specs.declared.records.Goal.{Goal}
 use Rattle.clause_core.specs.declared.reports.Claim.{Claim}

@@ -1,17 +1,11 @@
 use Rattle.std.proofs.Common.{List, ℕ, subst, map, Option, Some}
 use Rattle.std.specs.Prelude.{Err, string_bytes}
-use Rattle.io_core.specs.Asked.{AddsName}
-use Rattle.command_line.specs.Commands.{IsAsked, file_of, task_of}
-use Rattle.command_line.specs.Tasks.{Asks, AsksToLoad, AskNothing}
+use Rattle.command_line.specs.Commands.{IsAsked}
+use Rattle.command_line.specs.Tasks.{AsksToLoad, AskNothing}
 use Rattle.command_line.specs.declared.commands.Request.{Request}
-use Rattle.spike_cli.specs.declared.statuses.Status.TheVariants.{Refused, Usage}
-use Rattle.spike_cli.specs.Reads.{AreBytesOf, IsLonger}
-use Rattle.spike_cli.specs.Runs.{IsTooLong, usage, too_long, too_long_line, usage_line}
-use Rattle.spec_grammar.specs.declared.limits.TheConstants.{MAX_FILE_BYTES}
-use Rattle.spike_cli.specs.Stops.{MeansFor}
+use Rattle.spike_cli.specs.declared.statuses.Status.TheVariants.{Usage}
+use Rattle.spike_cli.specs.Runs.{usage, usage_line}
 use Rattle.spike_cli.proofs.Endings.{line_means, load_means}
-use Rattle.spike_cli.proofs.TasksWithin.{task_within}
-use Rattle.spike_cli.proofs.Readings.{asked_first, asked_further, asked_or_not, failed_read, too_long_read}
 use Rattle.spike_cli.proofs.running.run.Goals as goal
 
 pub returns-in-Ok-None-clause-means : goal.returns-in-Ok-None-clause-means

@@ -1,12 +1,11 @@
 use Rattle.std.proofs.Common.{◌≡◌, List, ℕ, inl, ap, sym, subst, map, Option}
 use Rattle.std.specs.Prelude.{Err, string_bytes}
 use Rattle.io_core.specs.Asked.{AddsName}
-use Rattle.command_line.specs.Commands.{IsAsked, file_of, task_of}
-use Rattle.command_line.specs.Tasks.{Asks, AskNothing}
-use Rattle.command_line.specs.declared.commands.Command.{Command}
-use Rattle.spike_cli.specs.declared.statuses.Status.TheVariants.{Refused, Usage}
+use Rattle.command_line.specs.Commands.{file_of, task_of}
+use Rattle.command_line.specs.Tasks.{Asks}
+use Rattle.spike_cli.specs.declared.statuses.Status.TheVariants.{Refused}
 use Rattle.spike_cli.specs.Reads.{AreBytesOf, IsLonger}
-use Rattle.spike_cli.specs.Runs.{IsTooLong, usage, too_long, too_long_line, usage_line}
+use Rattle.spike_cli.specs.Runs.{IsTooLong, too_long, too_long_line}
 use Rattle.spec_grammar.specs.declared.limits.TheConstants.{MAX_FILE_BYTES}
 use Rattle.spike_cli.specs.Stops.{MeansFor}
 use Rattle.spike_cli.proofs.Endings.{line_means, file_means}
