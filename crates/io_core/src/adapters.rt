@@ -206,8 +206,22 @@ mod tests {
     use std::fs;
     use std::test::Fail;
 
-    #[test]
-    fn reads_and_writes_a_file(rt: HostRuntime) -> Result<(), Fail> {
+    /// What a store and a sink did at a file.
+    #[derive(Drop)]
+    struct Seen {
+        read: Result<Vec<u8>, ReadError>,
+        longer: Result<Vec<u8>, ReadError>,
+        missing: Result<Vec<u8>, ReadError>,
+        asked: usize,
+        read_faults: u64,
+        wrote: Result<(), WriteError>,
+        write_faults: u64,
+        written: Vec<u8>,
+    }
+
+    /// Reads a file of seven bytes with room for seven and for six, and one that isn't there, and
+    /// writes to the first.
+    fn go_through_a_file(rt: HostRuntime) -> Result<Seen, Fail> {
         let alloc = rt.alloc();
         let path = "io_core_test_file";
         fs::write(&rt, path, "seven b")?;
@@ -219,14 +233,27 @@ mod tests {
         let wrote = write_all(&mut sink, alloc, b"three");
         let written = fs::read(&rt, path)?;
         fs::remove_file(&rt, path)?;
-        assert_eq!(rt; read?.as_slice(), b"seven b".as_slice());
-        assert_eq!(rt; longer, Err(ReadError::TooLong));
-        assert_eq!(rt; missing, Err(ReadError::Failed));
-        assert_eq!(rt; store.faults, 1);
-        assert_eq!(rt; store.asked.len(), 3);
-        assert_eq!(rt; wrote, Ok(()));
-        assert_eq!(rt; sink.faults, 0);
-        assert_eq!(rt; written.as_slice(), b"three".as_slice());
+        Ok(Seen {
+            read,
+            longer,
+            missing,
+            asked: store.asked.len(),
+            read_faults: store.faults,
+            wrote,
+            write_faults: sink.faults,
+            written,
+        })
+    }
+
+    #[test]
+    fn reads_and_writes_a_file(rt: HostRuntime) -> Result<(), Fail> {
+        let seen = go_through_a_file(rt)?;
+        assert_eq!(rt; seen.longer, Err(ReadError::TooLong));
+        assert_eq!(rt; seen.missing, Err(ReadError::Failed));
+        assert_eq!(rt; (seen.asked, seen.read_faults), (3, 1));
+        assert_eq!(rt; (seen.wrote, seen.write_faults), (Ok(()), 0));
+        assert_eq!(rt; seen.written.as_slice(), b"three".as_slice());
+        assert_eq!(rt; seen.read?.as_slice(), b"seven b".as_slice());
         Ok(())
     }
 
@@ -276,8 +303,8 @@ mod tests {
             (0, 0, failed, 1),
         ] {
             let mut sink = StdSink::new(Interrupted { left, moves });
-            assert_eq!(rt; sink.write(alloc, b"abc"), wrote, "{left} {moves}");
-            assert_eq!(rt; sink.faults, faults, "{left} {moves}");
+            let answer = sink.write(alloc, b"abc");
+            assert_eq!(rt; (answer, sink.faults), (wrote, faults), "{left} {moves}");
         }
         for (left, gave) in [(100, true), (101, false)] {
             let mut reader = Interrupted { left, moves: 0 };
