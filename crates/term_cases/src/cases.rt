@@ -72,19 +72,35 @@ fn is_exchanged(
     made: &str,
 ) -> Result<bool> {
     let whole = term(alloc, whole)?;
+    let places = places_of(alloc, path)?;
+    let new = term(alloc, new)?;
+    Ok(stands(alloc, &whole, &places, found)? && becomes(alloc, &whole, &places, new, made)?)
+}
+
+/// The numbers of the path's digits.
+fn places_of(alloc: Global, path: &str) -> Result<Vec<u8>> {
     let mut places = Vec::new(alloc);
     for digit in path.as_bytes() {
         if *digit != b'-' {
             places.push(digit.wrapping_sub(b'0'))?;
         }
     }
-    let part = match whole.at(&places) {
-        Some(part) => is(alloc, part, found)?,
-        None => found == "none",
-    };
-    match whole.replace(alloc, &places, term(alloc, new)?) {
-        Ok(changed) => Ok(part && is(alloc, &changed, made)?),
-        Err(ReplaceError::NoSuchPlace) => Ok(part && made == "none"),
+    Ok(places)
+}
+
+/// Whether this stands at the places of the term.
+fn stands(alloc: Global, whole: &Term, places: &[u8], found: &str) -> Result<bool> {
+    match whole.at(places) {
+        Some(part) => is(alloc, part, found),
+        None => Ok(found == "none"),
+    }
+}
+
+/// Whether that becomes of the term with the new one at the places.
+fn becomes(alloc: Global, whole: &Term, places: &[u8], new: Term, made: &str) -> Result<bool> {
+    match whole.replace(alloc, places, new) {
+        Ok(changed) => is(alloc, &changed, made),
+        Err(ReplaceError::NoSuchPlace) => Ok(made == "none"),
         Err(ReplaceError::OutOfMemory) => bail!("out of memory"),
     }
 }
