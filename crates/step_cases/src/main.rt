@@ -16,13 +16,31 @@ mod specification;
 mod steps;
 mod terms;
 
+ghost use Rattle.spec_core.specs.WellSorted.{IsWellSorted};
+
 use anyhow::Result;
-use std::io::{BufRead, BufReader};
+use spec_core::Spec;
+use std::alloc::Global;
+use std::io::{BufRead, BufReader, Lines};
 
 fn main(rt: HostRuntime) -> Result<()> {
     let alloc = rt.alloc();
     let mut lines = BufReader::new(alloc, rt.reader())?.lines(alloc);
-    let mut text: Vec<u8> = Vec::new(alloc);
+    let text = text_of(alloc, &mut lines)?;
+    let spec = specification::specification(alloc, &text)?;
+    let mut right: u64 = 0;
+    for line in lines {
+        if is_right(rt, &spec, line?.as_str())? {
+            right = right.saturating_add(1);
+        }
+    }
+    println!(rt; "{right} cases as they are written")?;
+    Ok(())
+}
+
+/// The lines up to one that is `end`, which is dropped.
+fn text_of<R: BufRead + Drop>(alloc: Global, lines: &mut Lines<R>) -> Result<Vec<u8>> {
+    let mut text = Vec::new(alloc);
     while let Some(line) = lines.next() {
         let line = line?;
         if line.as_str() == "end" {
@@ -31,22 +49,23 @@ fn main(rt: HostRuntime) -> Result<()> {
         text.extend_from_slice(line.as_str().as_bytes())?;
         text.push(b'\n')?;
     }
-    let spec = specification::specification(alloc, &text)?;
-    let mut right: u64 = 0;
-    for line in lines {
-        let line = line?;
-        let words: Vec<&str> = line.as_str().split_whitespace().collect(alloc)?;
-        match words.as_slice() {
-            [] | ["#", ..] => continue,
-            words => {
-                if cases::holds(alloc, &spec, words)? {
-                    right = right.saturating_add(1);
-                } else {
-                    println!(rt; "otherwise: {line}")?;
-                }
+    Ok(text)
+}
+
+/// Whether the line has a case that comes out as it is written. One that doesn't is printed.
+fn is_right(rt: HostRuntime, spec: &Spec, line: &str) -> Result<bool>
+    requires fine { IsWellSorted spec.now }
+{
+    let alloc = rt.alloc();
+    let words: Vec<&str> = line.split_whitespace().collect(alloc)?;
+    match words.as_slice() {
+        [] | ["#", ..] => Ok(false),
+        words => {
+            let right = cases::holds(alloc, spec, words)?;
+            if !right {
+                println!(rt; "otherwise: {line}")?;
             }
+            Ok(right)
         }
     }
-    println!(rt; "{right} cases as they are written")?;
-    Ok(())
 }
