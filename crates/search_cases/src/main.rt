@@ -15,29 +15,45 @@ mod values;
 mod walks;
 
 use anyhow::Result;
-use std::io::{BufRead, BufReader};
+use std::alloc::Global;
+use std::io::{BufRead, BufReader, Lines};
 
 fn main(rt: HostRuntime) -> Result<()> {
     let alloc = rt.alloc();
     let lines = BufReader::new(alloc, rt.reader())?.lines(alloc);
+    let mut otherwise: Vec<String> = Vec::new(alloc);
+    let goals = compared(alloc, lines, &mut otherwise)?;
+    for line in &otherwise {
+        println!(rt; "otherwise: {line}")?;
+    }
+    println!(rt; "{goals} goals")?;
+    Ok(())
+}
+
+/// How many goals the specifications of the lines have. Where a search differs is added.
+fn compared<R: BufRead + Drop>(
+    alloc: Global,
+    lines: Lines<R>,
+    otherwise: &mut Vec<String>,
+) -> Result<usize> {
     let mut text: Vec<u8> = Vec::new(alloc);
     let mut goals: usize = 0;
-    let mut otherwise: Vec<String> = Vec::new(alloc);
     for line in lines {
         let line = line?;
         if line.as_str() == "end" {
-            let spec = specification::specification(alloc, &text)?;
-            goals = goals.saturating_add(spec.goals.len());
-            searches::compare(alloc, &spec, &mut otherwise)?;
+            goals = goals.saturating_add(compared_goals(alloc, &text, otherwise)?);
             text.clear();
         } else {
             text.extend_from_slice(line.as_str().as_bytes())?;
             text.push(b'\n')?;
         }
     }
-    for line in &otherwise {
-        println!(rt; "otherwise: {line}")?;
-    }
-    println!(rt; "{goals} goals")?;
-    Ok(())
+    Ok(goals)
+}
+
+/// How many goals the specification of the text has. Where a search differs is added.
+fn compared_goals(alloc: Global, text: &[u8], otherwise: &mut Vec<String>) -> Result<usize> {
+    let spec = specification::specification(alloc, text)?;
+    searches::compare(alloc, &spec, otherwise)?;
+    Ok(spec.goals.len())
 }
