@@ -22,20 +22,30 @@ use std::{env, fs};
 
 fn main(rt: HostRuntime) -> Result<()> {
     let words: Vec<String> = env::args(&rt)?.collect(rt.alloc())?;
-    let alloc = rt.alloc();
-    let done = match words.as_slice() {
+    let done = count_of(rt, &words)?;
+    println!(rt; "done {done}")?;
+    Ok(())
+}
+
+/// What the mode of these words counts.
+fn count_of(rt: HostRuntime, words: &[String]) -> Result<u64> {
+    match words {
         [_, mode, file, budget, times] if mode.as_str() == "normalize" => {
-            let spec = specification(alloc, &fs::read(&rt, file.as_str())?)?;
-            normalized(alloc, &spec, number(budget)?, number(times)?)?
+            normalized_file(rt, file.as_str(), budget, times)
         }
         [_, mode, differ, equations, times] if mode.as_str() == "compare" => {
             let all_differ = differ.as_str() == "all";
-            compared(alloc, number(equations)?, all_differ, number(times)?)?
+            compared(rt.alloc(), number(equations)?, all_differ, number(times)?)
         }
         _ => bail!("the words are no mode of this program"),
-    };
-    println!(rt; "done {done}")?;
-    Ok(())
+    }
+}
+
+/// The count of the file of this name.
+fn normalized_file(rt: HostRuntime, file: &str, budget: &String, times: &String) -> Result<u64> {
+    let alloc = rt.alloc();
+    let spec = specification(alloc, &fs::read(&rt, file)?)?;
+    normalized(alloc, &spec, number(budget)?, number(times)?)
 }
 
 fn number(word: &String) -> Result<u32> {
