@@ -8,6 +8,7 @@ ghost use Rattle.accepted_spec.specs.Tellings.{Tells};
 use sort_check::{SortFault, SortKind};
 use spec_syntax::{LimitKind, SyntaxFault};
 use std::alloc::Global;
+use std::fmt;
 use term_core::OutOfMemory;
 
 /// What a line of refusal is about.
@@ -23,6 +24,15 @@ pub enum Refusal {
     /// The line that says so.
     Line(Vec<u8>),
     OutOfMemory,
+}
+
+impl fmt::Display for Refusal {
+    fn fmt<W: fmt::Write>(&self, f: &mut fmt::Formatter<W>) -> fmt::Result {
+        f.write_str(match self {
+            Refusal::Line(_) => "a text isn't taken",
+            Refusal::OutOfMemory => "out of memory",
+        })
+    }
 }
 
 impl From<OutOfMemory> for Refusal {

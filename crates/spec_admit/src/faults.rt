@@ -74,3 +74,9 @@ pub struct AdmitError {
     pub spec: Spec,
     pub fault: AdmitFault,
 }
+
+impl fmt::Display for AdmitError {
+    fn fmt<W: fmt::Write>(&self, f: &mut fmt::Formatter<W>) -> fmt::Result {
+        write!(f, "{}", self.fault)
+    }
+}
