@@ -1,7 +1,8 @@
-ghost use Rattle.std.specs.Prelude.{◌≡◌, ◌↔◌, ◌≤◌, ◌<◌, IfOk, IsTrue, Some, length as length_of};
+ghost use Rattle.std.specs.Prelude.{◌≡◌, ◌↔◌, ◌≤◌, ◌<◌, ◌+◌, ◌^◌, ◌++◌, IfOk, IsTrue, Some, length as length_of};
 ghost use Rattle.spec_core.specs.declared.records.SymInfo.{SymInfo as Info};
 ghost use Rattle.spec_core.specs.Sig.{info_of};
 ghost use Rattle.spec_core.specs.WellSorted.{IsWellSorted};
+ghost use Rattle.plain_proof.specs.Cases.{in_case};
 ghost use Rattle.plain_proof.specs.CaseAnswers.{HasSort, IsCase, HasCases};
 
 use crate::cases::case_of;
@@ -65,12 +66,7 @@ fn case_length(
         IsCase spec.now ctx.now equation.now var.0 (sym.0, i.args) budget found) }
 {
     let args = spec.sig.info(sym).args.as_slice();
-    let mut over = Vec::new(alloc);
-    over.extend_from_slice(ctx)?;
-    over.extend_from_slice(args)?;
-    let theta = case_of(alloc, var, sym, ctx.len(), args.len())?;
-    let left = theta.apply(alloc, &equation.left)?;
-    let right = theta.apply(alloc, &equation.right)?;
+    let Equation { left, right } = sides_in(alloc, ctx, equation, var, sym, args)?;
     if !are_within(alloc, &left, &right)? {
         return Ok(None);
     }
@@ -84,9 +80,41 @@ fn case_length(
     if length > budget {
         return Ok(None);
     }
+    let over = sorts_in(alloc, ctx, args)?;
     let closing = close(alloc, &spec.sig, ctx, equation, &over, &left, &right)?;
     if !closing.suffices(uses + more) {
         return Ok(None);
     }
     Ok(Some(length))
+}
+
+/// Both sides in the variable's case with this constructor, whose arguments have these sorts.
+fn sides_in(
+    alloc: Global,
+    ctx: &[SortId],
+    equation: &Equation,
+    var: VarId,
+    sym: SymId,
+    args: &[SortId],
+) -> Result<Equation, OutOfMemory>
+    requires few { length_of ctx.now + length_of args.now < 2 ^ 32 }
+    ensures left { IfOk result (λ sides.
+        sides.left ≡ in_case ctx.now var.0 (sym.0, args.now) equation.now.left) }
+    ensures right { IfOk result (λ sides.
+        sides.right ≡ in_case ctx.now var.0 (sym.0, args.now) equation.now.right) }
+{
+    let theta = case_of(alloc, var, sym, ctx.len(), args.len())?;
+    let left = theta.apply(alloc, &equation.left)?;
+    let right = theta.apply(alloc, &equation.right)?;
+    Ok(Equation { left, right })
+}
+
+/// The sorts of the variables in a case.
+fn sorts_in(alloc: Global, ctx: &[SortId], args: &[SortId]) -> Result<Vec<SortId>, OutOfMemory>
+    ensures { IfOk result (λ over. over.items ≡ ctx.now ++ args.now) }
+{
+    let mut over = Vec::new(alloc);
+    over.extend_from_slice(ctx)?;
+    over.extend_from_slice(args)?;
+    Ok(over)
 }
