@@ -19,3 +19,4 @@ pub mod SmallShapes
 mod Covered
 pub mod Findings
 pub mod Constructors
+pub mod RuleTables

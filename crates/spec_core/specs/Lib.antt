@@ -17,6 +17,7 @@ pub mod TermText
 pub mod Laws
 pub mod Naturals
 pub mod Shapes
+pub mod RuleTables
 pub mod Examples
 -- The first of several faults, for the layers above that look for one.
 pub mod Findings

@@ -2,15 +2,17 @@
 //!
 //! It stands on term_core and on `indexmap`. The folder `specs/` has a file for each notion: what a
 //! signature declares, sorts and values, small values, well sorted specifications, evaluation with
-//! its cost, truth, overlap, whole groups, the verdict within a budget, the order of a search and
-//! the text of a term. The layers above use these definitions, and of [`Signature`] that a symbol's number is
-//! its place in the table and that each call is exact against the lists of declarations.
+//! its cost, truth, overlap, whole groups, the verdict within a budget, the order of a search, the
+//! text of a term and the rules of each function. The layers above use these definitions, of
+//! [`Signature`] that a symbol's number is its place in the table and that each call is exact
+//! against the lists of declarations, and of [`RuleTable`] that it has each function's rules.
 #![tactic(auto)]
 
 mod building;
 mod laws;
 mod printing;
 mod records;
+mod rule_table;
 mod small;
 mod sorting;
 mod symbols;
@@ -19,5 +21,6 @@ mod tables;
 pub use building::BuildError;
 pub use laws::{one_small_value, one_value, worked_examples};
 pub use records::{Equation, Goal, Guard, Rule, Spec, SymInfo, VarInfo, Verdict};
+pub use rule_table::RuleTable;
 pub use small::SMALL_VALUE_SYMBOLS;
 pub use symbols::Signature;
