@@ -26,14 +26,14 @@ use Rattle.rule_code.specs.Instructions.{Instruction, IsCodeAt}
 use Rattle.rule_code.specs.Matching.{Unpacks, HaveHomes}
 use Rattle.rule_code.specs.RuleCodes.{IsRuleCode}
 use Rattle.rule_code.specs.DecisionTrees.{Lists, IsTree}
-use Rattle.rule_code.specs.Index.{numbers_of}
+use Rattle.spec_core.specs.RuleTables.{numbers_of}
 use Rattle.rule_code.specs.Programs.{program, IsProgram}
 use Rattle.rule_code.proofs.Ranges.{symbol_in_range, item_listed}
 use Rattle.rule_code.proofs.Matches.{entry_at, some_slot, tests_match, unpacked_count}
 use Rattle.rule_code.proofs.Testing.{read_is}
 use Rattle.bank_machine.specs.Sound.{IsReady}
 use Rattle.bank_machine.specs.States.{frame}
-use Rattle.bank_machine.proofs.Numbers.{RuleAt, number_has_rule}
+use Rattle.spec_core.proofs.RuleTables.{RuleOf, place_has_rule}
 use Rattle.bank_machine.specs.Calls.{FoundBy}
 
 pub entries_count : (env : List Tree) (homes : List ℕ) → length (entries env homes) ≡ length homes
@@ -160,10 +160,10 @@ pub record Tried (spec : Spec) (code : List Instruction) (f number : ℕ) (one :
   pub compiled : IsRuleCode spec code number rule one
 
 module _ (spec : Spec) (code : List Instruction) (rules : List RuleCode) (trees : List DecisionTree) (h : IsProgram spec code rules trees) (f : ℕ) (numbers : List ℕ) (some : (k : ℕ) → Lists numbers k → Lists (numbers_of f 0 spec.rules) k) (i : ℕ) (lt : i < length numbers) where
-  rule_here : RuleAt f spec.rules (get_or numbers i 0)
+  rule_here : RuleOf f spec.rules (get_or numbers i 0)
   rule_here =
       let j = some (get_or numbers i 0) (i, slice_get-get_or numbers i 0 lt) in
-      number_has_rule f spec.rules j.0 (get_or numbers i 0) j.1
+      place_has_rule f spec.rules j.0 (get_or numbers i 0) j.1
 
   pub number_within : get_or numbers i 0 < length rules
   number_within = omega (arith, slice_get_within spec.rules (get_or numbers i 0) rule_here.rule rule_here.there, h.compiled.count)

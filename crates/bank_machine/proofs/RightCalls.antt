@@ -10,7 +10,7 @@ use Rattle.rule_code.specs.declared.instructions.Kind.TheVariants.{Call}
 use Rattle.rule_code.specs.Code.{call}
 use Rattle.rule_code.specs.Instructions.{Instruction, instruction, does}
 use Rattle.rule_code.proofs.Matches.{some_same}
-use Rattle.rule_code.proofs.RuleIndex.{set_same, set_other, at_end}
+use Rattle.rule_code.proofs.ListItems.{set_same, set_other, at_end}
 use Rattle.bank_machine.specs.declared.kept_calls.Known.{Known}
 use Rattle.bank_machine.specs.declared.kept_calls.KeptCall.{KeptCall}
 use Rattle.bank_machine.specs.declared.kept_calls.KeptCalls.{KeptCalls}

@@ -6,7 +6,7 @@ ghost use Rattle.rule_code.specs.Blocks.{AddsCode};
 ghost use Rattle.rule_code.specs.Lengths.{term_length, rules_length};
 ghost use Rattle.rule_code.specs.Programs.{IsSide, first_numbers};
 
-use rule_code::{Code, DecisionTree, RuleCode, compile_rules, emit_body, grow_trees, index_rules};
+use rule_code::{Code, DecisionTree, RuleCode, compile_rules, emit_body, grow_trees};
 use spec_core::Spec;
 use std::alloc::Global;
 use std::marker::Model;
@@ -45,8 +45,7 @@ impl<'a> Machine<'a> {
     {
         let mut code = Code::new(alloc);
         let rules = compile_rules(alloc, spec, &mut code)?;
-        let index = index_rules(alloc, spec)?;
-        let trees = grow_trees(alloc, spec, &index)?;
+        let trees = grow_trees(alloc, spec)?;
         Ok(Machine {
             spec,
             code,

@@ -11,7 +11,7 @@ pub mod Homes
 pub mod Placed
 pub mod Ranges
 pub mod Joined
-pub mod RuleIndex
+pub mod ListItems
 mod Looking
 pub mod Descending
 mod Parts

@@ -16,7 +16,7 @@ use Rattle.rule_code.specs.Growing.{CanBeOutside, CanBeWanted, AreAmong, AreLeav
 use Rattle.rule_code.specs.Symbols.{symbol_in, CanBe}
 use Rattle.rule_code.proofs.Matches.{some_same, get_more}
 use Rattle.rule_code.proofs.Ranges.{item_listed}
-use Rattle.rule_code.proofs.RuleIndex.{at_end, set_same, set_other}
+use Rattle.rule_code.proofs.ListItems.{at_end, set_same, set_other}
 use Rattle.rule_code.proofs.Testing.{read_is}
 
 -- lists of numbers

@@ -3,11 +3,11 @@ use Rattle.std.specs.Prelude.{◌≡◌, ℕ, ◌-◌, ◌<◌, List, Option, So
 use Rattle.term_core.specs.Tree.{Tree, app, instance, trees_of}
 use Rattle.spec_core.specs.declared.records.Rule.{Rule}
 use Rattle.spec_core.specs.declared.records.Spec.{Spec}
+use Rattle.spec_core.specs.RuleTables.{numbers_of}
 use Rattle.rule_code.specs.declared.symbols.Path.{Path}
 use Rattle.rule_code.specs.declared.decision_trees.Split.{Split}
 use Rattle.rule_code.specs.declared.decision_trees.TreeNode.{TreeNode}
 use Rattle.rule_code.specs.declared.decision_trees.DecisionTree.{DecisionTree}
-use Rattle.rule_code.specs.Index.{numbers_of}
 use Rattle.rule_code.specs.Symbols.{symbol_in, CanBe}
 
 abbrev pub Lists : List ℕ → ℕ → Type 0

@@ -11,8 +11,6 @@ pub mod Blocks
 pub mod RuleCodes
 pub mod Programs
 pub mod Lengths
-pub mod Heads
-pub mod Index
 pub mod Symbols
 pub mod DecisionTrees
 pub mod Laws

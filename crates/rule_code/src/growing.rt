@@ -1,31 +1,28 @@
 ghost use Rattle.std.specs.Prelude.{◌<◌, ◌≤◌, ℕ, List, IfOk, length};
 ghost use Rattle.rule_code.specs.DecisionTrees.{IsTree, AreNodes, AreTrees};
-ghost use Rattle.rule_code.specs.Index.{IsIndex};
 ghost use Rattle.rule_code.specs.Growing.{IsPut, Grow};
 
 use crate::choosing::choose;
 use crate::decision_trees::{DecisionTree, Split, TreeNode};
 use crate::splitting::{leaf, split_rules};
-use spec_core::{Rule, Spec};
+use spec_core::{Rule, RuleTable, Spec};
 use std::alloc::Global;
-use term_core::OutOfMemory;
+use term_core::{OutOfMemory, SymId};
 
 /// A tree takes room for so many numbers for each rule beside those at the root. Where there is no
 /// more of it a node keeps what is left.
 const ROOM_PER_RULE: usize = 16;
 
 /// For each symbol a tree of the rules of this function.
-pub fn grow_trees(
-    alloc: Global,
-    spec: &Spec,
-    index: &[Vec<usize>],
-) -> Result<Vec<DecisionTree>, OutOfMemory>
-    requires { IsIndex spec.now index.now }
+pub fn grow_trees(alloc: Global, spec: &Spec) -> Result<Vec<DecisionTree>, OutOfMemory>
     ensures { IfOk result (λ trees. AreTrees spec.now trees.items) }
 {
-    let mut trees = Vec::with_capacity(alloc, index.len())?;
-    for numbers in index {
-        trees.push(DecisionTree::of(alloc, spec.rules.as_slice(), numbers)?)?;
+    let table = RuleTable::new(alloc, spec)?;
+    let symbols = spec.sig.symbols();
+    let mut trees = Vec::with_capacity(alloc, symbols as usize)?;
+    for symbol in 0..symbols {
+        let places = table.rules_of(SymId(symbol));
+        trees.push(DecisionTree::of(alloc, spec.rules.as_slice(), places)?)?;
     }
     Ok(trees)
 }

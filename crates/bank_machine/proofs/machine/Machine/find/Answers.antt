@@ -7,7 +7,7 @@ use Rattle.term_core.specs.Tree.{app, instance, trees_of}
 use Rattle.spec_core.specs.declared.records.Rule.{Rule}
 use Rattle.spec_core.specs.WellSorted.{IsWellSorted}
 use Rattle.value_bank.specs.Cells.{AreTerms}
-use Rattle.rule_code.specs.Index.{numbers_of}
+use Rattle.spec_core.specs.RuleTables.{numbers_of}
 use Rattle.rule_code.specs.Matched.{Tells}
 use Rattle.rule_code.specs.Programs.{Program, program}
 use Rattle.rule_code.proofs.Matches.{some_same}
