@@ -3,8 +3,6 @@ pub mod NormalTerms
 pub mod Chains
 pub mod OneRun
 -- What only this crate's own proofs use.
-pub mod RuleTable
-pub mod RuleIndices
 pub mod FirstRules
 pub mod Fine
 pub mod Slotting

@@ -18,7 +18,8 @@ abbrev pub IsFound : Spec → Tree → Option ℕ → Type 0
 IsFound spec t (Some index) = (entries : List (Option Tree)) × Found spec t index entries
 IsFound spec t None = IsStuck spec t
 
--- the left side of none of the rules at the first n of these indices matches the term
+-- the left side of no unguarded rule at the first n of these places matches the term
 abbrev pub NoneBefore : List Rule → List ℕ → Tree → ℕ → Type 0
-NoneBefore rules indices t n = (j k : ℕ) (rule : Rule)
-    → j < n → slice_get indices j ≡ Some k → slice_get rules k ≡ Some rule → HasNoMatch rule.left t
+NoneBefore rules places t n = (j k : ℕ) (rule : Rule)
+    → j < n → slice_get places j ≡ Some k → slice_get rules k ≡ Some rule → rule.guards ≡ []
+    → HasNoMatch rule.left t

@@ -5,7 +5,6 @@
 //! them than the budget ([`one_answer`]). Who normalizes many terms makes one [`Rewriter`].
 #![tactic(auto)]
 
-mod by_function;
 mod first;
 mod laws;
 mod matching;

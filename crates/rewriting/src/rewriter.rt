@@ -1,19 +1,17 @@
 ghost use Rattle.std.specs.Prelude.{◌≡◌, IfOk};
-ghost use Rattle.spec_core.specs.WellSorted.{IsWellSorted};
-ghost use Rattle.rewriting.specs.ByFunction.{indices_of};
+ghost use Rattle.spec_core.specs.RuleTables.{numbers_of};
 
-use crate::by_function::rules_by_function;
-use spec_core::{Rule, Spec};
+use spec_core::{Rule, RuleTable, Spec};
 use std::alloc::Global;
 use std::marker::Model;
 use term_core::{OutOfMemory, SymId};
 
-/// The rules of a specification that have no guards, found by their function. Who normalizes more
-/// than one term makes one. Contracts see the specification.
+/// The rules of a specification, found by their function. Who normalizes more than one term makes
+/// one. Contracts see the specification.
 #[derive(Drop)]
 pub struct Rewriter<'a> {
     spec: &'a Spec,
-    by_function: Vec<Vec<usize>>,
+    table: RuleTable,
 }
 
 impl<'a> Model for Rewriter<'a> {
@@ -26,9 +24,9 @@ impl<'a> Model for Rewriter<'a> {
 
     ghost view = { λ r. r.spec.now };
 
-    ghost use Rattle.rewriting.specs.ByFunction.{IsTable};
+    ghost use Rattle.spec_core.specs.RuleTables.{IsTableOf};
 
-    ghost invariant = { λ r. IsTable r.spec.now r.by_function.items };
+    ghost invariant = { λ r. IsTableOf r.spec.now r.table };
 }
 
 impl<'a> Rewriter<'a> {
@@ -36,8 +34,8 @@ impl<'a> Rewriter<'a> {
     pub fn new(alloc: Global, spec: &'a Spec) -> Result<Rewriter<'a>, OutOfMemory>
         ensures { IfOk result (λ r. r ≡ spec.now) }
     {
-        let by_function = rules_by_function(alloc, spec)?;
-        Ok(Rewriter { spec, by_function })
+        let table = RuleTable::new(alloc, spec)?;
+        Ok(Rewriter { spec, table })
     }
 
     /// All rules, in their order.
@@ -47,14 +45,10 @@ impl<'a> Rewriter<'a> {
         self.spec.rules.as_slice()
     }
 
-    /// The indices of the function's rules without guards among all rules, in their order.
+    /// The places of the function's rules among all rules, in their order.
     pub(crate) fn rules_of(&self, sym: SymId) -> &[usize]
-        requires fine { IsWellSorted self.now }
-        ensures { result.now ≡ indices_of sym.0 0 self.now.rules }
+        ensures { result.now ≡ numbers_of sym.0 0 self.now.rules }
     {
-        match self.by_function.get(sym.0 as usize) {
-            Some(indices) => indices.as_slice(),
-            None => &[],
-        }
+        self.table.rules_of(sym)
     }
 }

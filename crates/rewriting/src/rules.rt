@@ -22,9 +22,13 @@ impl<'a> Rewriter<'a> {
             return Ok(None);
         };
         let rules = self.rules();
-        for index in self.rules_of(*sym) {
-            if fits(alloc, &rules[*index].left, term)? {
-                return Ok(Some(*index));
+        for place in self.rules_of(*sym) {
+            let rule = &rules[*place];
+            if !rule.guards.is_empty() {
+                continue;
+            }
+            if fits(alloc, &rule.left, term)? {
+                return Ok(Some(*place));
             }
         }
         Ok(None)
