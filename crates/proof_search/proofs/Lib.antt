@@ -5,7 +5,6 @@ mod SpotsThere
 mod TakenSteps
 mod UnfitSpines
 -- Rules by their functions, and goals that are lemmas.
-mod RuleTable
 mod RuleNumbers
 mod LemmaGoals
 -- The entries of the list.

@@ -1,10 +1,11 @@
 -- A rule of another function has no step at a place.
 use Rattle.std.proofs.Common.{◌≡◌, ℕ, ◌+◌, List, [], ◌∷◌, Bool, true, false, Some, Ok, Err, Result, inl, inr, ap, sym, ◌∙◌, subst, arith}
 use Rattle.std.specs.Prelude.{slice_get}
-use Rattle.std.proofs.lemmas.Bool.Decides.{nat_tests}
 use Rattle.term_core.specs.Tree.{Tree, Trees, var, app, instance, instances}
 use Rattle.spec_core.specs.declared.records.Rule.{Rule}
+use Rattle.spec_core.specs.RuleTables.{has_head}
 use Rattle.spec_core.specs.WellSorted.{IsLeft}
+use Rattle.spec_core.proofs.RuleTables.{instance_head}
 use Rattle.spec_core.specs.Sig.{Sig}
 use Rattle.clause_core.specs.declared.answers.Children.{Children}
 use Rattle.clause_core.specs.declared.answers.Why.{Why}
@@ -20,7 +21,6 @@ use Rattle.proof_search.specs.declared.at.At.{At}
 use Rattle.proof_search.specs.declared.ruling.ByRule.{ByRule}
 use Rattle.proof_search.specs.declared.ruling.ByRule.TheVariants.{Rule as by_rule, Case as by_case}
 use Rattle.proof_search.specs.Ruling.{ruling_step, rulings_by}
-use Rattle.proof_search.specs.Settings.{has_root}
 use Rattle.proof_search.specs.Taking.{IsAt, SaysAt}
 
 -- the rule of a step that makes something fits the term at its place
@@ -46,15 +46,6 @@ module _ (above : Tree → Tree → Type 0) (at : At) (place : Place) (number : 
   fitting by_case (inl (p, inl (r, inr q))) = never made _ q.1
   fitting by_case (inl (p, inr q)) = never made _ q.1
   fitting by_case (inr q) = never made _ q.1
-
--- an instance of a left side begins as it does
-same_root : (sig : Sig) (left : Tree) (list : List Tree) (f : ℕ) (ts : Trees) → IsLeft sig left →
-    instance list left ≡ app f ts → has_root f left ≡ true
-same_root sig (var n) list f ts is e = absurd is
-same_root sig (app g us) list f ts is e =
-    let q : app g (instances list us) ≡ app f ts = e in
-    let h : f ≡ g = cc in
-    grind (arith, nat_tests)
 
 -- no instance of a left side is a variable
 not_variable : (sig : Sig) (left : Tree) (list : List Tree) (n : ℕ) → IsLeft sig left →
@@ -111,16 +102,16 @@ module _ (above : Tree → Tree → Type 0) (at : At) (is : IsAt at) (entry : By
     -- a rule of another function
     pub none_of_others :
         (f : ℕ) (ts : Trees) → app f ts ≡ there.term → (k : ℕ) (rule : Rule) →
-        slice_get at.setting.now.spec.now.rules k ≡ Some rule → has_root f rule.left ≡ false →
+        slice_get at.setting.now.spec.now.rules k ≡ Some rule → has_head f rule.left ≡ false →
         NoneIs (Gives (SaysAt above at)) (certain (ruling_step entry place (1 + k)))
     none_of_others f ts e k rule listed other = no_step (1 + k) (λ w.
         let j : k ≡ w.by_number.place = omega (arith, w.by_number.counts) in
         let same : rule ≡ w.by_number.rule =
         one_get at.setting.now.spec.now.rules k w.by_number.place rule w.by_number.rule listed
         w.by_number.is j in
-        let root : has_root f w.by_number.rule.left ≡ true =
-        same_root at.setting.now.spec.now.sig w.by_number.rule.left w.fits.terms f ts
+        let root : has_head f w.by_number.rule.left ≡ true =
+        instance_head at.setting.now.spec.now.sig w.by_number.rule.left f w.fits.terms ts
         (left_there w) (instance_there w ∙ sym e) in
         let q : ◌≡◌ {A = Bool} true false = sym root
-        ∙ ap (λ (r : Rule). has_root f r.left) (sym same) ∙ other in
+        ∙ ap (λ (r : Rule). has_head f r.left) (sym same) ∙ other in
         cc)

@@ -1,4 +1,4 @@
-ghost use Rattle.std.specs.Prelude.{◌≡◌, IfOk};
+ghost use Rattle.std.specs.Prelude.{◌≡◌, suc, IfOk, map};
 ghost use Rattle.std.specs.Option.{IfSome};
 ghost use Rattle.routine_proof.specs.Entries.{rules};
 ghost use Rattle.proof_search.specs.Taking.{IsAt, IsThere, IsFound, place_of};
@@ -70,33 +70,33 @@ fn ruling_at<O: TermOrder>(
         return Ok(None);
     };
     let setting = at.setting;
-    ruling_by(alloc, order, at, entry, index, setting.rules_of(*sym))
+    ruling_by(alloc, order, at, entry, index, setting.rules.rules_of(*sym))
 }
 
-/// The first of them at the place by a rule of these numbers. The table is asked only where the
-/// symbols of the left side are there.
+/// The first of them at the place by a rule at these places among all rules. The table of steps is
+/// asked only where the symbols of the left side are there.
 fn ruling_by<O: TermOrder>(
     alloc: Global,
     order: &O,
     at: &At,
     entry: ByRule,
     index: usize,
-    numbers: &[u32],
+    from: &[usize],
 ) -> Result<Option<Move>, OutOfMemory>
     requires at { IsAt at.now }
     requires there { IsThere at.now index }
     ensures { IfOk result (IsFound (O.above order.now) at.now
-        (rulings_by entry (place_of at.now index) numbers.now)) }
+        (rulings_by entry (place_of at.now index) (map (λ k. suc k) from.now))) }
 {
     let setting = at.setting;
     let term = at.spots.term(index);
     let mut known = None;
-    for number in numbers {
-        if !setting.may_fit(*number, term) {
+    for rule in from {
+        let Some(number) = setting.fitting(*rule, term) else {
             continue;
-        }
+        };
         let place = place_at(alloc, at, index, known)?;
-        let step = entry.step(copy_place(alloc, &place)?, *number);
+        let step = entry.step(copy_place(alloc, &place)?, number);
         known = Some(place);
         let found = taken(alloc, order, at, step, Asked::Nothing)?;
         if found.is_some() {

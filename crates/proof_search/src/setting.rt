@@ -1,26 +1,26 @@
-ghost use Rattle.std.specs.Prelude.{◌≡◌, [], IfOk, IsTrue, OnOk, map};
+ghost use Rattle.std.specs.Prelude.{◌≡◌, suc, IfOk, MatchOption, map};
 ghost use Rattle.spec_core.specs.WellSorted.{IsWellSorted};
 ghost use Rattle.clause_core.specs.RuleInstances.{RuleAt, IsInstance};
 ghost use Rattle.clause_core.specs.Tidied.{goal_clause};
 ghost use Rattle.proof_search.specs.FallingSides.{HasSorts, LemmasFall};
-ghost use Rattle.proof_search.specs.Settings.{IsSetting, IsTable, IsTableOf, AddsNumber, AreLemmas, IsLemma, numbers_of};
+ghost use Rattle.proof_search.specs.Settings.{IsSetting, AreLemmas, IsLemma};
 
 use crate::falling_sides::{FallingSides, lemma_sides};
 use clause_core::{Clause, of_goal, tidying_laws};
 use fitting_lists::{LeadingPlace, leading, may_become};
 use path_order::TermOrder;
-use spec_core::{Goal, Spec};
+use spec_core::{Goal, RuleTable, Spec};
 use std::alloc::Global;
-use term_core::{Name, Node, OutOfMemory, Seq, SymId, Term};
+use term_core::{Name, OutOfMemory, Term};
 
 /// What stays the same while the proof of a goal is looked for: the specification, the numbers of
-/// the lemmas with these goals as clauses, and for each symbol the numbers of its rules.
+/// the lemmas with these goals as clauses, and the table of each function's rules.
 #[derive(Drop)]
 pub(crate) struct Setting<'a> {
     pub(crate) spec: &'a Spec,
     pub(crate) lemmas: &'a [u32],
     pub(crate) goals: Vec<LemmaGoal>,
-    pub(crate) rules: Vec<Seq<u32>>,
+    pub(crate) rules: RuleTable,
 }
 
 /// A goal that is a lemma: its name, its tidied clause, and what is asked of it at each node.
@@ -46,7 +46,7 @@ impl<'a> Setting<'a> {
             × (made.lemmas.now ≡ lemmas.now) × LemmasFall (O.above order.now) made) }
     {
         let goals = goals_of(alloc, order, spec, lemmas)?;
-        let rules = rules_by_function(alloc, spec)?;
+        let rules = RuleTable::new(alloc, spec)?;
         Ok(Setting {
             spec,
             lemmas,
@@ -55,30 +55,19 @@ impl<'a> Setting<'a> {
         })
     }
 
-    /// Whether the term may be an instance of the left side of the rule of this number, which counts
-    /// from 1: where some symbol differs, it isn't one.
-    pub(crate) fn may_fit(&self, number: u32, term: &Term) -> bool
-        ensures { (by : RuleAt self.now.spec.now number) → IsInstance by.rule term.now → IsTrue result }
-    {
-        match self
-            .spec
-            .rules
-            .as_slice()
-            .get((number as usize).wrapping_sub(1))
-        {
-            None => false,
-            Some(rule) => may_become(&rule.left, term),
-        }
-    }
-
-    /// The numbers of the symbol's rules, which count from 1, in their order.
-    pub(crate) fn rules_of(&self, sym: SymId) -> &[u32]
+    /// The number of the rule at this place, which counts from 1, where the term may be an instance
+    /// of its left side: where some symbol differs, it isn't one.
+    pub(crate) fn fitting(&self, place: usize, term: &Term) -> Option<u32>
         requires { IsSetting self.now }
-        ensures { result.now ≡ numbers_of sym.0 1 self.now.spec.now.rules }
+        ensures { MatchOption result
+            ((by : RuleAt self.now.spec.now (suc place)) → IsInstance by.rule term.now → ⊥)
+            (λ number. number ≡ suc place) }
     {
-        match self.rules.get(sym.0 as usize) {
-            Some(numbers) => numbers.as_slice(),
-            None => &[],
+        let rule = self.spec.rules.as_slice().get(place)?;
+        if may_become(&rule.left, term) {
+            Some(place as u32 + 1)
+        } else {
+            None
         }
     }
 }
@@ -120,43 +109,4 @@ fn lemma_of<O: TermOrder>(alloc: Global, order: &O, goal: &Goal) -> Result<Lemma
         leading,
         sides,
     })
-}
-
-/// For each symbol the numbers of its rules, in their order.
-fn rules_by_function(alloc: Global, spec: &Spec) -> Result<Vec<Seq<u32>>, OutOfMemory>
-    requires { IsWellSorted spec.now }
-    ensures { IfOk result (λ table. IsTable spec.now table.items) }
-{
-    let mut table = no_numbers(alloc, spec.sig.symbols())?;
-    for (index, rule) in spec.rules.as_slice().iter().enumerate() {
-        let left = &rule.left;
-        match &left.node {
-            Node::Var(_) => continue,
-            Node::App(sym, _) => add_number(&mut table, *sym, index as u32 + 1)?,
-        }
-    }
-    Ok(table)
-}
-
-/// No numbers for each symbol.
-fn no_numbers(alloc: Global, symbols: u32) -> Result<Vec<Seq<u32>>, OutOfMemory>
-    ensures { IfOk result (λ table. IsTableOf symbols [] table.items) }
-{
-    let mut table = Vec::with_capacity(alloc, symbols as usize)?;
-    for _ in 0..symbols {
-        table.push(Seq::new(alloc))?;
-    }
-    Ok(table)
-}
-
-/// Adds the number to the symbol's entry, if the symbol has one.
-fn add_number(table: &mut Vec<Seq<u32>>, sym: SymId, number: u32) -> Result<(), OutOfMemory>
-    ensures { OnOk result (AddsNumber table.old.items table.new.items sym.0 number) }
-{
-    let function = sym.0 as usize;
-    if function < table.len() {
-        let numbers = &mut table[function];
-        numbers.push(number)?;
-    }
-    Ok(())
 }

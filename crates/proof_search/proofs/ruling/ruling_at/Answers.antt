@@ -1,9 +1,11 @@
-use Rattle.std.proofs.Common.{◌≡◌, ℕ, Option, List, ap, sym, ◌∙◌, subst}
+use Rattle.std.proofs.Common.{◌≡◌, ℕ, suc, Option, List, map, ap, sym, ◌∙◌, subst}
 use Rattle.term_core.specs.Tree.{var, app, trees_of}
 use Rattle.term_core.specs.View.{tree_of}
 use Rattle.routine_proof.specs.declared.moves.Move.{Move}
 use Rattle.routine_proof.specs.Candidates.{Gives, certain}
 use Rattle.routine_proof.specs.Entries.{rules}
+use Rattle.spec_core.specs.RuleTables.{numbers_of}
+use Rattle.spec_core.proofs.RuleTables.{numbers_after}
 use Rattle.proof_search.specs.Ruling.{ruling_step, rulings_by}
 use Rattle.proof_search.specs.Taking.{SaysAt, IsFound, place_of, term_of}
 use Rattle.term_core.proofs.Items.{if_ok_map}
@@ -31,14 +33,19 @@ returns g c =
     let place = place_of at c.args.index in
     let e : app f args ≡ term_of at c.args.index =
     ap tree_of (sym c.in-App.is) ∙ c.term.view_is ∙ c.term-term.ensures in
+    let listed = at.setting.now.spec.now.rules in
     let all = rulings_by c.args.entry place (rules at.setting.now.spec.now) in
+    let numbers = map (λ k. suc k) c.rules_of.result.now in
+    let are : numbers ≡ numbers_of f 1 listed =
+    ap (λ ks. map (λ k. suc k) ks) (c.rules_of.ensures ∙ c.requires.at.setting.rules f)
+    ∙ numbers_after f 0 listed in
     if_ok_map c.ruling_by.result
-    (IsFound above at (rulings_by c.args.entry place c.rules_of.result.now)) (IsFound above at all)
+    (IsFound above at (rulings_by c.args.entry place numbers)) (IsFound above at all)
     (λ (found : Option Move) first.
     by_all (Gives (SaysAt above at)) (λ (n : ℕ). certain (ruling_step c.args.entry place n)) f
-    at.setting.now.spec.now.rules
+    listed
     (none_of_others above at c.requires.at c.args.entry place c.requires.there.place f args
     (e ∙ sym c.requires.there.term)) found
     (subst (λ (ns : List ℕ). IsFound above at (rulings_by c.args.entry place ns) found)
-    c.rules_of.ensures first))
+    are first))
     c.ruling_by.ensures
