@@ -46,54 +46,56 @@ OfGoal spec name P = (goal : Goal) × IsGoalNamed spec name goal × P goal
 
 -- the tests of a claim on the goal of this name, behind these claims; its first line is given
 module _
-    (above : Tree → Tree → Type 0) (spec : Spec) (before : List Claim) (line : ℕ) (name : List ℕ) where
-  -- those of a block of these steps, which stand on the lines behind the first one
-  module _ (steps : List Step) where
-    -- step k is refused for this reason
-    abbrev pub reason_test : ℕ → Why → Search Refusal
-    reason_test k why =
-        test (line + suc k, of_step why) (OfGoal spec name (λ goal.
-        StepIsRefused above spec (ProvedBefore spec before) (goal_clause goal) steps k why))
+    (above : Tree → Tree → Type 0) (spec : Spec) (before : List Claim) (line : ℕ) (name : List ℕ)
+  where
+    -- those of a block of these steps, which stand on the lines behind the first one
+    module _ (steps : List Step) where
+      -- step k is refused for this reason
+      abbrev pub reason_test : ℕ → Why → Search Refusal
+      reason_test k why =
+          test (line + suc k, of_step why) (OfGoal spec name (λ goal.
+          StepIsRefused above spec (ProvedBefore spec before) (goal_clause goal) steps k why))
 
-    -- or for one of all reasons, of which one applies at most
-    abbrev pub step_tests : ℕ → Search Refusal
-    step_tests k = each (reason_test k) all_reasons
+      -- or for one of all reasons, of which one applies at most
+      abbrev pub step_tests : ℕ → Search Refusal
+      step_tests k = each (reason_test k) all_reasons
 
-    -- there are more nodes than steps
-    abbrev pub pending_test : Search Refusal
-    pending_test =
-        test (line, Pending) (OfGoal spec name (λ goal.
-        IsPending above spec (ProvedBefore spec before) (goal_clause goal) steps))
+      -- there are more nodes than steps
+      abbrev pub pending_test : Search Refusal
+      pending_test =
+          test (line, Pending) (OfGoal spec name (λ goal.
+          IsPending above spec (ProvedBefore spec before) (goal_clause goal) steps))
 
-    -- a child or a reference at step k isn't allowed
-    abbrev pub order_test : ℕ → Search Refusal
-    order_test k =
-        test (line + suc k, NotSmaller) (OfGoal spec name (λ goal.
-        IsNotSmaller above spec (ProvedBefore spec before) (goal_clause goal) steps k))
+      -- a child or a reference at step k isn't allowed
+      abbrev pub order_test : ℕ → Search Refusal
+      order_test k =
+          test (line + suc k, NotSmaller) (OfGoal spec name (λ goal.
+          IsNotSmaller above spec (ProvedBefore spec before) (goal_clause goal) steps k))
 
-    -- first the goal's clause, then the steps, then what they leave, and last what is allowed
-    abbrev pub block_tests : Search Refusal
-    block_tests =
-        then
-        (test (line, of_step Limit) (OfGoal spec name (λ goal. ¬ (IsWithin (goal_clause goal)))))
-        (then (each step_tests (range_with_len 0 (length steps)))
-        (then pending_test
-        (each order_test (range_with_len 0 (length steps)))))
+      -- first the goal's clause, then the steps, then what they leave, and last what is allowed
+      abbrev pub block_tests : Search Refusal
+      block_tests =
+          then (test (line, of_step Limit)
+          (OfGoal spec name (λ goal. ¬ (IsWithin (goal_clause goal)))))
+          (then (each step_tests (range_with_len 0 (length steps)))
+          (then pending_test
+          (each order_test (range_with_len 0 (length steps)))))
 
-  -- those of an outcome, where a verdict has this many steps for each side; an open one has none
-  abbrev pub outcome_tests : ℕ → Outcome → Search Refusal
-  outcome_tests budget (Proved block) = block_tests block.steps
-  outcome_tests budget (Refuted index values) =
-      then (test (line, Variables) (OfGoal spec name (λ goal. ¬ (AreNamedValues spec goal values))))
-      (test (line, NotFalse) (OfGoal spec name (λ goal. ¬ (HasFailed spec budget goal values))))
-  outcome_tests budget (Open numbers) = nothing
+    -- those of an outcome, where a verdict has this many steps for each side; an open one has none
+    abbrev pub outcome_tests : ℕ → Outcome → Search Refusal
+    outcome_tests budget (Proved block) = block_tests block.steps
+    outcome_tests budget (Refuted index values) =
+        then (test (line, Variables)
+        (OfGoal spec name (λ goal. ¬ (AreNamedValues spec goal values))))
+        (test (line, NotFalse) (OfGoal spec name (λ goal. ¬ (HasFailed spec budget goal values))))
+    outcome_tests budget (Open numbers) = nothing
 
-  -- first the goal's name, then whether a claim before has it, and last the outcome
-  abbrev pub claim_tests : ℕ → Outcome → Search Refusal
-  claim_tests budget outcome =
-      then (test (line, UnknownGoal) (¬ (OfGoal spec name (λ goal. Unit {0}))))
-      (then (test (line, GoalTwice) (IsClaimed name before))
-      (outcome_tests budget outcome))
+    -- first the goal's name, then whether a claim before has it, and last the outcome
+    abbrev pub claim_tests : ℕ → Outcome → Search Refusal
+    claim_tests budget outcome =
+        then (test (line, UnknownGoal) (¬ (OfGoal spec name (λ goal. Unit {0}))))
+        (then (test (line, GoalTwice) (IsClaimed name before))
+        (outcome_tests budget outcome))
 
 -- the claims in order, each with those before it
 abbrev pub report_tests : (Tree → Tree → Type 0) → Spec → Report → Search Refusal

@@ -42,7 +42,8 @@ module _ (most room : ℕ) where
   state_moves s = block_moves s.top.steps s.top.end + frames_moves s.waiting
 
 abbrev pub stack_moves : Program → Stack → ℕ
-stack_moves p s = moves_from (most_guards p.spec.rules) (suc (length p.code)) (drop s.next p.code) + held_moves (most_guards p.spec.rules) (suc (length p.code)) p.code (reverse s.waiting)
+stack_moves p s = moves_from (most_guards p.spec.rules) (suc (length p.code)) (drop s.next p.code)
+    + held_moves (most_guards p.spec.rules) (suc (length p.code)) p.code (reverse s.waiting)
 
 -- what a use of a rule can add to it
 abbrev pub call_moves : Program → ℕ

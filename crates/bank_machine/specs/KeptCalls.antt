@@ -16,19 +16,23 @@ pub record IsKept (call : KeptCall) (f : ℕ) (ps : List ℕ) (known : Known) : 
 
 -- the table says that it is known
 abbrev pub Says : KeptCalls → ℕ → List ℕ → Known → Type 0
-Says kept f ps known = (i : ℕ) × (call : KeptCall) × (slice_get kept.calls.items i ≡ Some call) × IsKept call f ps known
+Says kept f ps known = (i : ℕ) × (call : KeptCall) × (slice_get kept.calls.items i ≡ Some call)
+    × IsKept call f ps known
 
 -- what the table says it has said before
 abbrev pub SaysNoMore : KeptCalls → KeptCalls → Type 0
-SaysNoMore old new = (f : ℕ) (ps : List ℕ) (known : Known) → Says new f ps known → Says old f ps known
+SaysNoMore old new =
+    (f : ℕ) (ps : List ℕ) (known : Known) → Says new f ps known → Says old f ps known
 
 -- or it is what is known of this call
 abbrev pub SaysAlso : KeptCalls → KeptCalls → ℕ → List ℕ → Known → Type 0
-SaysAlso old new g qs also = (f : ℕ) (ps : List ℕ) (known : Known) → Says new f ps known → Says old f ps known ⊎ ((f ≡ g) × (ps ≡ qs) × (known ≡ also))
+SaysAlso old new g qs also = (f : ℕ) (ps : List ℕ) (known : Known) → Says new f ps known
+    → Says old f ps known ⊎ ((f ≡ g) × (ps ≡ qs) × (known ≡ also))
 
 -- of no call a value is known
 abbrev pub HaveNoValues : List KeptCall → Type 0
-HaveNoValues calls = (i : ℕ) (call : KeptCall) (known : Known) → slice_get calls i ≡ Some call → call.known ≡ Some known → ⊥
+HaveNoValues calls = (i : ℕ) (call : KeptCall) (known : Known) → slice_get calls i ≡ Some call
+    → call.known ≡ Some known → ⊥
 
 module _ (spec : Spec) (cells : List Cell) where
   -- the call gives the value at the place at the cost

@@ -15,19 +15,22 @@ use Rattle.bank_machine.specs.States.{Frame, frame, State}
 module _ (spec : Spec) (code : List Instruction) where
   -- the frame waits for the call of the function with these slots, and so much of the budget was left when it began. What
   -- the top frame gives, the call gives at its cost and what was paid since then
-  pub record IsOwed (top : Frame) (left : ℕ) (held : Held) (waits : Frame) (f : ℕ) (ss : List ℕ) : Type 0 where
+  pub record IsOwed (top : Frame) (left : ℕ) (held : Held) (waits : Frame) (f : ℕ) (ss : List ℕ) :
+      Type 0 where
     pub place : ℕ
     pub next : held.next ≡ suc place
     pub there : slice_get code place ≡ Some (does (call f ss))
     pub range : AreThere (length waits.env) ss
     pub paid : left ≤ held.left
-    pub gives : (w : Tree) (n m : ℕ) → Does spec top.env top.steps top.end w n → m + left ≡ held.left + n → Gives spec (app f (slots waits.env ss)) w m
+    pub gives : (w : Tree) (n m : ℕ) → Does spec top.env top.steps top.end w n
+        → m + left ≡ held.left + n → Gives spec (app f (slots waits.env ss)) w m
 
   -- so it is for the first frame that waits, and for each other one, where the frame before it is as it was at its call
   abbrev pub Owes : Frame → ℕ → List Held → List Frame → Type 0
   Owes top left [] fs = Unit {0}
   Owes top left (h ∷ hs) [] = Unit {0}
-  Owes top left (h ∷ hs) (f ∷ fs) = (g : ℕ) × (ss : List ℕ) × IsOwed top left h f g ss × Owes (frame f.env (call g ss ∷ f.steps) f.end) h.left hs fs
+  Owes top left (h ∷ hs) (f ∷ fs) = (g : ℕ) × (ss : List ℕ) × IsOwed top left h f g ss
+      × Owes (frame f.env (call g ss ∷ f.steps) f.end) h.left hs fs
 
 module _ (p : Program) where
   -- the same for the frames of a state that the stack stands for

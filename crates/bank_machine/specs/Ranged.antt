@@ -13,7 +13,8 @@ module _ (rules : List Rule) where
   abbrev pub IsRangedEnd : ℕ → End → Type 0
   IsRangedEnd n (slot s) = s < n
   IsRangedEnd n (last f ss) = AreThere n ss
-  IsRangedEnd n (decide s number k homes) = (s < n) × AreThere n homes × AreOwnHomes rules number n homes
+  IsRangedEnd n (decide s number k homes) =
+      (s < n) × AreThere n homes × AreOwnHomes rules number n homes
 
   -- where n slots are there, and each step adds one, the steps and the end look at slots that are there
   abbrev pub IsRanged : ℕ → List Step → End → Type 0

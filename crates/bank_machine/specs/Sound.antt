@@ -20,18 +20,25 @@ module _ (spec : Spec) where
   abbrev pub IsFitEnd : List Tree → End → SortId → Type 0
   IsFitEnd env (slot i) s = IsValue spec.sig s (instance env (var i))
   IsFitEnd env (last f ss) s = IsReady f (slots env ss) s
-  IsFitEnd env (decide i number k homes) s = (rule : Rule) × (slice_get spec.rules number ≡ Some rule) × Sorted spec.sig [] (instance (entries env homes) rule.left) s × AllByRecursion (λ (t : Tree). IsBuilt spec.sig t) (entries env homes)
+  IsFitEnd env (decide i number k homes) s = (rule : Rule)
+      × (slice_get spec.rules number ≡ Some rule)
+      × Sorted spec.sig [] (instance (entries env homes) rule.left) s
+      × AllByRecursion (λ (t : Tree). IsBuilt spec.sig t) (entries env homes)
 
   -- each call of the code is ready, whatever values of their sorts the calls before it give, and so is what it gives
   abbrev pub IsFit : List Tree → List Step → End → SortId → Type 0
   IsFit env [] end s = IsFitEnd env end s
   IsFit env (build f ss ∷ steps) end s = IsFit (env ++ app f (slots env ss) ∷ []) steps end s
-  IsFit env (call f ss ∷ steps) end s = (u : SortId) × IsReady f (slots env ss) u × ((v : Tree) → IsValue spec.sig u v → IsFit (env ++ v ∷ []) steps end s)
+  IsFit env (call f ss ∷ steps) end s = (u : SortId) × IsReady f (slots env ss) u
+      × ((v : Tree) → IsValue spec.sig u v → IsFit (env ++ v ∷ []) steps end s)
 
   -- the first of these frames waits for a value of the sort u, and all of them give one of the sort s
   abbrev pub WaitFor : List Frame → SortId → SortId → Type 0
   WaitFor [] u s = u ≡ s
-  WaitFor (f ∷ fs) u s = (m : SortId) × ((v : Tree) → IsValue spec.sig u v → IsFit (f.env ++ v ∷ []) f.steps f.end m) × WaitFor fs m s
+  WaitFor (f ∷ fs) u s = (m : SortId)
+      × ((v : Tree) → IsValue spec.sig u v → IsFit (f.env ++ v ∷ []) f.steps f.end m)
+      × WaitFor fs m s
 
   abbrev pub IsSound : State → SortId → Type 0
-  IsSound state s = (u : SortId) × IsFit state.top.env state.top.steps state.top.end u × WaitFor state.waiting u s
+  IsSound state s =
+      (u : SortId) × IsFit state.top.env state.top.steps state.top.end u × WaitFor state.waiting u s

@@ -20,7 +20,8 @@ pub record Stack : Type 0 where
   pub waiting : List Held
 
 abbrev pub stack : List ℕ → ℕ → ℕ → List Held → Stack
-stack places base next waiting = record { places = places; base = base; next = next; waiting = waiting }
+stack places base next waiting =
+    record { places = places; base = base; next = next; waiting = waiting }
 
 abbrev pub shown : Kept → Stack
 shown s = stack s.places.items s.base s.next s.held.items
@@ -33,14 +34,18 @@ gathered places base (s ∷ ss) = slice_index places (base + s) ∷ gathered pla
 -- the last frame that waits, which began to wait where so much was left, goes on with this place in its next slot; or
 -- none waits
 abbrev pub IsReturned : Stack → Stack → ℕ → Option ℕ → Type 0
-IsReturned old new place (Some left) = (rest : List Held) × (back : Held) × (old.waiting ≡ rest ++ back ∷ []) × (left ≡ back.left) × (new ≡ stack (take old.base old.places ++ place ∷ []) back.base back.next rest)
+IsReturned old new place (Some left) = (rest : List Held) × (back : Held)
+    × (old.waiting ≡ rest ++ back ∷ []) × (left ≡ back.left)
+    × (new ≡ stack (take old.base old.places ++ place ∷ []) back.base back.next rest)
 IsReturned old new place None = (old.waiting ≡ []) × (new ≡ old)
 
 module _ (cells : List Cell) (CodeAt : ℕ → List Step → End → Type 0) (stack : List ℕ) where
   -- below `base` the stack has the places of the slots of the frames that wait, the last one first
   abbrev pub Waits : ℕ → List Held → List Frame → Type 0
   Waits base [] [] = base ≡ 0
-  Waits base (h ∷ hs) (f ∷ fs) = (h.base ≤ base) × AreTerms cells (drop h.base (take base stack)) (trees_of f.env) × CodeAt h.next f.steps f.end × Waits h.base hs fs
+  Waits base (h ∷ hs) (f ∷ fs) = (h.base ≤ base)
+      × AreTerms cells (drop h.base (take base stack)) (trees_of f.env)
+      × CodeAt h.next f.steps f.end × Waits h.base hs fs
   Waits base [] (f ∷ fs) = ⊥
   Waits base (h ∷ hs) [] = ⊥
 
@@ -53,4 +58,5 @@ module _ (cells : List Cell) (CodeAt : ℕ → List Step → End → Type 0) (st
 
 -- over this code and these cells the stack stands for the state
 abbrev pub IsAt : List Instruction → List Cell → Stack → State → Type 0
-IsAt code cells s state = Stands cells (IsCodeAt code) s.places s.base s.next (reverse s.waiting) state
+IsAt code cells s state =
+    Stands cells (IsCodeAt code) s.places s.base s.next (reverse s.waiting) state

@@ -27,19 +27,24 @@ module _ (p : Program) where
 
   -- the same, where so much of the budget is left, and what is paid since each call began is part of its cost
   abbrev pub IsUnderWay : List Cell → ℕ → Stack → Type 0
-  IsUnderWay cells left stack = (s : State) × (sort : SortId) × Works cells stack s sort × Pays p left stack s
+  IsUnderWay cells left stack =
+      (s : State) × (sort : SortId) × Works cells stack s sort × Pays p left stack s
 
   -- the stack stands for a next state, after a move of this cost
   abbrev pub IsMoved : List Cell → ℕ → Stack → State → ℕ → Type 0
-  IsMoved cells left stack s cost = (next : State) × Moves p.spec s cost next × IsAt p.code cells stack next × Pays p (left - cost) stack next
+  IsMoved cells left stack s cost = (next : State) × Moves p.spec s cost next
+      × IsAt p.code cells stack next × Pays p (left - cost) stack next
 
   -- a move whose cost is within what is left; the value's place, at the end of the last frame; or where left sides don't
   -- overlap and groups are whole, what the state gives costs more than what is left, if it gives anything
   abbrev pub Turns : List Cell → ℕ → Stack → State → Turn → Type 0
   Turns cells left stack s (Moved cost) = (cost ≤ left) × IsMoved cells left stack s cost
-  Turns cells left stack s (Done place) = (env : List Tree) × (i : ℕ) × (s ≡ state env [] (slot i) []) × IsTerm cells place (instance env (var i))
-  Turns cells left stack s Stuck = NoOverlap p.spec → GroupsAreWhole p.spec → (w : Tree) (n : ℕ) → StateGives p.spec s w n → n ≤ left → ⊥
+  Turns cells left stack s (Done place) = (env : List Tree) × (i : ℕ)
+      × (s ≡ state env [] (slot i) []) × IsTerm cells place (instance env (var i))
+  Turns cells left stack s Stuck = NoOverlap p.spec → GroupsAreWhole p.spec → (w : Tree) (n : ℕ)
+      → StateGives p.spec s w n → n ≤ left → ⊥
 
   -- the same of whatever state the stack stood for
   abbrev pub IsTurn : List Cell → List Cell → ℕ → Stack → Stack → Turn → Type 0
-  IsTurn old new left before after turn = (s : State) (sort : SortId) → Works old before s sort → Pays p left before s → Turns new left after s turn
+  IsTurn old new left before after turn = (s : State) (sort : SortId) → Works old before s sort
+      → Pays p left before s → Turns new left after s turn

@@ -19,7 +19,8 @@ impl<'a> Machine<'a> {
     ) -> Result<Option<usize>, OutOfMemory>
         requires fine { IsWellSorted self.now.spec }
         requires call { IsCallAt self.now.spec bank.now sym base places.old.items }
-        ensures { IfOk result (IsFound self.now bank.now sym base places.old.items places.new.items) }
+        ensures { IfOk result (IsFound self.now bank.now sym base places.old.items
+            places.new.items) }
     {
         let tree = &self.trees[sym as usize];
         let numbers = tree.rules_for(bank, &places[base..]);

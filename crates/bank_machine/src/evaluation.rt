@@ -35,13 +35,15 @@ impl<'a> Machine<'a> {
     ) -> Result<BankEval, OutOfMemory>
         requires fine { IsWellSorted self.now.spec }
         requires kept { AreRight self.now.spec bank.old kept.old }
-        requires sorted { (term : Tree) × (terms : List Tree) × (sort : SortId) × CanRun self.now bank.old side values.now term terms sort }
+        requires sorted { (term : Tree) × (terms : List Tree) × (sort : SortId)
+            × CanRun self.now bank.old side values.now term terms sort }
         ensures found { IfOk result (λ found. (term : Tree) (terms : List Tree) (sort : SortId)
             → CanRun self.now bank.old side values.now term terms sort
             → IsBankEval self.now.spec bank.new (instance terms term) budget found) }
         ensures adds { AddsCells bank.old bank.new }
         ensures kept { IfOk result (λ _. AreRight self.now.spec bank.new kept.new) }
-        ensures few { IfOk result (λ _. length bank.new ≤ length bank.old + most_added self.now budget) }
+        ensures few { IfOk result (λ _. length bank.new
+            ≤ length bank.old + most_added self.now budget) }
     {
         let mut slots = Vec::with_capacity(alloc, values.len())?;
         for value in values {
@@ -62,11 +64,13 @@ impl<'a> Machine<'a> {
         requires fine { IsWellSorted self.now.spec }
         requires kept { AreRight self.now.spec bank.old kept.old }
         requires works { IsUnderWay self.now bank.old budget (shown stack) }
-        ensures ran { IfOk result (λ found. (s : State) (sort : SortId) → Works self.now bank.old (shown stack) s sort
+        ensures ran { IfOk result (λ found. (s : State) (sort : SortId)
+            → Works self.now bank.old (shown stack) s sort
             → Pays self.now budget (shown stack) s → Ran self.now.spec bank.new s budget found) }
         ensures adds { AddsCells bank.old bank.new }
         ensures kept { IfOk result (λ _. AreRight self.now.spec bank.new kept.new) }
-        ensures few { IfOk result (λ _. length bank.new ≤ length bank.old + fuel self.now (shown stack) budget) }
+        ensures few { IfOk result (λ _. length bank.new
+            ≤ length bank.old + fuel self.now (shown stack) budget) }
     {
         let mut args = Vec::new(alloc);
         let mut left = budget;

@@ -66,7 +66,8 @@ impl<'a> Machine<'a> {
         ensures side { IfOk result (λ made. IsSide made.0 made.1 variables term.now) }
         ensures spec { IfOk result (λ made. made.0.spec ≡ self.entry.spec) }
         ensures adds { IfOk result (λ made. AddsCode self.entry.code made.0.code) }
-        ensures few { IfOk result (λ made. length made.0.code ≤ length self.entry.code + term_length term.now) }
+        ensures few { IfOk result (λ made. length made.0.code
+            ≤ length self.entry.code + term_length term.now) }
     {
         let homes = first_numbers(alloc, variables)?;
         let Machine {

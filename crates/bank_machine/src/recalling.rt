@@ -27,12 +27,14 @@ impl<'a> Machine<'a> {
         left: u32,
     ) -> Result<Turn, OutOfMemory>
         requires fine { IsWellSorted self.now.spec }
-        requires calls { (ss : List ℕ) × (slice_get self.now.code stack.old.next ≡ Some (does (call_step sym ss)))
+        requires calls { (ss : List ℕ) × (slice_get self.now.code stack.old.next
+            ≡ Some (does (call_step sym ss)))
             × (args.now ≡ gathered stack.old.places.items stack.old.base ss) }
         requires room { stack.old.next + 1 < 2 ^ 64 }
         requires works { IsWorking self.now bank.now (shown stack.old) }
         requires funds { 0 < left }
-        ensures { IfOk result (IsTurn self.now bank.now bank.now left (shown stack.old) (shown stack.new)) }
+        ensures { IfOk result (IsTurn self.now bank.now bank.now left (shown stack.old)
+            (shown stack.new)) }
     {
         stack.call(args, left)?;
         match self.find(bank, sym, stack.base, &mut stack.places)? {
@@ -55,7 +57,8 @@ impl<'a> Machine<'a> {
         known: Known,
     ) -> Result<(), OutOfMemory>
         requires called { (f : ℕ) × (ss : List ℕ) × HasCalled self.now (shown stack.now) f ss
-            × IsRight self.now.spec bank.now f (gathered stack.now.places.items stack.now.base ss) known }
+            × IsRight self.now.spec bank.now f (gathered stack.now.places.items stack.now.base ss)
+            known }
         requires kept { AreRight self.now.spec bank.now kept.old }
         ensures { IfOk result (λ _. AreRight self.now.spec bank.now kept.new) }
     {

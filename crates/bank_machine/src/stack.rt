@@ -41,8 +41,10 @@ impl Stack {
     /// Puts the places of these slots into `args`.
     #[inline(always)]
     pub(crate) fn gather(&self, slots: &[usize], args: &mut Vec<u32>) -> Result<(), OutOfMemory>
-        requires { AllByRecursion (λ s. self.now.base + s < length self.now.places.items) slots.now }
-        ensures { OnOk result (args.new.items ≡ gathered self.now.places.items self.now.base slots.now) }
+        requires { AllByRecursion (λ s. self.now.base + s < length self.now.places.items)
+            slots.now }
+        ensures { OnOk result (args.new.items
+            ≡ gathered self.now.places.items self.now.base slots.now) }
     {
         args.clear();
         for slot in slots {
@@ -55,7 +57,9 @@ impl Stack {
     #[inline(always)]
     pub(crate) fn put(&mut self, place: u32) -> Result<(), OutOfMemory>
         requires { self.old.next + 1 < 2 ^ 64 }
-        ensures { OnOk result (shown self.new ≡ stack (self.old.places.items ++ place ∷ []) self.old.base (self.old.next + 1) self.old.held.items) }
+        ensures { OnOk result (shown self.new
+            ≡ stack (self.old.places.items ++ place ∷ []) self.old.base (self.old.next + 1)
+            self.old.held.items) }
     {
         self.places.push(place)?;
         self.next += 1;
@@ -67,7 +71,8 @@ impl Stack {
     #[inline(always)]
     pub(crate) fn call(&mut self, args: &[u32], left: u32) -> Result<(), OutOfMemory>
         requires { self.old.next + 1 < 2 ^ 64 }
-        ensures { OnOk result (shown self.new ≡ stack (self.old.places.items ++ args.now) (length self.old.places.items) self.old.next
+        ensures { OnOk result (shown self.new
+            ≡ stack (self.old.places.items ++ args.now) (length self.old.places.items) self.old.next
             (self.old.held.items ++ held self.old.base (self.old.next + 1) left ∷ [])) }
     {
         self.held.push(Held {
@@ -83,7 +88,9 @@ impl Stack {
     /// The slots of the frame are these from here on.
     #[inline(always)]
     pub(crate) fn call_last(&mut self, args: &[u32]) -> Result<(), OutOfMemory>
-        ensures { OnOk result (shown self.new ≡ stack (take self.old.base self.old.places.items ++ args.now) self.old.base self.old.next self.old.held.items) }
+        ensures { OnOk result (shown self.new
+            ≡ stack (take self.old.base self.old.places.items ++ args.now) self.old.base
+            self.old.next self.old.held.items) }
     {
         self.places.truncate(self.base);
         self.places.extend_from_slice(args)?;
@@ -112,7 +119,8 @@ impl Stack {
     #[inline(always)]
     pub(crate) fn cut(&mut self, width: usize, next: usize)
         requires { self.old.base + width ≤ length self.old.places.items }
-        ensures { shown self.new ≡ stack (take (self.old.base + width) self.old.places.items) self.old.base next self.old.held.items }
+        ensures { shown self.new ≡ stack (take (self.old.base + width) self.old.places.items)
+            self.old.base next self.old.held.items }
     {
         self.places.truncate(self.base + width);
         self.next = next;

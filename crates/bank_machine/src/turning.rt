@@ -29,7 +29,8 @@ impl<'a> Machine<'a> {
         requires fine { IsWellSorted self.now.spec }
         requires kept { AreRight self.now.spec bank.old kept.old }
         requires works { IsUnderWay self.now bank.old left (shown stack.old) }
-        ensures turn { IfOk result (IsTurn self.now bank.old bank.new left (shown stack.old) (shown stack.new)) }
+        ensures turn { IfOk result (IsTurn self.now bank.old bank.new left (shown stack.old)
+            (shown stack.new)) }
         ensures adds { AddsCells bank.old bank.new }
         ensures few { length bank.new ≤ suc (length bank.old) }
         ensures kept { IfOk result (λ _. AreRight self.now.spec bank.new kept.new) }
@@ -57,10 +58,12 @@ impl<'a> Machine<'a> {
         slots: &[usize],
     ) -> Result<Turn, OutOfMemory>
         requires fine { IsWellSorted self.now.spec }
-        requires there { slice_get self.now.code stack.old.next ≡ Some (does (build_step sym slots.now)) }
+        requires there { slice_get self.now.code stack.old.next
+            ≡ Some (does (build_step sym slots.now)) }
         requires room { stack.old.next + 1 < 2 ^ 64 }
         requires works { IsWorking self.now bank.old (shown stack.old) }
-        ensures turn { IfOk result (λ turn. (left : ℕ) → IsTurn self.now bank.old bank.new left (shown stack.old) (shown stack.new) turn) }
+        ensures turn { IfOk result (λ turn. (left : ℕ)
+            → IsTurn self.now bank.old bank.new left (shown stack.old) (shown stack.new) turn) }
         ensures adds { AddsCells bank.old bank.new }
         ensures few { length bank.new ≤ suc (length bank.old) }
     {
@@ -84,11 +87,13 @@ impl<'a> Machine<'a> {
         left: u32,
     ) -> Result<Turn, OutOfMemory>
         requires fine { IsWellSorted self.now.spec }
-        requires there { slice_get self.now.code stack.old.next ≡ Some (does (call_step sym slots.now)) }
+        requires there { slice_get self.now.code stack.old.next
+            ≡ Some (does (call_step sym slots.now)) }
         requires room { stack.old.next + 1 < 2 ^ 64 }
         requires kept { AreRight self.now.spec bank.now kept.now }
         requires works { IsWorking self.now bank.now (shown stack.old) }
-        ensures { IfOk result (IsTurn self.now bank.now bank.now left (shown stack.old) (shown stack.new)) }
+        ensures { IfOk result (IsTurn self.now bank.now bank.now left (shown stack.old)
+            (shown stack.new)) }
     {
         if left == 0 {
             return Ok(Turn::Stuck);
@@ -118,9 +123,11 @@ impl<'a> Machine<'a> {
         left: u32,
     ) -> Result<Turn, OutOfMemory>
         requires fine { IsWellSorted self.now.spec }
-        requires there { slice_get self.now.code stack.old.next ≡ Some (ends (last_end sym slots.now)) }
+        requires there { slice_get self.now.code stack.old.next
+            ≡ Some (ends (last_end sym slots.now)) }
         requires works { IsWorking self.now bank.now (shown stack.old) }
-        ensures { IfOk result (IsTurn self.now bank.now bank.now left (shown stack.old) (shown stack.new)) }
+        ensures { IfOk result (IsTurn self.now bank.now bank.now left (shown stack.old)
+            (shown stack.new)) }
     {
         if left == 0 {
             return Ok(Turn::Stuck);
@@ -148,9 +155,11 @@ impl<'a> Machine<'a> {
         homes: &[usize],
     ) -> Turn
         requires fine { IsWellSorted self.now.spec }
-        requires there { slice_get self.now.code stack.old.next ≡ Some (ends (decide_end slot rule asked homes.now)) }
+        requires there { slice_get self.now.code stack.old.next
+            ≡ Some (ends (decide_end slot rule asked homes.now)) }
         requires works { IsWorking self.now bank.now (shown stack.old) }
-        ensures { (left : ℕ) → IsTurn self.now bank.now bank.now left (shown stack.old) (shown stack.new) result }
+        ensures { (left : ℕ) → IsTurn self.now bank.now bank.now left (shown stack.old)
+            (shown stack.new) result }
     {
         let (sym, args) = bank.cell(stack.slot(slot));
         let code = &self.rules[rule];
@@ -179,7 +188,8 @@ impl<'a> Machine<'a> {
         requires there { slice_get self.now.code stack.old.next ≡ Some (ends (slot_end slot)) }
         requires kept { AreRight self.now.spec bank.now kept.old }
         requires works { IsUnderWay self.now bank.now left (shown stack.old) }
-        ensures turn { IfOk result (IsTurn self.now bank.now bank.now left (shown stack.old) (shown stack.new)) }
+        ensures turn { IfOk result (IsTurn self.now bank.now bank.now left (shown stack.old)
+            (shown stack.new)) }
         ensures kept { IfOk result (λ _. AreRight self.now.spec bank.now kept.new) }
     {
         let place = stack.slot(slot);

@@ -14,12 +14,14 @@ use Rattle.clause_core.specs.RuleInstances.{IsInstance, guard_equations, group_o
 use Rattle.clause_core.specs.Rewriting.{with_rule_at}
 
 abbrev pub with_premises : Clause → List Equation → Clause
-with_premises c es = record { ctx = c.ctx; premises = c.premises ++ es; conclusions = c.conclusions }
+with_premises c es =
+    record { ctx = c.ctx; premises = c.premises ++ es; conclusions = c.conclusions }
 
 module _ (spec : Spec) (c : Clause) where
   -- the place holds the instance of the right side, and the guards are added to the premises
   abbrev pub case_child : {place : Place} → TermAt c place → List Tree → Rule → Made
-  case_child at terms r = child Less (with_premises (holding at (instance terms r.right)) (guard_equations terms r))
+  case_child at terms r =
+      child Less (with_premises (holding at (instance terms r.right)) (guard_equations terms r))
 
   abbrev pub case_row : Place → ℕ → Row
   case_row place number =

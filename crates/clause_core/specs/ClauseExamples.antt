@@ -52,7 +52,8 @@ pub record ClauseExamples : Type 0 where
   -- y = zero implies plus(x, y) = x is tidied to x = zero implies plus(y, x) = y
   pub premises_first :
       tidied right_zero
-      ≡ implies (nat ∷ nat ∷ []) (equals (var 0) zero_term) (equals (plus_term (var 1) (var 0)) (var 1))
+      ≡ implies (nat ∷ nat ∷ []) (equals (var 0) zero_term)
+      (equals (plus_term (var 1) (var 0)) (var 1))
   pub is_not_tidied : IsTidied right_zero → ⊥
   -- the goal plus(x, y) = plus(x, x) is its own clause
   pub of_goal :
@@ -61,10 +62,12 @@ pub record ClauseExamples : Type 0 where
   -- succ(x) for y makes y = zero implies plus(x, y) = x a clause over one natural
   pub instance_of :
       clause_instance (None ∷ Some (succ_term (var 0)) ∷ []) (nat ∷ []) right_zero
-      ≡ implies (nat ∷ []) (equals (succ_term (var 0)) zero_term) (equals (plus_term (var 0) (succ_term (var 0))) (var 0))
+      ≡ implies (nat ∷ []) (equals (succ_term (var 0)) zero_term)
+      (equals (plus_term (var 0) (succ_term (var 0))) (var 0))
   -- plus(zero, x) = x and x = plus(zero, x) have the same sides
   pub swapped :
-      Compares Above zero_sum (claims (nat ∷ []) (equals (var 0) (plus_term zero_term (var 0)))) Same
+      Compares Above zero_sum (claims (nat ∷ []) (equals (var 0) (plus_term zero_term (var 0))))
+      Same
   -- x = x is less: x cancels once, and plus(zero, x) is above x
   pub rewritten : Compares Above zero_sum same_x Less
   -- the other way round no side is above plus(zero, x)

@@ -53,11 +53,13 @@ SaysAlone spec c step answer = Says Above c (c ∷ []) (row_of spec no_goal (c �
 
 -- over naturals, what it says there where the goal of this number may be used
 abbrev pub SaysWithGoal : ℕ → Clause → Step → Result Children Why → Type 0
-SaysWithGoal k c step answer = Says Above c (c ∷ []) (row_of naturals (only_goal k) (c ∷ []) c step) answer
+SaysWithGoal k c step answer =
+    Says Above c (c ∷ []) (row_of naturals (only_goal k) (c ∷ []) c step) answer
 
 -- and what it says at the node 1, behind a node 0
 abbrev pub SaysBehind : Clause → Clause → Step → Result Children Why → Type 0
-SaysBehind d c step answer = Says Above c (d ∷ c ∷ []) (row_of naturals no_goal (d ∷ c ∷ []) c step) answer
+SaysBehind d c step answer =
+    Says Above c (d ∷ c ∷ []) (row_of naturals no_goal (d ∷ c ∷ []) c step) answer
 
 -- children, and the node 0 as a reference
 abbrev pub less : Clause → Child

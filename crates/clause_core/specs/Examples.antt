@@ -14,11 +14,21 @@ with_rule rule = record { sig = naturals_sig; rules = rule ∷ []; goals = [] }
 
 -- rule plus(x, x) = x
 abbrev pub repeating_rule : Rule
-repeating_rule = record { vars = variable (codes "x") ∷ []; left = plus_term (var 0) (var 0); right = var 0; guards = [] }
+repeating_rule = record {
+  vars = variable (codes "x") ∷ [];
+  left = plus_term (var 0) (var 0);
+  right = var 0;
+  guards = [];
+}
 
 -- rule plus(x, y) = plus(x, y)
 abbrev pub looping_rule : Rule
-looping_rule = record { vars = variable (codes "x") ∷ variable (codes "y") ∷ []; left = plus_term (var 0) (var 1); right = plus_term (var 0) (var 1); guards = [] }
+looping_rule = record {
+  vars = variable (codes "x") ∷ variable (codes "y") ∷ [];
+  left = plus_term (var 0) (var 1);
+  right = plus_term (var 0) (var 1);
+  guards = [];
+}
 
 -- the test true
 abbrev pub is_true : Guard
@@ -26,7 +36,12 @@ is_true = record { test = app 0 none; wanted = true }
 
 -- rule plus(x, y) = x if true
 abbrev pub one_sided_rule : Rule
-one_sided_rule = record { vars = variable (codes "x") ∷ variable (codes "y") ∷ []; left = plus_term (var 0) (var 1); right = var 0; guards = is_true ∷ [] }
+one_sided_rule = record {
+  vars = variable (codes "x") ∷ variable (codes "y") ∷ [];
+  left = plus_term (var 0) (var 1);
+  right = var 0;
+  guards = is_true ∷ [];
+}
 
 pub record WorkedExamples : Type 0 where
   -- naturals with addition are admitted by the path ordering

@@ -21,7 +21,13 @@ symbol name args result = (name, record { args = args; result = result })
 -- sort Nat = zero | succ(Nat), sort List = nil | cons(Nat, List),
 -- fun le(Nat, Nat) : Bool, fun sorted(List) : Bool, fun insert(Nat, List) : List
 abbrev pub insertion_sig : Sig
-insertion_sig = declared_by (codes "Nat" ∷ codes "List" ∷ []) (nat_constructors ++ (symbol (codes "nil") [] list ∷ symbol (codes "cons") (nat ∷ list ∷ []) list ∷ [])) (symbol (codes "le") (nat ∷ nat ∷ []) bool_sort ∷ symbol (codes "sorted") (list ∷ []) bool_sort ∷ symbol (codes "insert") (nat ∷ list ∷ []) list ∷ [])
+insertion_sig =
+    declared_by (codes "Nat" ∷ codes "List" ∷ [])
+    (nat_constructors
+    ++ (symbol (codes "nil") [] list ∷ symbol (codes "cons") (nat ∷ list ∷ []) list ∷ []))
+    (symbol (codes "le") (nat ∷ nat ∷ []) bool_sort
+    ∷ symbol (codes "sorted") (list ∷ []) bool_sort
+    ∷ symbol (codes "insert") (nat ∷ list ∷ []) list ∷ [])
 
 abbrev pub true_term : Tree
 true_term = app 0 none
@@ -70,7 +76,8 @@ two_items = cons_term (var 0) (cons_term (var 1) (var 2))
 
 -- rule sorted(cons(x, cons(y, l))) = sorted(cons(y, l)) if le(x, y)
 abbrev pub sorted_if_rule : Rule
-sorted_if_rule = rule_of x_y_l (sorted_term two_items) (sorted_term (cons_term (var 1) (var 2))) if_le
+sorted_if_rule =
+    rule_of x_y_l (sorted_term two_items) (sorted_term (cons_term (var 1) (var 2))) if_le
 
 -- rule sorted(cons(x, cons(y, l))) = false unless le(x, y)
 abbrev pub sorted_unless_rule : Rule
@@ -78,16 +85,28 @@ sorted_unless_rule = rule_of x_y_l (sorted_term two_items) false_term unless_le
 
 -- rules le(zero, y) = true, le(succ(x), zero) = false, le(succ(x), succ(y)) = le(x, y)
 abbrev pub le_rules : List Rule
-le_rules = rule_of (variable (codes "y") ∷ []) (le_term zero_term (var 0)) true_term [] ∷ rule_of (variable (codes "x") ∷ []) (le_term (succ_term (var 0)) zero_term) false_term [] ∷ rule_of x_y (le_term (succ_term (var 0)) (succ_term (var 1))) (le_term (var 0) (var 1)) [] ∷ []
+le_rules = rule_of (variable (codes "y") ∷ []) (le_term zero_term (var 0)) true_term []
+    ∷ rule_of (variable (codes "x") ∷ []) (le_term (succ_term (var 0)) zero_term) false_term []
+    ∷ rule_of x_y (le_term (succ_term (var 0)) (succ_term (var 1))) (le_term (var 0) (var 1)) []
+    ∷ []
 
 -- rules sorted(nil) = true, sorted(cons(x, nil)) = true, and the two above
 abbrev pub sorted_rules : List Rule
-sorted_rules = rule_of [] (sorted_term nil_term) true_term [] ∷ rule_of (variable (codes "x") ∷ []) (sorted_term (cons_term (var 0) nil_term)) true_term [] ∷ sorted_if_rule ∷ sorted_unless_rule ∷ []
+sorted_rules = rule_of [] (sorted_term nil_term) true_term []
+    ∷ rule_of (variable (codes "x") ∷ []) (sorted_term (cons_term (var 0) nil_term)) true_term []
+    ∷ sorted_if_rule ∷ sorted_unless_rule ∷ []
 
 -- rules insert(x, nil) = cons(x, nil), insert(x, cons(y, l)) = cons(x, cons(y, l)) if le(x, y),
 -- insert(x, cons(y, l)) = cons(y, insert(x, l)) unless le(x, y)
 abbrev pub insert_rules : List Rule
-insert_rules = rule_of (variable (codes "x") ∷ []) (insert_term (var 0) nil_term) (cons_term (var 0) nil_term) [] ∷ rule_of x_y_l (insert_term (var 0) (cons_term (var 1) (var 2))) two_items if_le ∷ rule_of x_y_l (insert_term (var 0) (cons_term (var 1) (var 2))) (cons_term (var 1) (insert_term (var 0) (var 2))) unless_le ∷ []
+insert_rules =
+    rule_of (variable (codes "x") ∷ []) (insert_term (var 0) nil_term)
+    (cons_term (var 0) nil_term) []
+    ∷ rule_of x_y_l (insert_term (var 0) (cons_term (var 1) (var 2))) two_items if_le
+    ∷ rule_of x_y_l (insert_term (var 0) (cons_term (var 1) (var 2)))
+    (cons_term (var 1) (insert_term (var 0) (var 2))) unless_le
+    ∷ []
 
 abbrev pub insertion : Spec
-insertion = record { sig = insertion_sig; rules = le_rules ++ (sorted_rules ++ insert_rules); goals = [] }
+insertion =
+    record { sig = insertion_sig; rules = le_rules ++ (sorted_rules ++ insert_rules); goals = [] }

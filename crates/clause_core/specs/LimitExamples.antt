@@ -26,7 +26,9 @@ pub record LimitExamples : Type 0 where
   pub instance_past : SaysAlone naturals zero_sum (Subsume 0 (number 100 ∷ [])) (Err Limit)
   pub terms_first : SaysAlone naturals zero_sum (Subsume 0 (number 100 ∷ zero_term ∷ [])) (Err Sort)
   -- from ?0 = 99 => succ(?0) = zero, which has 100 levels, => succ(99) = zero would be made, with 101
-  pub child_past : SaysAlone naturals (implies one (equals (var 0) (number 99)) (equals (succ_term (var 0)) zero_term)) (Solve 1) (Err Limit)
+  pub child_past : SaysAlone naturals
+      (implies one (equals (var 0) (number 99)) (equals (succ_term (var 0)) zero_term)) (Solve 1)
+      (Err Limit)
   -- among 10,000 nodes a node is closed, and no child is made
   pub closes : SaysInFull (Trivial 1) (gives [] [])
   pub no_child : SaysInFull (Drop true 1) (Err Limit)

@@ -31,4 +31,5 @@ pub record TermAt (c : Clause) (place : Place) : Type 0 where
 
 -- the clause whose place holds another term
 abbrev pub holding : {c : Clause} {place : Place} → TermAt c place → Tree → Clause
-holding {c} {place} p t = exchanged place.conclusion c p.at (with_side place.left p.at.equation (plug p.round t) ∷ [])
+holding {c} {place} p t =
+    exchanged place.conclusion c p.at (with_side place.left p.at.equation (plug p.round t) ∷ [])

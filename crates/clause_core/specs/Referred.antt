@@ -45,4 +45,5 @@ module _ (spec : Spec) (c : Clause) where
 
 -- each premise of d is among the premises of c or has identical sides
 abbrev pub PremisesAreThere : Clause → Clause → Type 0
-PremisesAreThere c d = AllByRecursion (λ (e : Equation). Among e c.premises ⊎ IsIdentity e) d.premises
+PremisesAreThere c d =
+    AllByRecursion (λ (e : Equation). Among e c.premises ⊎ IsIdentity e) d.premises

@@ -36,16 +36,25 @@ itself = var 0 ∷ []
 pub record ReplacingExamples : Type 0 where
   -- in plus(?0, zero) = ?0 => succ(plus(?0, zero)) = succ(?0) the premise makes
   -- => succ(?0) = succ(?0), which is less
-  pub by_premise : SaysAlone naturals (implies one (unit_of (var 0)) succ_sides) (Context first_argument 1 true) (gives (less (implies one (unit_of (var 0)) same_succ) ∷ []) [])
+  pub by_premise : SaysAlone naturals (implies one (unit_of (var 0)) succ_sides)
+      (Context first_argument 1 true) (gives (less (implies one (unit_of (var 0)) same_succ) ∷ [])
+      [])
   -- its right side doesn't stand at that place
-  pub not_by_premise : SaysAlone naturals (implies one (unit_of (var 0)) succ_sides) (Context first_argument 1 false) (Err DoesNotFit)
+  pub not_by_premise : SaysAlone naturals (implies one (unit_of (var 0)) succ_sides)
+      (Context first_argument 1 false) (Err DoesNotFit)
   -- in the premise itself it makes ?0 = ?0
-  pub in_itself : SaysAlone naturals (implies one (unit_of (var 0)) succ_sides) (Context premise_side 1 true) (gives (less (implies one (equals (var 0) (var 0)) succ_sides) ∷ []) [])
+  pub in_itself : SaysAlone naturals (implies one (unit_of (var 0)) succ_sides)
+      (Context premise_side 1 true) (gives
+      (less (implies one (equals (var 0) (var 0)) succ_sides) ∷ []) [])
   -- the node 0 makes => succ(?0) = succ(?0) too, and is less itself; so does the goal `unit` as a lemma
-  pub by_hypothesis : SaysBehind unit_clause succ_clause (Hyp 0 itself first_argument true) (gives (less (claims one same_succ) ∷ []) (less_than_first ∷ []))
-  pub by_goal : SaysWithGoal 1 succ_clause (Lemma (codes "unit") itself first_argument true) (gives (less (claims one same_succ) ∷ []) [])
+  pub by_hypothesis : SaysBehind unit_clause succ_clause (Hyp 0 itself first_argument true)
+      (gives (less (claims one same_succ) ∷ []) (less_than_first ∷ []))
+  pub by_goal : SaysWithGoal 1 succ_clause (Lemma (codes "unit") itself first_argument true)
+      (gives (less (claims one same_succ) ∷ []) [])
   -- ?0 = zero => plus(?0, zero) = ?0 doesn't, since its premise isn't there
-  pub without_premise : SaysBehind unit_where_zero succ_clause (Hyp 0 itself first_argument true) (Err DoesNotFit)
+  pub without_premise : SaysBehind unit_where_zero succ_clause (Hyp 0 itself first_argument true)
+      (Err DoesNotFit)
   -- the goal has one variable, and from right to left its side is no plus(?0, zero)
   pub no_terms : SaysWithGoal 1 succ_clause (Lemma (codes "unit") [] first_argument true) (Err Sort)
-  pub from_the_right : SaysWithGoal 1 succ_clause (Lemma (codes "unit") itself first_argument false) (Err DoesNotFit)
+  pub from_the_right : SaysWithGoal 1 succ_clause (Lemma (codes "unit") itself first_argument false)
+      (Err DoesNotFit)

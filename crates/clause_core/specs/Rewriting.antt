@@ -16,7 +16,8 @@ use Rattle.clause_core.specs.RuleInstances.{RuleAt, IsInstance, guard_equations}
 
 -- each guard's instance, equated to the constant that it wants, is among the premises
 abbrev pub GuardsAreThere : Clause → List Tree → Rule → Type 0
-GuardsAreThere c terms rule = AllByRecursion (λ (e : Equation). Among e c.premises) (guard_equations terms rule)
+GuardsAreThere c terms rule =
+    AllByRecursion (λ (e : Equation). Among e c.premises) (guard_equations terms rule)
 
 module _ (spec : Spec) (c : Clause) where
   -- what `rule` and `case` ask of the place and of the rule's number, before the rest

@@ -17,11 +17,13 @@ module _ (rank : ℕ → ℕ → Tree → ℕ → Type 0) (spec : Spec) where
   InstancesRankLower t s =
       (xs : List Tree) (c : Context) (r q : ℕ) →
       IsGround spec (plug c (instance xs t)) → IsGround spec (plug c (instance xs s)) →
-      HasRank rank spec (plug c (instance xs t)) r → HasRank rank spec (plug c (instance xs s)) q → q < r
+      HasRank rank spec (plug c (instance xs t)) r → HasRank rank spec (plug c (instance xs s)) q
+      → q < r
 
   -- the test and the constant that it wants do so after the left side
   abbrev pub GuardRanksLower : Tree → Guard → Type 0
-  GuardRanksLower left g = InstancesRankLower left g.test × InstancesRankLower left (boolean g.wanted)
+  GuardRanksLower left g =
+      InstancesRankLower left g.test × InstancesRankLower left (boolean g.wanted)
 
   -- the right side does so after the left side, and each guard does
   pub record RuleRanksLower (rule : Rule) : Type 0 where
@@ -30,4 +32,5 @@ module _ (rank : ℕ → ℕ → Tree → ℕ → Type 0) (spec : Spec) where
 
 abbrev pub RulesRankLower : (Tree → Tree → Type 0) → (ℕ → ℕ → Tree → ℕ → Type 0) → Type 0
 RulesRankLower above rank =
-    (spec : Spec) → IsWellSorted spec → IsAdmitted above spec → (k : ℕ) (rule : Rule) → slice_get spec.rules k ≡ Some rule → RuleRanksLower rank spec rule
+    (spec : Spec) → IsWellSorted spec → IsAdmitted above spec → (k : ℕ) (rule : Rule)
+    → slice_get spec.rules k ≡ Some rule → RuleRanksLower rank spec rule

@@ -15,7 +15,8 @@ use Rattle.clause_core.specs.Rows.{Made, Row, child, compared_child, needs, make
 
 -- each child is within the clause limits, and with the children there are at most 10,000 nodes
 abbrev pub AreWithin : List Clause → List Child → Type 0
-AreWithin nodes children = AllByRecursion (λ (d : Child). IsWithin d.clause) children × (length nodes + length children ≤ 10000)
+AreWithin nodes children = AllByRecursion (λ (d : Child). IsWithin d.clause) children
+    × (length nodes + length children ≤ 10000)
 
 -- the answer is what is made, or where that passes a limit it is this reason
 abbrev pub AnswersWithin : List Clause → Children → Result Children Why → Type 0
@@ -36,6 +37,8 @@ module _ (above : Tree → Tree → Type 0) (c : Clause) where
   -- what the row says of the clause, over the nodes so far: the reason of the first condition that
   -- isn't met, or what is made; the limits are the last condition
   abbrev pub Says : List Clause → Row → Result Children Why → Type 0
-  Says nodes (needs P why rest) answer = ((p : P) × Says nodes (rest p) answer) ⊎ ((P → ⊥) × (answer ≡ Err why))
+  Says nodes (needs P why rest) answer =
+      ((p : P) × Says nodes (rest p) answer) ⊎ ((P → ⊥) × (answer ≡ Err why))
   Says nodes (makes children refs) answer =
-      (made : Children) × AllZip IsChild children made.clauses × AllZip IsReference refs made.refs × AnswersWithin nodes made answer
+      (made : Children) × AllZip IsChild children made.clauses × AllZip IsReference refs made.refs
+      × AnswersWithin nodes made answer

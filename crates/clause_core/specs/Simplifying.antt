@@ -28,7 +28,8 @@ pairs (some t ts) none = []
 
 module _ (spec : Spec) (c : Clause) where
   -- a premise is replaced, in its place, by all these equations, and a conclusion by each in a child
-  abbrev pub taken_apart : (conclusion : Bool) {number : ℕ} → EquationAt (equations conclusion c) number → List Equation → List Made
+  abbrev pub taken_apart : (conclusion : Bool) {number : ℕ}
+      → EquationAt (equations conclusion c) number → List Equation → List Made
   taken_apart false at es = child Less (exchanged false c at es) ∷ []
   taken_apart true at es = map (λ e. child Less (exchanged true c at (e ∷ []))) es
 

@@ -32,4 +32,5 @@ module _ (spec : Spec) (c : Clause) where
   solve_row number =
       needs (EquationAt c.premises number) NoSuchPlace (λ at.
       needs (IsSolved spec.sig at.equation) DoesNotFit (λ solved.
-      makes (child Less (with_term c.ctx (exchanged false c at []) solved.variable solved.term) ∷ []) []))
+      makes (child Less (with_term c.ctx (exchanged false c at []) solved.variable solved.term)
+      ∷ []) []))

@@ -22,7 +22,8 @@ pub record ArePatternsFor (sig : Sig) (c : Clause) (n : ℕ) (patterns : List Tr
 -- the clause with the pattern for a variable, where the pattern's variables, of these sorts, are
 -- fresh
 abbrev pub covered_by : Clause → ℕ → List SortId × Tree → Clause
-covered_by c n q = with_term (c.ctx ++ q.0) c n (instance (variables (length c.ctx) (length q.0)) q.1)
+covered_by c n q =
+    with_term (c.ctx ++ q.0) c n (instance (variables (length c.ctx) (length q.0)) q.1)
 
 module _ (spec : Spec) (c : Clause) where
   abbrev pub cover_child : ℕ → List SortId × Tree → Made

@@ -32,4 +32,5 @@ row_of spec usable nodes c (Cover variable patterns) = cover_row spec c variable
 row_of spec usable nodes c (Generalize term) = generalize_row spec c term
 row_of spec usable nodes c (Context place premise left) = context_row spec c place premise left
 row_of spec usable nodes c (Hyp node terms place left) = hyp_row spec c nodes node terms place left
-row_of spec usable nodes c (Lemma name terms place left) = lemma_row spec c usable name terms place left
+row_of spec usable nodes c (Lemma name terms place left) =
+    lemma_row spec c usable name terms place left

@@ -13,7 +13,8 @@ use Rattle.clause_core.specs.Referred.{NodeAt, UsableGoal, PremisesAreThere, wit
 
 -- the premises of d are there, and each conclusion of d is among the conclusions of c
 abbrev pub Subsumes : Clause → Clause → Type 0
-Subsumes c d = PremisesAreThere c d × AllByRecursion (λ (e : Equation). Among e c.conclusions) d.conclusions
+Subsumes c d =
+    PremisesAreThere c d × AllByRecursion (λ (e : Equation). Among e c.conclusions) d.conclusions
 
 module _ (spec : Spec) (c : Clause) where
   -- what `subsume` and `by-lemma` have in common

@@ -38,10 +38,12 @@ pub record Asking : Type 0 where
   pub numbers : Asks (refute (codes "--depth" ∷ codes "+0" ∷ codes "--tries=007" ∷ codes "a"
       ∷ codes "--steps" ∷ codes "2000" ∷ [])) (codes "a") (refuting given)
   -- behind `--` no word is an option
-  pub behind_dashes : Asks (refute (codes "--" ∷ codes "--help" ∷ [])) (codes "--help") (refuting usual_search)
+  pub behind_dashes : Asks (refute (codes "--" ∷ codes "--help" ∷ [])) (codes "--help")
+      (refuting usual_search)
   pub proved : Asks (prove (codes "a" ∷ [])) (codes "a") (proving usual_bounds)
   -- the greatest length and no nodes
-  pub proof_numbers : Asks (prove (codes "a" ∷ codes "--nodes=0" ∷ codes "--plain" ∷ codes "1000" ∷ []))
+  pub proof_numbers : Asks (prove (codes "a" ∷ codes "--nodes=0" ∷ codes "--plain" ∷ codes "1000"
+      ∷ []))
       (codes "a") (proving given_proof)
   -- `-` is a positional word
   pub one_dash : Asks (eval (codes "-" ∷ codes "x" ∷ [])) (codes "-") (evaluating (codes "x") 1000)
@@ -70,7 +72,8 @@ pub record Refused : Type 0 where
   pub too_many_nodes : AskNothing (prove (codes "a" ∷ codes "--nodes" ∷ codes "10001" ∷ []))
   pub option_of_prove : AskNothing (refute (codes "a" ∷ codes "--nodes" ∷ codes "0" ∷ []))
   pub another_option : AskNothing (eval (codes "a" ∷ codes "x" ∷ codes "--depth" ∷ codes "2" ∷ []))
-  pub too_many_steps : AskNothing (eval (codes "a" ∷ codes "x" ∷ codes "--steps" ∷ codes "100001" ∷ []))
+  pub too_many_steps : AskNothing (eval
+      (codes "a" ∷ codes "x" ∷ codes "--steps" ∷ codes "100001" ∷ []))
   pub no_term : AskNothing (eval (codes "a" ∷ []))
   pub flag_with_text : AskNothing (check (codes "a" ∷ codes "--print=x" ∷ []))
   pub no_report : AskNothing (replay (codes "a" ∷ []))

@@ -47,5 +47,7 @@ abbrev pub OneRowAnswer : Type 0
 OneRowAnswer =
     (spec : Spec) (c : Clause) (place : Place) (number : ℕ) (a b : Result (List Clause) Why) →
     IsWellSorted spec →
-    (RowAnswers (rule_row spec c place number) a → RowAnswers (rule_row spec c place number) b → a ≡ b)
-    × (RowAnswers (case_row spec c place number) a → RowAnswers (case_row spec c place number) b → a ≡ b)
+    (RowAnswers (rule_row spec c place number) a → RowAnswers (rule_row spec c place number) b
+    → a ≡ b)
+    × (RowAnswers (case_row spec c place number) a → RowAnswers (case_row spec c place number) b
+    → a ≡ b)

@@ -34,7 +34,8 @@ moved_succ_rule = record {
 -- sort Nat = zero | succ(Nat) | u, fun plus(Nat, Nat) : Nat
 abbrev pub naturals_with : Spec
 naturals_with = record {
-  sig = declared_by nat_sorts (nat_constructors ++ (codes "u", declares []) ∷ []) (nat_function (codes "plus"));
+  sig = declared_by nat_sorts (nat_constructors ++ (codes "u", declares []) ∷ [])
+      (nat_function (codes "plus"));
   rules = moved_zero_rule ∷ moved_succ_rule ∷ [];
   goals = [];
 }
@@ -42,14 +43,17 @@ naturals_with = record {
 -- the same where the constant stands before the constructors
 abbrev pub naturals_before : Spec
 naturals_before = record naturals_with {
-  sig = declared_by nat_sorts ((codes "u", declares []) ∷ nat_constructors) (nat_function (codes "plus"));
+  sig = declared_by nat_sorts ((codes "u", declares []) ∷ nat_constructors)
+      (nat_function (codes "plus"));
 }
 
 pub record WorkedExamples : Type 0 where
   -- succ keeps its number and plus goes behind the constant
-  pub numbers : shifted 4 1 (succ_term (plus_term (var 0) zero_term)) ≡ succ_term (moved_plus (var 0) zero_term)
+  pub numbers : shifted 4 1 (succ_term (plus_term (var 0) zero_term))
+      ≡ succ_term (moved_plus (var 0) zero_term)
   -- plus(succ(zero), x) with the constant for x
-  pub closed_sum : closed 4 1 (plus_term (succ_term zero_term) (var 0)) ≡ moved_plus (succ_term zero_term) unknown_term
+  pub closed_sum : closed 4 1 (plus_term (succ_term zero_term) (var 0))
+      ≡ moved_plus (succ_term zero_term) unknown_term
   -- naturals with a constant of Nat are extended, and aren't where it stands before the constructors
   pub extended : IsExtended naturals naturals_with (nat ∷ [])
   pub not_extended : IsExtended naturals naturals_before (nat ∷ []) → ⊥

@@ -20,7 +20,8 @@ ShiftedApart = (c u : ℕ) (s t : Tree) → shifted c u s ≡ shifted c u t → 
 -- an instance with the new numbers is the instance by the entries with the new numbers
 abbrev pub InstancesAreShifted : Type 0
 InstancesAreShifted =
-    (c u : ℕ) (xs : List Tree) (t : Tree) → instance (map (shifted c u) xs) (shifted c u t) ≡ shifted c u (instance xs t)
+    (c u : ℕ) (xs : List Tree) (t : Tree)
+    → instance (map (shifted c u) xs) (shifted c u t) ≡ shifted c u (instance xs t)
 
 -- with a constant for each variable too, where each variable of the term has an entry
 abbrev pub InstancesAreClosed : Type 0
@@ -30,7 +31,8 @@ InstancesAreClosed =
 
 -- it holds of each well sorted specification and what it is with constants
 abbrev pub OfExtended : (Spec → Spec → List SortId → Type 0) → Type 0
-OfExtended P = (old new : Spec) (sorts : List SortId) → IsExtended old new sorts → IsWellSorted old → P old new sorts
+OfExtended P = (old new : Spec) (sorts : List SortId) → IsExtended old new sorts → IsWellSorted old
+    → P old new sorts
 
 module _ (old new : Spec) (sorts : List SortId) where
   abbrev c : ℕ
@@ -41,23 +43,28 @@ module _ (old new : Spec) (sorts : List SortId) where
 
   -- a term has its sort with the new numbers
   abbrev pub SortsAreKept : Type 0
-  SortsAreKept = (ctx : List SortId) (t : Tree) (s : SortId) → Sorted old.sig ctx t s → Sorted new.sig ctx (shifted c u t) s
+  SortsAreKept = (ctx : List SortId) (t : Tree) (s : SortId) → Sorted old.sig ctx t s
+      → Sorted new.sig ctx (shifted c u t) s
 
   -- and with a constant for each variable, where the variables have the sorts of the constants
   abbrev pub ClosedAreSorted : Type 0
-  ClosedAreSorted = (t : Tree) (s : SortId) → Sorted old.sig sorts t s → Sorted new.sig [] (closed c u t) s
+  ClosedAreSorted =
+      (t : Tree) (s : SortId) → Sorted old.sig sorts t s → Sorted new.sig [] (closed c u t) s
 
   -- a value is a value of its sort, and is as it was
   abbrev pub ValuesAreKept : Type 0
-  ValuesAreKept = (s : SortId) (v : Tree) → IsValue old.sig s v → IsValue new.sig s v × (shifted c u v ≡ v) × (closed c u v ≡ v)
+  ValuesAreKept = (s : SortId) (v : Tree) → IsValue old.sig s v → IsValue new.sig s v
+      × (shifted c u v ≡ v) × (closed c u v ≡ v)
 
   -- a constant is a value of its sort
   abbrev pub ConstantsAreValues : Type 0
-  ConstantsAreValues = (n : ℕ) (s : SortId) → slice_get sorts n ≡ Some s → IsValue new.sig s (constant c u n)
+  ConstantsAreValues =
+      (n : ℕ) (s : SortId) → slice_get sorts n ≡ Some s → IsValue new.sig s (constant c u n)
 
   -- a well sorted goal is well sorted with the new numbers
   abbrev pub GoalsAreKept : Type 0
-  GoalsAreKept = (goal : Goal) → GoalIsSorted old.sig goal → GoalIsSorted new.sig (shifted_goal c u goal)
+  GoalsAreKept =
+      (goal : Goal) → GoalIsSorted old.sig goal → GoalIsSorted new.sig (shifted_goal c u goal)
 
   -- left sides don't overlap where they didn't
   abbrev pub NoOverlapIsKept : Type 0

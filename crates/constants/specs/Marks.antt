@@ -28,6 +28,7 @@ AreWithin n names = AllByRecursion (λ (name : List ℕ). length name ≤ n) nam
 abbrev pub marked_sig : ℕ → Sig → List SortId → Sig
 marked_sig n sig sorts = record {
   sorts = codes "Bool" ∷ marks_from 5 (length sig.sorts - 1);
-  table = take sig.constructors sig.table ++ (marked_constants n sorts ++ drop sig.constructors sig.table);
+  table = take sig.constructors sig.table
+      ++ (marked_constants n sorts ++ drop sig.constructors sig.table);
   constructors = sig.constructors + length sorts;
 }

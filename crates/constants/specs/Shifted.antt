@@ -83,6 +83,7 @@ pub record IsExtended (old new : Spec) (sorts : List SortId) : Type 0 where
   pub as_many_sorts : length new.sig.sorts ≡ length old.sig.sorts
   pub constructors : new.sig.constructors ≡ old.sig.constructors + length sorts
   pub table :
-      new.sig.table ≡ take old.sig.constructors old.sig.table ++ (constants_of names sorts ++ drop old.sig.constructors old.sig.table)
+      new.sig.table ≡ take old.sig.constructors old.sig.table
+      ++ (constants_of names sorts ++ drop old.sig.constructors old.sig.table)
   pub rules : new.rules ≡ map (shifted_rule old.sig.constructors (length sorts)) old.rules
   pub goals : new.goals ≡ []

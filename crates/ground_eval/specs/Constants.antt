@@ -45,4 +45,5 @@ module _ (c d : ℕ) where
 
   -- so does each mark, by its place
   abbrev pub AreMarks : List Cell → List Bool → Type 0
-  AreMarks cells marks = (k : ℕ) (mark : Bool) → slice_get marks k ≡ Some mark → IsMarked cells k mark
+  AreMarks cells marks =
+      (k : ℕ) (mark : Bool) → slice_get marks k ≡ Some mark → IsMarked cells k mark

@@ -34,15 +34,21 @@ module _ (spec : Spec) where
     -- all values that are instances of the entries have the verdict, and the open walk has no other one
     abbrev pub HaveOne : Verdict → Type 0
     HaveOne verdict =
-        ((values : List Tree) → AreValuesOf spec (sorts_of goal.vars) values → AreInstances values entries values → IsDecided spec values budget goal verdict)
-        × ((r : Verdict) → NoOverlap spec → GroupsAreWhole spec → IsOpenVerdict spec entries budget goal r → r ≡ verdict)
+        ((values : List Tree) → AreValuesOf spec (sorts_of goal.vars) values
+        → AreInstances values entries values → IsDecided spec values budget goal verdict)
+        × ((r : Verdict) → NoOverlap spec → GroupsAreWhole spec
+        → IsOpenVerdict spec entries budget goal r → r ≡ verdict)
 
     -- the one verdict under the entries; or the open walk has none
     abbrev pub SayOfAll : Option Verdict → Type 0
     SayOfAll (Some verdict) = HaveOne verdict
-    SayOfAll None = (r : Verdict) → NoOverlap spec → GroupsAreWhole spec → IsOpenVerdict spec entries budget goal r → ⊥
+    SayOfAll None = (r : Verdict) → NoOverlap spec → GroupsAreWhole spec
+        → IsOpenVerdict spec entries budget goal r → ⊥
 
 -- the entries stand at these places, with constants for the variables
-pub record AreEntriesAt (p : Partial) (cells : List Cell) (ids : List ValueId) (entries : List Tree) : Type 0 where
+pub record AreEntriesAt (p : Partial) (cells : List Cell) (ids : List ValueId)
+    (entries : List Tree) : Type 0 where
   pub fit : AreEntries p.spec 0 (sorts_of p.goal.vars) entries
-  pub stand : StandAt cells ids (map (closed p.spec.sig.constructors (p.extended.sig.constructors - p.spec.sig.constructors)) entries)
+  pub stand : StandAt cells ids (map
+      (closed p.spec.sig.constructors (p.extended.sig.constructors - p.spec.sig.constructors))
+      entries)

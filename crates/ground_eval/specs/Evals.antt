@@ -12,7 +12,8 @@ use Rattle.ground_eval.specs.declared.answers.Eval.TheVariants.{Value, Large, Sp
 -- symbols; or, where left sides don't overlap and groups are whole, it gives no value at a cost within the budget
 abbrev pub IsEval : Spec → Tree → ℕ → Eval → Type 0
 IsEval spec t budget (Value v n) = Gives spec t v n × (n ≤ budget) × (tree_size v ≤ 10000)
-IsEval spec t budget (Large n) = (v : Tree) × Gives spec t v n × (n ≤ budget) × (10000 < tree_size v)
+IsEval spec t budget (Large n) =
+    (v : Tree) × Gives spec t v n × (n ≤ budget) × (10000 < tree_size v)
 IsEval spec t budget Spent =
     NoOverlap spec → GroupsAreWhole spec
     → (v : Tree) (n : ℕ) → Gives spec t v n → n ≤ budget → ⊥

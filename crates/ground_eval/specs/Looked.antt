@@ -12,11 +12,13 @@ most_compared p count budget = count * (2 * most_added p budget)
 
 -- where one side is evaluated: as in most_added, with the most instructions that the rules and the goal's sides can have
 unfoldable pub most_run : Partial → ℕ → ℕ
-most_run g budget = suc budget * (suc (rules_length g.spec.rules + goal_length g.goal) * suc (most_guards g.spec.rules))
+most_run g budget = suc budget * (suc (rules_length g.spec.rules + goal_length g.goal) * suc
+    (most_guards g.spec.rules))
 
 -- where the goal is evaluated once, with both sides of all its equations
 unfoldable pub most_evaluated : Partial → ℕ → ℕ
-most_evaluated g budget = (length g.goal.premises + length g.goal.conclusions) * (2 * most_run g budget)
+most_evaluated g budget =
+    (length g.goal.premises + length g.goal.conclusions) * (2 * most_run g budget)
 
 -- where so many variables have no value: each has at most two values in turn, so the goal is evaluated at most 2 ^ count
 -- times, and fewer than twice as many cells are added for these values

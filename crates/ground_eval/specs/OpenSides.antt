@@ -40,7 +40,8 @@ module _ (s : Setting) where
 
   -- the side with constants is the side's instance with constants
   pub record IsClosedSide (t : Tree) : Type 0 where
-    pub is : instance with_constants (shifted s.spec.sig.constructors (length s.sorts) t) ≡ closed s.spec.sig.constructors (length s.sorts) (instance s.values t)
+    pub is : instance with_constants (shifted s.spec.sig.constructors (length s.sorts) t)
+        ≡ closed s.spec.sig.constructors (length s.sorts) (instance s.values t)
     pub below : VariablesAreBelow (length s.sorts) (instance s.values t)
 
   -- the program's specification is the setting's with constants, whose numbers these are
@@ -51,14 +52,17 @@ module _ (s : Setting) where
     pub past : constants.to ≡ s.spec.sig.constructors + length s.sorts
 
   -- the equation's sides can be compared, with constants
-  pub record CanOpen (p : Program) (cells : List Cell) (pair : SidePair) (ids : List ValueId) (e : Equation) : Type 0 where
+  pub record CanOpen (p : Program) (cells : List Cell) (pair : SidePair) (ids : List ValueId)
+      (e : Equation) : Type 0 where
     pub compared : CanCompare p cells pair ids (shifted_here e) with_constants
     pub left : IsClosedSide e.left
     pub right : IsClosedSide e.right
 
-  pub record CanOpenAll (p : Program) (cells : List Cell) (pairs : List SidePair) (ids : List ValueId) (es : List Equation) : Type 0 where
+  pub record CanOpenAll (p : Program) (cells : List Cell) (pairs : List SidePair)
+      (ids : List ValueId) (es : List Equation) : Type 0 where
     pub count : length pairs ≡ length es
-    pub each : (k : ℕ) (e : Equation) (pair : SidePair) → slice_get es k ≡ Some e → slice_get pairs k ≡ Some pair → CanOpen p cells pair ids e
+    pub each : (k : ℕ) (e : Equation) (pair : SidePair) → slice_get es k ≡ Some e
+        → slice_get pairs k ≡ Some pair → CanOpen p cells pair ids e
 
   -- where left sides don't overlap and groups are whole, it isn't so
   abbrev pub Isnt : Type 0 → Type 0
@@ -80,8 +84,10 @@ module _ (s : Setting) where
     -- the sides of each premise are the same; or those of the first other one differ, or are neither
     abbrev pub PremisesOpen : List Equation → OpenSides → Type 0
     PremisesOpen es Same = AllByRecursion (λ (e : Equation). SidesOpen e Same) es
-    PremisesOpen es Differ = (cs : List Equation) → OpenPremisesSay s.spec s.values budget es cs Holds
-    PremisesOpen es Unknown = (cs : List Equation) (r : Verdict) → Isnt (OpenPremisesSay s.spec s.values budget es cs r)
+    PremisesOpen es Differ =
+        (cs : List Equation) → OpenPremisesSay s.spec s.values budget es cs Holds
+    PremisesOpen es Unknown =
+        (cs : List Equation) (r : Verdict) → Isnt (OpenPremisesSay s.spec s.values budget es cs r)
 
     -- the verdict of the conclusions, or there is none
     abbrev pub ConclusionsOpen : List Equation → Option Verdict → Type 0
@@ -94,7 +100,8 @@ module _ (s : Setting) where
     GoalOpens goal None = (r : Verdict) → Isnt (IsOpenVerdict s.spec s.values budget goal r)
 
 -- what is compiled for a goal: code of its sides with constants, whose numbers these are
-pub record IsPartial (spec : Spec) (goal : Goal) (p : Program) (shifted : Goal) (constants : Constants) (premises conclusions : List SidePair) : Type 0 where
+pub record IsPartial (spec : Spec) (goal : Goal) (p : Program) (shifted : Goal)
+    (constants : Constants) (premises conclusions : List SidePair) : Type 0 where
   pub opened : IsOpened spec goal p.spec shifted
   pub prepared : IsPrepared p shifted premises conclusions
   pub first : constants.from ≡ spec.sig.constructors

@@ -22,9 +22,11 @@ pub record HasCode (p : Program) (variables : ℕ) (e : Equation) (pair : SidePa
   pub right : IsSide p pair.right variables e.right
 
 -- the same of each equation
-pub record HaveCode (p : Program) (variables : ℕ) (es : List Equation) (pairs : List SidePair) : Type 0 where
+pub record HaveCode (p : Program) (variables : ℕ) (es : List Equation) (pairs : List SidePair) :
+    Type 0 where
   pub count : length pairs ≡ length es
-  pub each : (k : ℕ) (e : Equation) (pair : SidePair) → slice_get es k ≡ Some e → slice_get pairs k ≡ Some pair → HasCode p variables e pair
+  pub each : (k : ℕ) (e : Equation) (pair : SidePair) → slice_get es k ≡ Some e
+      → slice_get pairs k ≡ Some pair → HasCode p variables e pair
 
 -- how many instructions the code of the sides of equations has at most
 abbrev pub sides_length : List Equation → ℕ
@@ -35,18 +37,21 @@ sides_length (e ∷ es) = term_length e.left + term_length e.right + sides_lengt
 abbrev pub goal_length : Goal → ℕ
 goal_length g = sides_length g.premises + sides_length g.conclusions
 
-pub record IsPrepared (p : Program) (goal : Goal) (premises conclusions : List SidePair) : Type 0 where
-  pub of_premises : HaveCode p (length goal.vars) goal.premises premises
-  pub of_conclusions : HaveCode p (length goal.vars) goal.conclusions conclusions
+pub record IsPrepared (p : Program) (goal : Goal) (premises conclusions : List SidePair) : Type 0
+  where
+    pub of_premises : HaveCode p (length goal.vars) goal.premises premises
+    pub of_conclusions : HaveCode p (length goal.vars) goal.conclusions conclusions
 
 -- these values stand at the places, and under them both sides have one sort
-pub record CanCompare (p : Program) (cells : List Cell) (pair : SidePair) (ids : List ValueId) (e : Equation) (values : List Tree) : Type 0 where
+pub record CanCompare (p : Program) (cells : List Cell) (pair : SidePair) (ids : List ValueId)
+    (e : Equation) (values : List Tree) : Type 0 where
   pub code : HasCode p (length ids) e pair
   pub stand : StandAt cells ids values
   pub built : AllByRecursion (λ (v : Tree). IsBuilt p.spec.sig v) values
   pub sorted : HasOneSort p.spec values e
 
-pub record CanCompareAll (p : Program) (cells : List Cell) (pairs : List SidePair) (ids : List ValueId) (es : List Equation) (values : List Tree) : Type 0 where
+pub record CanCompareAll (p : Program) (cells : List Cell) (pairs : List SidePair)
+    (ids : List ValueId) (es : List Equation) (values : List Tree) : Type 0 where
   pub code : HaveCode p (length ids) es pairs
   pub stand : StandAt cells ids values
   pub built : AllByRecursion (λ (v : Tree). IsBuilt p.spec.sig v) values

@@ -36,13 +36,15 @@ pub(crate) fn compare_premises(
 ) -> Result<Sides, OutOfMemory>
     requires fine { IsWellSorted machine.now.spec }
     requires kept { AreRight machine.now.spec bank.old kept.old }
-    requires ready { (es : List Equation) × (terms : List Tree) × CanCompareAll machine.now bank.old premises.now values.now es terms }
+    requires ready { (es : List Equation) × (terms : List Tree)
+        × CanCompareAll machine.now bank.old premises.now values.now es terms }
     ensures sides { IfOk result (λ r. (es : List Equation) (terms : List Tree)
         → CanCompareAll machine.now bank.old premises.now values.now es terms
         → PremisesAre machine.now.spec terms budget es r) }
     ensures adds { AddsCells bank.old bank.new }
     ensures kept { IfOk result (λ _. AreRight machine.now.spec bank.new kept.new) }
-    ensures few { IfOk result (λ _. length bank.new ≤ length bank.old + most_compared machine.now (length premises.now) budget) }
+    ensures few { IfOk result (λ _. length bank.new
+        ≤ length bank.old + most_compared machine.now (length premises.now) budget) }
 {
     for premise in premises {
         match compare_sides(alloc, machine, bank, kept, *premise, values, budget)? {
@@ -66,13 +68,15 @@ pub(crate) fn compare_conclusions(
 ) -> Result<Verdict, OutOfMemory>
     requires fine { IsWellSorted machine.now.spec }
     requires kept { AreRight machine.now.spec bank.old kept.old }
-    requires ready { (es : List Equation) × (terms : List Tree) × CanCompareAll machine.now bank.old conclusions.now values.now es terms }
+    requires ready { (es : List Equation) × (terms : List Tree)
+        × CanCompareAll machine.now bank.old conclusions.now values.now es terms }
     ensures verdict { IfOk result (λ r. (es : List Equation) (terms : List Tree)
         → CanCompareAll machine.now bank.old conclusions.now values.now es terms
         → ConclusionsAre machine.now.spec terms budget es r) }
     ensures adds { AddsCells bank.old bank.new }
     ensures kept { IfOk result (λ _. AreRight machine.now.spec bank.new kept.new) }
-    ensures few { IfOk result (λ _. length bank.new ≤ length bank.old + most_compared machine.now (length conclusions.now) budget) }
+    ensures few { IfOk result (λ _. length bank.new
+        ≤ length bank.old + most_compared machine.now (length conclusions.now) budget) }
 {
     for conclusion in conclusions {
         match compare_sides(alloc, machine, bank, kept, *conclusion, values, budget)? {
@@ -96,13 +100,15 @@ fn compare_sides(
 ) -> Result<Sides, OutOfMemory>
     requires fine { IsWellSorted machine.now.spec }
     requires kept { AreRight machine.now.spec bank.old kept.old }
-    requires ready { (e : Equation) × (terms : List Tree) × CanCompare machine.now bank.old sides values.now e terms }
+    requires ready { (e : Equation) × (terms : List Tree)
+        × CanCompare machine.now bank.old sides values.now e terms }
     ensures sides { IfOk result (λ r. (e : Equation) (terms : List Tree)
         → CanCompare machine.now bank.old sides values.now e terms
         → SidesAre machine.now.spec terms budget e r) }
     ensures adds { AddsCells bank.old bank.new }
     ensures kept { IfOk result (λ _. AreRight machine.now.spec bank.new kept.new) }
-    ensures few { IfOk result (λ _. length bank.new ≤ length bank.old + 2 * most_added machine.now budget) }
+    ensures few { IfOk result (λ _. length bank.new
+        ≤ length bank.old + 2 * most_added machine.now budget) }
 {
     match machine.run(alloc, bank, kept, sides.left, values, budget)? {
         BankEval::Spent => Ok(Sides::Spent),

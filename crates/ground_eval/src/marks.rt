@@ -54,7 +54,8 @@ impl ConstantMarks {
     /// has, is answered as memory that isn't there.
     fn grow(&mut self, bank: &Bank, constants: Constants) -> Result<(), OutOfMemory>
         requires { AreMarks constants.from constants.to bank.now self.old.marks.items }
-        ensures right { IfOk result (λ _. AreMarks constants.from constants.to bank.now self.new.marks.items) }
+        ensures right { IfOk result (λ _. AreMarks constants.from constants.to bank.now
+            self.new.marks.items) }
         ensures whole { IfOk result (λ _. length bank.now ≤ length self.new.marks.items) }
     {
         while self.marks.len() < bank.len() {
@@ -69,7 +70,8 @@ impl ConstantMarks {
 
 /// Whether one of the places is marked, each of which has a mark.
 fn some_marked(marks: &[bool], places: &[u32]) -> Result<bool, OutOfMemory>
-    ensures { IfOk result (λ some. (c : ℕ) (d : ℕ) (cells : List Cell) → AreMarks c d cells marks.now
+    ensures { IfOk result (λ some. (c : ℕ) (d : ℕ) (cells : List Cell)
+        → AreMarks c d cells marks.now
         → (ts : Trees) × AreTerms cells places.now ts × (IsTrue some ↔ SomeHasConstant c d ts)) }
 {
     match front(places) {
@@ -101,10 +103,13 @@ pub(crate) fn compare_values(
     right: ValueId,
 ) -> Result<OpenSides, OutOfMemory>
     requires marks { AreMarks constants.from constants.to bank.now marks.old.marks.items }
-    requires there { (v : Tree) × (w : Tree) × IsTerm bank.now left.0 v × IsTerm bank.now right.0 w }
-    ensures are { IfOk result (λ r. (v : Tree) (w : Tree) → IsTerm bank.now left.0 v → IsTerm bank.now right.0 w
+    requires there { (v : Tree) × (w : Tree) × IsTerm bank.now left.0 v
+        × IsTerm bank.now right.0 w }
+    ensures are { IfOk result (λ r. (v : Tree) (w : Tree) → IsTerm bank.now left.0 v
+        → IsTerm bank.now right.0 w
         → ValuesAre constants.from constants.to v w r) }
-    ensures marks { IfOk result (λ _. AreMarks constants.from constants.to bank.now marks.new.marks.items) }
+    ensures marks { IfOk result (λ _. AreMarks constants.from constants.to bank.now
+        marks.new.marks.items) }
 {
     if bank.same(left, right) {
         return Ok(OpenSides::Same);

@@ -34,12 +34,16 @@ pub(crate) fn compare_open_premises(
     requires marks { AreMarks constants.from constants.to bank.old marks.old.marks.items }
     requires ready { (s : Setting) × (es : List Equation) × IsSet s machine.now constants
         × CanOpenAll s machine.now bank.old premises.now values.now es }
-    ensures sides { IfOk result (λ r. (s : Setting) (es : List Equation) → IsSet s machine.now constants
-        → CanOpenAll s machine.now bank.old premises.now values.now es → PremisesOpen s budget es r) }
+    ensures sides { IfOk result (λ r. (s : Setting) (es : List Equation)
+        → IsSet s machine.now constants
+        → CanOpenAll s machine.now bank.old premises.now values.now es
+        → PremisesOpen s budget es r) }
     ensures adds { AddsCells bank.old bank.new }
     ensures kept { IfOk result (λ _. AreRight machine.now.spec bank.new kept.new) }
-    ensures marks { IfOk result (λ _. AreMarks constants.from constants.to bank.new marks.new.marks.items) }
-    ensures few { IfOk result (λ _. length bank.new ≤ length bank.old + most_compared machine.now (length premises.now) budget) }
+    ensures marks { IfOk result (λ _. AreMarks constants.from constants.to bank.new
+        marks.new.marks.items) }
+    ensures few { IfOk result (λ _. length bank.new
+        ≤ length bank.old + most_compared machine.now (length premises.now) budget) }
 {
     for premise in premises {
         match compare_open_sides(
@@ -70,12 +74,16 @@ pub(crate) fn compare_open_conclusions(
     requires marks { AreMarks constants.from constants.to bank.old marks.old.marks.items }
     requires ready { (s : Setting) × (es : List Equation) × IsSet s machine.now constants
         × CanOpenAll s machine.now bank.old conclusions.now values.now es }
-    ensures verdict { IfOk result (λ r. (s : Setting) (es : List Equation) → IsSet s machine.now constants
-        → CanOpenAll s machine.now bank.old conclusions.now values.now es → ConclusionsOpen s budget es r) }
+    ensures verdict { IfOk result (λ r. (s : Setting) (es : List Equation)
+        → IsSet s machine.now constants
+        → CanOpenAll s machine.now bank.old conclusions.now values.now es
+        → ConclusionsOpen s budget es r) }
     ensures adds { AddsCells bank.old bank.new }
     ensures kept { IfOk result (λ _. AreRight machine.now.spec bank.new kept.new) }
-    ensures marks { IfOk result (λ _. AreMarks constants.from constants.to bank.new marks.new.marks.items) }
-    ensures few { IfOk result (λ _. length bank.new ≤ length bank.old + most_compared machine.now (length conclusions.now) budget) }
+    ensures marks { IfOk result (λ _. AreMarks constants.from constants.to bank.new
+        marks.new.marks.items) }
+    ensures few { IfOk result (λ _. length bank.new
+        ≤ length bank.old + most_compared machine.now (length conclusions.now) budget) }
 {
     for conclusion in conclusions {
         match compare_open_sides(
@@ -118,8 +126,10 @@ fn compare_open_sides(
         → CanOpen s machine.now bank.old sides values.now e → SidesOpen s budget e r) }
     ensures adds { AddsCells bank.old bank.new }
     ensures kept { IfOk result (λ _. AreRight machine.now.spec bank.new kept.new) }
-    ensures marks { IfOk result (λ _. AreMarks constants.from constants.to bank.new marks.new.marks.items) }
-    ensures few { IfOk result (λ _. length bank.new ≤ length bank.old + 2 * most_added machine.now budget) }
+    ensures marks { IfOk result (λ _. AreMarks constants.from constants.to bank.new
+        marks.new.marks.items) }
+    ensures few { IfOk result (λ _. length bank.new
+        ≤ length bank.old + 2 * most_added machine.now budget) }
 {
     match machine.run(alloc, bank, kept, sides.left, values, budget)? {
         BankEval::Spent => Ok(OpenSides::Unknown),

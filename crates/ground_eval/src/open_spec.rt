@@ -45,7 +45,8 @@ impl OpenSpec {
 fn constant_sorts(alloc: Global, vars: &[VarInfo]) -> Result<Vec<SortId>, OutOfMemory>
     ensures constants { IfOk result (λ sorts. HaveConstants (sorts_of vars.now) sorts.items) }
     ensures no_booleans { IfOk result (λ sorts. AllByRecursion IsNoBoolean sorts.items) }
-    ensures in_range { IfOk result (λ sorts. (sig : Sig) → AllByRecursion (λ (v : VarInfo). IsSort sig v.sort) vars.now
+    ensures in_range { IfOk result (λ sorts. (sig : Sig)
+        → AllByRecursion (λ (v : VarInfo). IsSort sig v.sort) vars.now
         → AllByRecursion (IsSort sig) sorts.items) }
     ensures few { IfOk result (λ sorts. length sorts.items ≤ length vars.now) }
 {
@@ -61,7 +62,8 @@ fn constant_sorts(alloc: Global, vars: &[VarInfo]) -> Result<Vec<SortId>, OutOfM
 
 /// The first sort of a variable that isn't `Bool`.
 fn other_sort(vars: &[VarInfo]) -> Option<SortId>
-    ensures { MatchOption result (AllByRecursion (λ (v : VarInfo). v.sort.0 ≡ 0) vars.now) (λ s. IsOther vars.now s) }
+    ensures { MatchOption result (AllByRecursion (λ (v : VarInfo). v.sort.0 ≡ 0) vars.now)
+        (λ s. IsOther vars.now s) }
 {
     match front(vars) {
         None => None,

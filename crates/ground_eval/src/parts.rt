@@ -59,7 +59,8 @@ impl<'a> Model for PartialGoal<'a> {
 
     ghost view = { λ p. partial p.spec.now p.goal.now p.machine.spec };
 
-    ghost invariant = { λ p. IsPartial p.spec.now p.goal.now p.machine p.opened.now.goal p.constants p.premises.items p.conclusions.items };
+    ghost invariant = { λ p. IsPartial p.spec.now p.goal.now p.machine p.opened.now.goal p.constants
+        p.premises.items p.conclusions.items };
 }
 
 impl<'a> PartialGoal<'a> {
@@ -118,7 +119,8 @@ impl<'a> PartialGoal<'a> {
         ensures adds { AddsCells bank.old bank.new }
         ensures kept { IfOk result (λ _. AreRight self.now.extended bank.new kept.new) }
         ensures marks { IfOk result (λ _. AreMarksOf self.now bank.new marks.new) }
-        ensures few { IfOk result (λ _. length bank.new ≤ length bank.old + most_looked self.now budget) }
+        ensures few { IfOk result (λ _. length bank.new
+            ≤ length bank.old + most_looked self.now budget) }
     {
         let count = self.goal.vars.len();
         let machine = &self.machine;
@@ -160,7 +162,8 @@ impl<'a> PartialGoal<'a> {
         requires kept { AreRight self.now.extended bank.old kept.old }
         requires marks { AreMarksOf self.now bank.old marks.old }
         requires entries { (terms : List Tree) × AreEntriesAt self.now bank.old entries.now terms }
-        ensures says { IfOk result (λ r. (terms : List Tree) → AreEntriesAt self.now bank.old entries.now terms
+        ensures says { IfOk result (λ r. (terms : List Tree)
+            → AreEntriesAt self.now bank.old entries.now terms
             → SayOfAll self.now.spec self.now.goal budget terms r) }
         ensures adds { AddsCells bank.old bank.new }
         ensures kept { IfOk result (λ _. AreRight self.now.extended bank.new kept.new) }
@@ -207,12 +210,14 @@ impl<'a> PartialGoal<'a> {
         requires marks { AreMarksOf self.now bank.old marks.old }
         requires all { length entries.now ≡ length self.now.goal.vars }
         requires entries { (terms : List Tree) × AreEntriesAt self.now bank.old entries.now terms }
-        ensures says { IfOk result (λ r. (terms : List Tree) → AreEntriesAt self.now bank.old entries.now terms
+        ensures says { IfOk result (λ r. (terms : List Tree)
+            → AreEntriesAt self.now bank.old entries.now terms
             → SayOfAll self.now.spec self.now.goal budget terms r) }
         ensures adds { AddsCells bank.old bank.new }
         ensures kept { IfOk result (λ _. AreRight self.now.extended bank.new kept.new) }
         ensures marks { IfOk result (λ _. AreMarksOf self.now bank.new marks.new) }
-        ensures few { IfOk result (λ _. length bank.new ≤ length bank.old + most_evaluated self.now budget) }
+        ensures few { IfOk result (λ _. length bank.new
+            ≤ length bank.old + most_evaluated self.now budget) }
     {
         open_verdict(
             alloc,
@@ -280,7 +285,8 @@ fn open_verdict(
         → GoalOpens s budget goal r) }
     ensures adds { AddsCells bank.old bank.new }
     ensures kept { IfOk result (λ _. AreRight machine.now.spec bank.new kept.new) }
-    ensures marks { IfOk result (λ _. AreMarks constants.from constants.to bank.new marks.new.marks.items) }
+    ensures marks { IfOk result (λ _. AreMarks constants.from constants.to bank.new
+        marks.new.marks.items) }
     ensures few { IfOk result (λ _. length bank.new ≤ length bank.old
         + most_compared machine.now (length premises.now + length conclusions.now) budget) }
 {

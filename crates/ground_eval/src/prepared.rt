@@ -30,7 +30,8 @@ pub(crate) fn compile_goal<'a>(
     requires { GoalIsSorted machine.spec.sig goal.now }
     ensures code { IfOk result (λ made. IsPrepared made.0 goal.now made.1.items made.2.items) }
     ensures spec { IfOk result (λ made. made.0.spec ≡ machine.entry.spec) }
-    ensures few { IfOk result (λ made. length made.0.code ≤ length machine.entry.code + goal_length goal.now) }
+    ensures few { IfOk result (λ made. length made.0.code
+        ≤ length machine.entry.code + goal_length goal.now) }
 {
     let variables = goal.vars.len();
     let (machine, premises) = compile_sides(alloc, machine, goal.premises.as_slice(), variables)?;
@@ -50,11 +51,13 @@ fn compile_sides<'a>(
     equations: &[Equation],
     variables: usize,
 ) -> Result<(Machine<'a>, Vec<SidePair>), OutOfMemory>
-    requires { (ctx : List SortId) × EquationsAreSorted machine.spec.sig ctx equations.now × (length ctx ≡ variables) }
+    requires { (ctx : List SortId) × EquationsAreSorted machine.spec.sig ctx equations.now
+        × (length ctx ≡ variables) }
     ensures code { IfOk result (λ made. HaveCode made.0 variables equations.now made.1.items) }
     ensures spec { IfOk result (λ made. made.0.spec ≡ machine.entry.spec) }
     ensures adds { IfOk result (λ made. AddsCode machine.entry.code made.0.code) }
-    ensures few { IfOk result (λ made. length made.0.code ≤ length machine.entry.code + sides_length equations.now) }
+    ensures few { IfOk result (λ made. length made.0.code
+        ≤ length machine.entry.code + sides_length equations.now) }
 {
     let mut machine = machine;
     let mut pairs = Vec::with_capacity(alloc, equations.len())?;

@@ -18,7 +18,10 @@ clauses_made made = map (λ (d : Child). d.clause) made.clauses
 -- the clauses as children, with one relation of the node to each of them, and no references
 abbrev pub children_with : Relation → List Clause → Children
 children_with relation ds =
-    record { clauses = map (λ (d : Clause). record { clause = d; relation = relation }) ds; refs = [] }
+    record {
+      clauses = map (λ (d : Clause). record { clause = d; relation = relation }) ds;
+      refs = [];
+    }
 
 -- the reference that a step makes to a node by an instance of it, where it makes one
 abbrev pub referred_to : Option ℕ → Clause → List (ℕ × Clause)

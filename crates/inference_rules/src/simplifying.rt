@@ -25,7 +25,8 @@ pub(crate) fn decompose(
     conclusion: bool,
     number: u16,
 ) -> Result<Children, StepError>
-    ensures { AnsweredAlone clause.now (decompose_row spec.now clause.now conclusion number) result }
+    ensures { AnsweredAlone clause.now (decompose_row spec.now clause.now conclusion number)
+        result }
 {
     let Some(equation) = clause.equation(conclusion, number) else {
         return Err(StepError::Why(Why::NoSuchPlace));

@@ -50,9 +50,12 @@ pub record WorkedExamples : Type 0 where
   pub holds : IsOpenVerdict naturals (opened [] 2) 1 left_unit Holds
   pub fails : IsOpenVerdict naturals (opened [] 2) 0 no_successor Fails
   -- where x is succ(zero), the goal whose premise is x = zero holds without y
-  pub premise_broken : IsOpenVerdict naturals (opened (succ_term zero_term ∷ []) 2) 0 zero_alone Holds
+  pub premise_broken : IsOpenVerdict naturals (opened (succ_term zero_term ∷ []) 2) 0 zero_alone
+      Holds
   -- the walk has no verdict of plus(zero, x) = x without a use of a rule, none of plus(x, zero) = x at any budget, and
   -- none of x = y
   pub spent : (r : Verdict) → IsOpenVerdict naturals (opened [] 2) 0 left_unit r → ⊥
-  pub stuck : (budget : ℕ) (r : Verdict) → IsOpenVerdict naturals (opened [] 1) budget unit_goal r → ⊥
-  pub undecided : (budget : ℕ) (r : Verdict) → IsOpenVerdict naturals (opened [] 2) budget one_natural r → ⊥
+  pub stuck : (budget : ℕ) (r : Verdict) → IsOpenVerdict naturals (opened [] 1) budget unit_goal r
+      → ⊥
+  pub undecided : (budget : ℕ) (r : Verdict)
+      → IsOpenVerdict naturals (opened [] 2) budget one_natural r → ⊥

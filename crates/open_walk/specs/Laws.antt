@@ -69,7 +69,8 @@ ClosingKeepsInstances =
 
 -- a value has no variable and keeps its symbols
 abbrev pub ClosingKeepsValues : Type 0
-ClosingKeepsValues = (sig : Sig) (u : ℕ) (v : Tree) → IsBuilt sig v → closed sig.constructors u v ≡ v
+ClosingKeepsValues =
+    (sig : Sig) (u : ℕ) (v : Tree) → IsBuilt sig v → closed sig.constructors u v ≡ v
 
 -- what a term gives openly, it gives with a constant for each variable, at the same cost
 abbrev pub OpenGivesWithConstants : Type 0
@@ -77,7 +78,8 @@ OpenGivesWithConstants =
     (old new : Spec) (sorts : List SortId) (t v : Tree) (n : ℕ) →
     IsWellSorted old → IsExtended old new sorts → VariablesAreBelow (length sorts) t →
     OpenGives old t v n →
-    Gives new (closed old.sig.constructors (length sorts) t) (closed old.sig.constructors (length sorts) v) n
+    Gives new (closed old.sig.constructors (length sorts) t)
+    (closed old.sig.constructors (length sorts) v) n
 
 -- what a term gives with a constant for each variable is an open value with constants, which it gives at the same cost
 abbrev pub ConstantsGiveOpenly : Type 0

@@ -32,7 +32,8 @@ module _ (spec : Spec) where
       unknown : {k : ℕ} → OpenGives (var k) (var k) 0
       open_built : {f : ℕ} {ts vs : Trees} {n : ℕ} →
           IsConstructor spec.sig f → OpenGivesAll ts vs n → OpenGives (app f ts) (app f vs) n
-      open_called : {f : ℕ} {ts vs : Trees} {v : Tree} {n g k m : ℕ} (number : ℕ) (rule : Rule) (values : List Tree) →
+      open_called : {f : ℕ} {ts vs : Trees} {v : Tree} {n g k m : ℕ} (number : ℕ) (rule : Rule)
+          (values : List Tree) →
           OpenGivesAll ts vs n → slice_get spec.rules number ≡ Some rule →
           AllByRecursion (IsOpen spec.sig) values → instance values rule.left ≡ app f vs →
           OpenGivesGuards values rule.guards g → OpenGives (instance values rule.right) v k →
@@ -42,7 +43,8 @@ module _ (spec : Spec) where
     pub data OpenGivesAll : Trees → Trees → ℕ → Type 0 where
       no_open_terms : OpenGivesAll none none 0
       more_open_terms : {t v : Tree} {ts vs : Trees} {n k m : ℕ} →
-          OpenGives t v n → OpenGivesAll ts vs k → m ≡ n + k → OpenGivesAll (some t ts) (some v vs) m
+          OpenGives t v n → OpenGivesAll ts vs k → m ≡ n + k
+          → OpenGivesAll (some t ts) (some v vs) m
 
     -- each guard gives the Boolean that it wants
     pub data OpenGivesGuards : List Tree → List Guard → ℕ → Type 0 where

@@ -39,17 +39,20 @@ module _ (spec : Spec) (values : List Tree) (budget : ℕ) where
 
   -- the sides give two open values within the budget that are different
   abbrev pub OpenDiffer : Equation → Type 0
-  OpenDiffer e = (v : Tree) × (w : Tree) × AreDifferent v w × SideOpens e.left v × SideOpens e.right w
+  OpenDiffer e =
+      (v : Tree) × (w : Tree) × AreDifferent v w × SideOpens e.left v × SideOpens e.right w
 
   -- the conclusions in order: the first that holds decides; where each is broken the goal fails
   abbrev pub OpenConclusionsSay : List Equation → Verdict → Type 0
   OpenConclusionsSay [] r = r ≡ Fails
-  OpenConclusionsSay (e ∷ es) r = (OpenSame e × (r ≡ Holds)) ⊎ (OpenDiffer e × OpenConclusionsSay es r)
+  OpenConclusionsSay (e ∷ es) r =
+      (OpenSame e × (r ≡ Holds)) ⊎ (OpenDiffer e × OpenConclusionsSay es r)
 
   -- the premises in order: the first that is broken decides; where each holds the conclusions do
   abbrev pub OpenPremisesSay : List Equation → List Equation → Verdict → Type 0
   OpenPremisesSay [] cs r = OpenConclusionsSay cs r
-  OpenPremisesSay (e ∷ es) cs r = (OpenDiffer e × (r ≡ Holds)) ⊎ (OpenSame e × OpenPremisesSay es cs r)
+  OpenPremisesSay (e ∷ es) cs r =
+      (OpenDiffer e × (r ≡ Holds)) ⊎ (OpenSame e × OpenPremisesSay es cs r)
 
   -- the verdict at which the walk ends; it doesn't end where it meets a side that gives no open value within the budget,
   -- nor where it meets two sides that are neither the same nor different

@@ -19,7 +19,8 @@ first-falls :
 first-falls (within_here e p a) = at_first e p
 first-falls (within_further w) = behind (first-falls w)
 
-all-listed : (k : ℕ) (ts : Trees) → Each (IsAccessible k) ts → AllByRecursion (IsAccessible k) (list_of ts)
+all-listed : (k : ℕ) (ts : Trees) → Each (IsAccessible k) ts
+    → AllByRecursion (IsAccessible k) (list_of ts)
 all-listed k none e = tt
 all-listed k (some t ts) e = (e.0, all-listed k ts e.1)
 
@@ -51,7 +52,8 @@ ArgumentsFall k ts ss = FallsTo (AboveWithin k) (list_of ts) (list_of ss)
 
 -- what is below is accessible where its own arguments are
 smaller-root :
-    {k f g : ℕ} {ts ss : Trees} → AboveWithin k (app f ts) (app g ss) → ((d : ℕ) → d < f → Head k d) →
+    {k f g : ℕ} {ts ss : Trees} → AboveWithin k (app f ts) (app g ss)
+    → ((d : ℕ) → d < f → Head k d) →
     Each (IsAccessible k) ts → Each (IsAccessible k) ss →
     ((us : Trees) → ArgumentsFall k ts us → IsAccessible k (app f us)) → IsAccessible k (app g ss)
 smaller-root (within_argument r) heads e es low = reached-accessible r e
@@ -62,14 +64,16 @@ smaller-root (within_arguments {k = j} {ss = ss} w) heads e es low =
 module _ (k f : ℕ) (heads : (d : ℕ) → d < f → Head k d) where
   mutual
     smaller-accessible :
-        (ts : Trees) → Each (IsAccessible k) ts → ((us : Trees) → ArgumentsFall k ts us → IsAccessible k (app f us)) →
+        (ts : Trees) → Each (IsAccessible k) ts
+        → ((us : Trees) → ArgumentsFall k ts us → IsAccessible k (app f us)) →
         (s : Tree) → AboveWithin k (app f ts) s → IsAccessible k s
     smaller-accessible ts e low (var x) p = variable-accessible k x
     smaller-accessible ts e low (app g ss) p =
         smaller-root p heads e (each-accessible ts e low ss (arguments-within p)) low
 
     each-accessible :
-        (ts : Trees) → Each (IsAccessible k) ts → ((us : Trees) → ArgumentsFall k ts us → IsAccessible k (app f us)) →
+        (ts : Trees) → Each (IsAccessible k) ts
+        → ((us : Trees) → ArgumentsFall k ts us → IsAccessible k (app f us)) →
         (ss : Trees) → Each (AboveWithin k (app f ts)) ss → Each (IsAccessible k) ss
     each-accessible ts e low none a = tt
     each-accessible ts e low (some s ss) a =
@@ -84,16 +88,19 @@ module _ (k f : ℕ) (heads : (d : ℕ) → d < f → Head k d) where
 
   head-accessible : Head k f
   head-accessible ts e =
-      by-arguments (by-image list_of (lists-accessible (AboveWithin k) (list_of ts) (all-listed k ts e)) ts refl) e
+      by-arguments (by-image list_of (lists-accessible (AboveWithin k) (list_of ts)
+      (all-listed k ts e)) ts refl) e
 
 heads-accessible : (k m f : ℕ) → f < m → Head k f
 heads-accessible k zero f l = absurd (omega arith)
-heads-accessible k (suc m) f l = head-accessible k f (λ d less. heads-accessible k m d (omega arith))
+heads-accessible k (suc m) f l =
+    head-accessible k f (λ d less. heads-accessible k m d (omega arith))
 
 mutual
   pub term-accessible : (k : ℕ) (t : Tree) → Accessible (AboveWithin k) t
   term-accessible k (var x) = variable-accessible k x
-  term-accessible k (app f ts) = heads-accessible k (suc f) f (omega arith) ts (terms-accessible k ts)
+  term-accessible k (app f ts) =
+      heads-accessible k (suc f) f (omega arith) ts (terms-accessible k ts)
 
   terms-accessible : (k : ℕ) (ts : Trees) → Each (IsAccessible k) ts
   terms-accessible k none = tt

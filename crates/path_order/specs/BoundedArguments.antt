@@ -16,19 +16,23 @@ mutual
   raise-reaches (within_this_above p) = within_this_above (raise p)
   raise-reaches (within_later r) = within_later (raise-reaches r)
 
-  pub raise-all : {k : ℕ} {t : Tree} {ss : Trees} → AboveAllWithin k t ss → AboveAllWithin (suc k) t ss
+  pub raise-all : {k : ℕ} {t : Tree} {ss : Trees} → AboveAllWithin k t ss
+      → AboveAllWithin (suc k) t ss
   raise-all within_none = within_none
   raise-all (within_some p a) = within_some (raise p) (raise-all a)
 
-  raise-falls : {k : ℕ} {t : Tree} {ts ss : Trees} → FallsWithin k t ts ss → FallsWithin (suc k) t ts ss
+  raise-falls : {k : ℕ} {t : Tree} {ts ss : Trees} → FallsWithin k t ts ss
+      → FallsWithin (suc k) t ts ss
   raise-falls (within_here e p a) = within_here e (raise p) (raise-all a)
   raise-falls (within_further w) = within_further (raise-falls w)
 
-pub within-each : {k : ℕ} {t : Tree} {ss : Trees} → AboveAllWithin k t ss → Each (AboveWithin k t) ss
+pub within-each : {k : ℕ} {t : Tree} {ss : Trees} → AboveAllWithin k t ss
+    → Each (AboveWithin k t) ss
 within-each within_none = tt
 within-each (within_some p a) = (p, within-each a)
 
-pub each-within : (k : ℕ) (t : Tree) (ss : Trees) → Each (AboveWithin k t) ss → AboveAllWithin k t ss
+pub each-within : (k : ℕ) (t : Tree) (ss : Trees) → Each (AboveWithin k t) ss
+    → AboveAllWithin k t ss
 each-within k t none e = within_none
 each-within k t (some s ss) e = within_some e.0 (each-within k t ss e.1)
 
@@ -42,8 +46,11 @@ falls-reach :
     Each (λ s. SomeReachesWithin k us s ⊎ AboveWithin k t s) ss
 falls-reach (within_here {ss = ss} e p a) =
     (inl (within_this_above p), each-map (λ s q. inr q) ss (within-each (raise-all a)))
-falls-reach (within_further {ss = ss} w) =
-    (inl within_this_is, each-map (λ s c. elim c [ inl q ↦ inl (within_later q) | inr q ↦ inr q ]) ss (falls-reach w))
+falls-reach (within_further {ss = ss} w) = (
+  inl within_this_is,
+  each-map (λ s c. elim c [ inl q ↦ inl (within_later q) | inr q ↦ inr q ])
+      ss (falls-reach w),
+)
 
 mutual
   pub arguments-within :
@@ -62,4 +69,5 @@ mutual
       each-map (λ s q. within_this_above (within_argument q)) ss (members-reach-within k ss)
   arguments-reach {ss = ss} (within_this_above p) =
       each-map (λ s q. within_this_above q) ss (arguments-within p)
-  arguments-reach {ss = ss} (within_later r) = each-map (λ s q. within_later q) ss (arguments-reach r)
+  arguments-reach {ss = ss} (within_later r) =
+      each-map (λ s q. within_later q) ss (arguments-reach r)

@@ -10,7 +10,8 @@ falls-around :
     (k : ℕ) (w : Tree) (before : Trees) (t s : Tree) (after : Trees) → AboveWithin (suc k) t s →
     AboveAllWithin k w after → FallsWithin (suc k) w (around before t after) (around before s after)
 falls-around k w none t s after p a = within_here refl p a
-falls-around k w (some b before) t s after p a = within_further (falls-around k w before t s after p a)
+falls-around k w (some b before) t s after p a =
+    within_further (falls-around k w before t s after p a)
 
 -- each argument is below the term, at any bound
 pub above-arguments : (k f : ℕ) (ts : Trees) → Each (AboveWithin k (app f ts)) ts
@@ -24,5 +25,7 @@ in-context k (under f before c after) t s p =
     let a = plug c t in
     let b = plug c s in
     let whole = app f (around before a after) in
-    let behind = each-after (AboveWithin k whole) before a after (above-arguments k f (around before a after)) in
-    within_arguments (falls-around k whole before a b after (in-context k c t s p) (each-within k whole after behind))
+    let behind = each-after (AboveWithin k whole) before a after
+    (above-arguments k f (around before a after)) in
+    within_arguments (falls-around k whole before a b after (in-context k c t s p)
+    (each-within k whole after behind))

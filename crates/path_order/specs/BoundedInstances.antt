@@ -12,9 +12,11 @@ mutual
       AboveWithin k (instance xs t) (instance xs s)
   instance-within xs (by_argument r) k d = within_argument (reaches-within xs r k d)
   instance-within xs (by_head l a) zero d = absurd (omega arith)
-  instance-within xs (by_head {ss = ss} l a) (suc k) d = within_head l (all-within xs a k (omega arith))
+  instance-within xs (by_head {ss = ss} l a) (suc k) d =
+      within_head l (all-within xs a k (omega arith))
   instance-within xs (by_arguments w) zero d = absurd (omega arith)
-  instance-within xs (by_arguments w) (suc k) d = within_arguments (falls-within xs w k (omega arith))
+  instance-within xs (by_arguments w) (suc k) d =
+      within_arguments (falls-within xs w k (omega arith))
 
   reaches-within :
       (xs : List Tree) {ts : Trees} {s : Tree} → SomeReaches ts s → (k : ℕ) → tree_depth s ≤ k →
@@ -37,5 +39,6 @@ mutual
       let same : length (list_of (instances xs ts)) ≡ length (list_of (instances xs ss)) =
       omega (arith, e, length-instances xs ts, length-instances xs ss)
       in
-      within_here same (instance-within xs p (suc k) (omega arith)) (all-within xs a k (omega arith))
+      within_here same (instance-within xs p (suc k) (omega arith))
+      (all-within xs a k (omega arith))
   falls-within xs (further w) k d = within_further (falls-within xs w k (omega arith))

@@ -7,7 +7,8 @@ abbrev pub Each : (Tree → Type 0) → Trees → Type 0
 Each P none = Unit {0}
 Each P (some t ts) = P t × Each P ts
 
-pub each-map : {P Q : Tree → Type 0} → ((t : Tree) → P t → Q t) → (ts : Trees) → Each P ts → Each Q ts
+pub each-map : {P Q : Tree → Type 0} → ((t : Tree) → P t → Q t) → (ts : Trees) → Each P ts
+    → Each Q ts
 each-map h none e = tt
 each-map h (some t ts) e = (h t e.0, each-map h ts e.1)
 

@@ -15,26 +15,32 @@ HeadAndArguments P Q (var x) = ⊥
 HeadAndArguments P Q (app f ts) = P f × Q ts
 
 pub first-and-rest :
-    {P : Tree → Type 0} {Q : Trees → Type 0} → Enumerated P → Enumerated Q → Enumerated (FirstAndRest P Q)
+    {P : Tree → Type 0} {Q : Trees → Type 0} → Enumerated P → Enumerated Q
+    → Enumerated (FirstAndRest P Q)
 first-and-rest {P} {Q} p q =
     same-items to from (union-items p (λ t _. union-items q (λ ts _. one-item (some t ts))))
   where
-    to : (ss : Trees) → (t : Tree) × P t × ((ts : Trees) × Q ts × (ss ≡ some t ts)) → FirstAndRest P Q ss
+    to : (ss : Trees) → (t : Tree) × P t × ((ts : Trees) × Q ts × (ss ≡ some t ts))
+        → FirstAndRest P Q ss
     to ss c = subst (FirstAndRest P Q) (sym c.2.2) (c.1, c.2.1)
 
-    from : (ss : Trees) → FirstAndRest P Q ss → (t : Tree) × P t × ((ts : Trees) × Q ts × (ss ≡ some t ts))
+    from : (ss : Trees) → FirstAndRest P Q ss → (t : Tree) × P t
+        × ((ts : Trees) × Q ts × (ss ≡ some t ts))
     from none h = absurd h
     from (some t ts) h = (t, h.0, (ts, h.1, refl))
 
 pub head-and-arguments :
-    {P : ℕ → Type 0} {Q : Trees → Type 0} → Enumerated P → Enumerated Q → Enumerated (HeadAndArguments P Q)
+    {P : ℕ → Type 0} {Q : Trees → Type 0} → Enumerated P → Enumerated Q
+    → Enumerated (HeadAndArguments P Q)
 head-and-arguments {P} {Q} p q =
     same-items to from (union-items p (λ f _. union-items q (λ ts _. one-item (app f ts))))
   where
-    to : (s : Tree) → (f : ℕ) × P f × ((ts : Trees) × Q ts × (s ≡ app f ts)) → HeadAndArguments P Q s
+    to : (s : Tree) → (f : ℕ) × P f × ((ts : Trees) × Q ts × (s ≡ app f ts))
+        → HeadAndArguments P Q s
     to s c = subst (HeadAndArguments P Q) (sym c.2.2) (c.1, c.2.1)
 
-    from : (s : Tree) → HeadAndArguments P Q s → (f : ℕ) × P f × ((ts : Trees) × Q ts × (s ≡ app f ts))
+    from : (s : Tree) → HeadAndArguments P Q s → (f : ℕ) × P f
+        × ((ts : Trees) × Q ts × (s ≡ app f ts))
     from (var x) h = absurd h
     from (app f ts) h = (f, h.0, (ts, h.1, refl))
 
@@ -42,7 +48,8 @@ head-and-arguments {P} {Q} p q =
 abbrev pub count : Trees → ℕ
 count ts = length (list_of ts)
 
-pub short-lists : {P : Tree → Type 0} → Enumerated P → (m : ℕ) → Enumerated (λ ss. count ss < m × Each P ss)
+pub short-lists : {P : Tree → Type 0} → Enumerated P → (m : ℕ)
+    → Enumerated (λ ss. count ss < m × Each P ss)
 short-lists p zero = no-items (λ ss h. omega (arith, h.0))
 short-lists {P} p (suc m) =
     same-items to from (either-items (one-item none) (first-and-rest p (short-lists p m)))

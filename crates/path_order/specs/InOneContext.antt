@@ -17,7 +17,9 @@ behind-above :
     (f : ℕ) (before : Trees) (t : Tree) (after : Trees) →
     AboveAll (app f (around before t after)) after
 behind-above f before t after =
-    each-above (app f (around before t after)) after (each-map (λ s r. by_argument (behind-reaches before t after s r)) after (members-reach after))
+    each-above (app f (around before t after)) after
+    (each-map (λ s r. by_argument (behind-reaches before t after s r)) after
+    (members-reach after))
 
 pub falls-around :
     (w : Tree) (before : Trees) (a b : Tree) (ts ss : Trees) →
@@ -29,7 +31,8 @@ falls-around w (some u before) a b ts ss e p q = further (falls-around w before 
 above-in : (c : Context) (t s : Tree) → Above t s → Above (plug c t) (plug c s)
 above-in hole t s p = p
 above-in (under f before c after) t s p =
-    by_arguments (falls-around (app f (around before (plug c t) after)) before (plug c t) (plug c s) after after refl (above-in c t s p) (behind-above f before (plug c t) after))
+    by_arguments (falls-around (app f (around before (plug c t) after)) before (plug c t) (plug c s)
+    after after refl (above-in c t s p) (behind-above f before (plug c t) after))
 
 -- where arguments fall that are the same but at one place, it is at that place
 fall-at :
@@ -38,10 +41,13 @@ fall-at :
 fall-at (here {a = c} {b = d} e p q) none a b after x y =
     subst (λ z. Above z b) (same-first x) (subst (λ z. Above c z) (same-first y) p)
 fall-at (further {ts = ts} {ss = ss} w) none a b after x y =
-    absurd (falls-differ w (subst (λ z. ts ≡ z) (sym (same-rest y)) (same-rest x)) (each-irreflexive ts))
+    absurd (falls-differ w (subst (λ z. ts ≡ z) (sym (same-rest y)) (same-rest x))
+    (each-irreflexive ts))
 fall-at (here {a = c} {b = d} e p q) (some u before) a b after x y =
-    absurd (irreflexive u (subst (λ z. Above z u) (same-first x) (subst (λ z. Above c z) (same-first y) p)))
-fall-at (further w) (some u before) a b after x y = fall-at w before a b after (same-rest x) (same-rest y)
+    absurd (irreflexive u (subst (λ z. Above z u) (same-first x)
+    (subst (λ z. Above c z) (same-first y) p)))
+fall-at (further w) (some u before) a b after x y =
+    fall-at w before a b after (same-rest x) (same-rest y)
 
 -- what reaches does so at the place, before it or behind it
 pub reach-cases :
@@ -62,12 +68,14 @@ at-place f before a b after {v = v} (by_argument {ts = us} r) x y =
     let all = around before b after in
     let s = app f all in
     let no : Each (λ u. Reaches u s → ⊥) all = unreached f all in
-    let reaches : SomeReaches (around before a after) s = subst (λ z. SomeReaches z s) (same-arguments x) (subst (λ z. SomeReaches us z) y r) in
+    let reaches : SomeReaches (around before a after) s =
+    subst (λ z. SomeReaches z s) (same-arguments x) (subst (λ z. SomeReaches us z) y r) in
     reach-cases before a after s (Above a b) reaches
     (each-map (λ u n q. absurd (n q)) before (each-before (λ u. Reaches u s → ⊥) before b after no))
     (λ q. each-at (Above a) before b after (reaches-arguments a f all q))
     (λ q. absurd (none-reach q (each-after (λ u. Reaches u s → ⊥) before b after no)))
-at-place f before a b after (by_head l q) x y = absurd (omega (arith, l, same-symbol x, same-symbol y))
+at-place f before a b after (by_head l q) x y =
+    absurd (omega (arith, l, same-symbol x, same-symbol y))
 at-place f before a b after (by_arguments w) x y =
     fall-at w before a b after (same-arguments x) (same-arguments y)
 

@@ -9,7 +9,8 @@ length-instances xs none = refl
 length-instances xs (some t ts) = omega (arith, length-instances xs ts)
 
 mutual
-  pub above-instance : (xs : List Tree) {t s : Tree} → Above t s → Above (instance xs t) (instance xs s)
+  pub above-instance : (xs : List Tree) {t s : Tree} → Above t s
+      → Above (instance xs t) (instance xs s)
   above-instance xs (by_argument r) = by_argument (reaches-instance xs r)
   above-instance xs (by_head l a) = by_head l (all-instance xs a)
   above-instance xs (by_arguments w) = by_arguments (falls-instance xs w)
@@ -31,5 +32,6 @@ mutual
       (xs : List Tree) {t : Tree} {ts ss : Trees} → Falls t ts ss →
       Falls (instance xs t) (instances xs ts) (instances xs ss)
   falls-instance xs (here {ts = ts} {ss = ss} e p a) =
-      here (length-instances xs ts ∙ e ∙ sym (length-instances xs ss)) (above-instance xs p) (all-instance xs a)
+      here (length-instances xs ts ∙ e ∙ sym (length-instances xs ss)) (above-instance xs p)
+      (all-instance xs a)
   falls-instance xs (further w) = further (falls-instance xs w)

@@ -16,10 +16,14 @@ pub members-reach : (ts : Trees) → Each (SomeReaches ts) ts
 members-reach none = tt
 members-reach (some t ts) = (this_is, each-map (λ s r. later r) ts (members-reach ts))
 
-falls-reach : {t : Tree} {us ss : Trees} → Falls t us ss → Each (λ s. SomeReaches us s ⊎ Above t s) ss
+falls-reach : {t : Tree} {us ss : Trees} → Falls t us ss
+    → Each (λ s. SomeReaches us s ⊎ Above t s) ss
 falls-reach (here {ss = ss} e p a) = (inl (this_above p), each-map (λ s q. inr q) ss (above-each a))
-falls-reach (further {ss = ss} w) =
-    (inl this_is, each-map (λ s c. elim c [ inl q ↦ inl (later q) | inr q ↦ inr q ]) ss (falls-reach w))
+falls-reach (further {ss = ss} w) = (
+  inl this_is,
+  each-map (λ s c. elim c [ inl q ↦ inl (later q) | inr q ↦ inr q ]) ss
+      (falls-reach w),
+)
 
 mutual
   -- a term is above each argument of what it is above
@@ -29,8 +33,10 @@ mutual
   arguments-above {ss = ss} (by_arguments w) =
       each-map (λ s c. elim c [ inl q ↦ by_argument q | inr q ↦ q ]) ss (falls-reach w)
 
-  arguments-reach : {ts : Trees} {g : ℕ} {ss : Trees} → SomeReaches ts (app g ss) → Each (SomeReaches ts) ss
-  arguments-reach {ss = ss} this_is = each-map (λ s q. this_above (by_argument q)) ss (members-reach ss)
+  arguments-reach : {ts : Trees} {g : ℕ} {ss : Trees} → SomeReaches ts (app g ss)
+      → Each (SomeReaches ts) ss
+  arguments-reach {ss = ss} this_is =
+      each-map (λ s q. this_above (by_argument q)) ss (members-reach ss)
   arguments-reach {ss = ss} (this_above p) = each-map (λ s q. this_above q) ss (arguments-above p)
   arguments-reach {ss = ss} (later r) = each-map (λ s q. later q) ss (arguments-reach r)
 
@@ -49,7 +55,8 @@ same-first e = cc
 pub same-rest : {a b : Tree} {ts ss : Trees} → some a ts ≡ some b ss → ts ≡ ss
 same-rest e = cc
 
-pub falls-differ : {t : Tree} {us ss : Trees} → Falls t us ss → us ≡ ss → Each (λ u. Above u u → ⊥) us → ⊥
+pub falls-differ : {t : Tree} {us ss : Trees} → Falls t us ss → us ≡ ss
+    → Each (λ u. Above u u → ⊥) us → ⊥
 falls-differ (here {a = a} c p q) e h = h.0 (subst (λ x. Above a x) (sym (same-first e)) p)
 falls-differ (further w) e h = falls-differ w (same-rest e) h.1
 
@@ -64,7 +71,8 @@ diagonal (some t ts) = (λ e. e.0, each-map (λ u h e. h e.1) ts (diagonal ts))
 
 no-argument-reaches :
     (f : ℕ) (ts : Trees) → Each (λ u. Above u u → ⊥) ts → Each (λ u. Reaches u (app f ts) → ⊥) ts
-no-argument-reaches f ts h = each-both (λ u no d r. no (d (reaches-arguments u f ts r))) ts h (diagonal ts)
+no-argument-reaches f ts h =
+    each-both (λ u no d r. no (d (reaches-arguments u f ts r))) ts h (diagonal ts)
 
 pub same-arguments : {f g : ℕ} {ts us : Trees} → app f ts ≡ app g us → ts ≡ us
 same-arguments e = cc
@@ -76,10 +84,12 @@ not-above-itself :
     {t : Tree} (f : ℕ) (ts : Trees) → Above t (app f ts) → t ≡ app f ts →
     Each (λ u. Above u u → ⊥) ts → ⊥
 not-above-itself f ts (by_argument {ts = us} r) e h =
-    none-reach (subst (λ x. SomeReaches x (app f ts)) (same-arguments e) r) (no-argument-reaches f ts h)
+    none-reach (subst (λ x. SomeReaches x (app f ts)) (same-arguments e) r)
+    (no-argument-reaches f ts h)
 not-above-itself f ts (by_head l a) e h = omega (arith, l, same-symbol e)
 not-above-itself f ts (by_arguments w) e h =
-    falls-differ w (same-arguments e) (subst (λ x. Each (λ u. Above u u → ⊥) x) (sym (same-arguments e)) h)
+    falls-differ w (same-arguments e) (subst
+    (λ x. Each (λ u. Above u u → ⊥) x) (sym (same-arguments e)) h)
 
 mutual
   pub irreflexive : (t : Tree) → Above t t → ⊥

@@ -19,4 +19,5 @@ pub above-part :
     Above (plug (under f before c after) s) s
 above-part f before after hole s = by_argument (place-is before s after)
 above-part f before after (under g left c right) s =
-    by_argument (place-reaches before (plug (under g left c right) s) s after (above-part g left right c s))
+    by_argument (place-reaches before (plug (under g left c right) s) s after
+    (above-part g left right c s))

@@ -31,7 +31,8 @@ ground-argument n none s after g = g.0
 ground-argument n (some b before) s after g = ground-argument n before s after g.1
 
 on-arguments :
-    (n k f : ℕ) (before after : Trees) (s : Tree) (r q : ℕ) → IsGroundIn n (app f (around before s after)) →
+    (n k f : ℕ) (before after : Trees) (s : Tree) (r q : ℕ)
+    → IsGroundIn n (app f (around before s after)) →
     IsRank n k (app f (around before s after)) r → IsRank n k s q → q < r
 on-arguments n k f before after s r q g =
     let t = app f (around before s after) in
@@ -40,13 +41,15 @@ on-arguments n k f before after s r q g =
     longest-falls (GroundAbove n k) t s r q (g, ground-argument n before s after g.2, p)
 
 in-contexts :
-    (n k : ℕ) (t s : Tree) (xs : List Tree) (c : Context) (r q : ℕ) → 1 ≤ k → Above t s → tree_depth s ≤ k →
+    (n k : ℕ) (t s : Tree) (xs : List Tree) (c : Context) (r q : ℕ) → 1 ≤ k → Above t s
+    → tree_depth s ≤ k →
     IsGroundIn n (plug c (instance xs t)) → IsGroundIn n (plug c (instance xs s)) →
     IsRank n k (plug c (instance xs t)) r → IsRank n k (plug c (instance xs s)) q → q < r
 in-contexts n zero t s xs c r q l p d g h = absurd (omega arith)
 in-contexts n (suc k) t s xs c r q l p d g h =
     let a = in-context k c (instance xs t) (instance xs s) (instance-within xs p (suc k) d) in
-    longest-falls (GroundAbove n (suc k)) (plug c (instance xs t)) (plug c (instance xs s)) r q (g, h, a)
+    longest-falls (GroundAbove n (suc k)) (plug c (instance xs t)) (plug c (instance xs s)) r q
+    (g, h, a)
 
 pub path_order_ranks : HasRanks Above IsRank
 path_order_ranks =

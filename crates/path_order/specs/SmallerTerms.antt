@@ -22,13 +22,15 @@ reached-items n k none g e = no-items (λ s h. none_reach h.0)
     none_reach : {s : Tree} → SomeReachesWithin k none s → ⊥
     none_reach r = elim r [ ]
 reached-items n k (some t ts) g e =
-    same-items to (λ s h. from h.0 h.1) (either-items (one-item t) (either-items e.0 (reached-items n k ts g.1 e.1)))
+    same-items to (λ s h. from h.0 h.1)
+    (either-items (one-item t) (either-items e.0 (reached-items n k ts g.1 e.1)))
   where
     to :
         (s : Tree) → (s ≡ t) ⊎ (IsSmaller n k t s ⊎ (SomeReachesWithin k ts s × IsGroundIn n s)) →
         SomeReachesWithin k (some t ts) s × IsGroundIn n s
     to s (inl e) =
-        subst (λ x. SomeReachesWithin k (some t ts) x × IsGroundIn n x) (sym e) (within_this_is, g.0)
+        subst (λ x. SomeReachesWithin k (some t ts) x
+        × IsGroundIn n x) (sym e) (within_this_is, g.0)
     to s (inr (inl h)) = (within_this_above h.0, h.1)
     to s (inr (inr h)) = (within_later h.0, h.1)
 
@@ -71,7 +73,8 @@ fallen-items n k w (some a ts) g e p =
   where
     Cases : Tree → Trees → Trees → Type 0
     Cases a ts ss =
-        FirstAndRest (IsSmaller n (suc k) a) (λ us. (count ts ≡ count us) × Each (IsSmaller n k w) us) ss
+        FirstAndRest (IsSmaller n (suc k) a) (λ us. (count ts ≡ count us)
+        × Each (IsSmaller n k w) us) ss
         ⊎ FirstAndRest (λ b. b ≡ a) (IsFallen n k w ts) ss
 
     to : (ss : Trees) → Cases a ts ss → IsFallen n k w (some a ts) ss
@@ -80,7 +83,8 @@ fallen-items n k w (some a ts) g e p =
     to (some b ss) (inl h) =
         let r = smaller-each n k w ss h.1.1 in (within_here h.1.0 h.0.0 r.0, (h.0.1, r.1))
     to (some b ss) (inr h) =
-        subst (λ x. IsFallen n k w (some a ts) (some x ss)) (sym h.0) (within_further h.1.0, (g.0, h.1.1))
+        subst (λ x. IsFallen n k w (some a ts) (some x ss)) (sym h.0)
+        (within_further h.1.0, (g.0, h.1.1))
 
     from :
         {a : Tree} {ts ss : Trees} → FallsWithin (suc k) w (some a ts) ss → AreGroundIn n ss →
@@ -132,9 +136,11 @@ at-root :
     Each (λ t. Enumerated (IsSmaller n k t)) ts → Enumerated (IsSmaller n k (app f ts))
 unfolding Cases
 at-root n zero b f ts g e =
-    same-items (λ s h. (within_argument h.0, h.1)) (λ s h. (only h.0, h.1)) (reached-items n zero ts g.2 e)
+    same-items (λ s h. (within_argument h.0, h.1))
+    (λ s h. (only h.0, h.1)) (reached-items n zero ts g.2 e)
   where
-    only : {f : ℕ} {ts : Trees} {s : Tree} → AboveWithin zero (app f ts) s → SomeReachesWithin zero ts s
+    only : {f : ℕ} {ts : Trees} {s : Tree} → AboveWithin zero (app f ts) s
+        → SomeReachesWithin zero ts s
     only (within_argument r) = r
 at-root n (suc k) b f ts g e =
     let p : Enumerated (IsSmaller n k (app f ts)) = b (app f ts) g in

@@ -159,7 +159,8 @@ fn compare_arguments<'a>(
     ss: Operands<'a>,
 ) -> Standing
     requires { let values = terms_of list.now in
-        HaveOneHead (meaning values t) (meanings values ts) (meaning values s) (meanings values ss) }
+        HaveOneHead (meaning values t) (meanings values ts) (meaning values s)
+        (meanings values ss) }
     ensures { let values = terms_of list.now in
         Stands (meaning values t.entry) (meaning values s.entry) result }
 {

@@ -55,7 +55,8 @@ abbrev pub IsCandidate : Spec → Clause → Clause → Candidate → Step → T
 IsCandidate spec start c candidate step = IsOf spec start c candidate step × IsFull start step
 
 -- what the table says that a step makes, where it is defined, where no goal is used
-abbrev pub IsMade : (Tree → Tree → Type 0) → Spec → List Clause → Clause → Step → Option Children → Type 0
+abbrev pub IsMade : (Tree → Tree → Type 0) → Spec → List Clause → Clause → Step → Option Children
+    → Type 0
 IsMade above spec nodes c step (Some made) =
     Says above c nodes (row_of spec (Contains []) nodes c step) (Ok made)
 IsMade above spec nodes c step None =
@@ -67,7 +68,8 @@ module _
   -- a possible step of the candidate, with what it makes, or that none is possible
   abbrev pub IsTaken : Candidate → Option Taken → Type 0
   IsTaken candidate (Some taken) =
-      IsOf spec start c candidate taken.step × IsMade above spec nodes c taken.step (Some taken.made)
+      IsOf spec start c candidate taken.step
+      × IsMade above spec nodes c taken.step (Some taken.made)
   IsTaken candidate None =
       (step : Step) →
       IsPossible above spec (Contains []) start nodes c (IsOf spec start c candidate) step → ⊥

@@ -52,7 +52,8 @@ module _
   -- the step is such a one, and the table says what it makes
   abbrev pub IsPossible : (Step → Type 0) → Step → Type 0
   IsPossible IsOne step =
-      IsOne step × (made : Children) × Says above c nodes (row_of spec usable nodes c step) (Ok made)
+      IsOne step × (made : Children) × Says above c nodes (row_of spec usable nodes c step)
+      (Ok made)
 
   -- the first possible step: such a one, or where none is possible one of the others
   abbrev pub first_of : (Step → Type 0) → (Step → Type 0) → Step → Type 0

@@ -49,7 +49,10 @@ pub record HasBlock (above : Tree → Tree → Type 0) (spec : Spec) (goal : Goa
   pub short :
       long ≤ 1000 → length goal.name ≤ 64 → NamesAreShort spec.sig → length spec.rules < 9999 →
       length
-      (claim_text spec.sig (record { goal = goal.name; outcome = Proved (record { steps = steps }) }))
+      (claim_text spec.sig (record {
+        goal = goal.name;
+        outcome = Proved (record { steps = steps });
+      }))
       ≤ 300000
 
 -- a goal with a plain proof that is shorter than the most nodes of a block has a block of it

@@ -120,7 +120,8 @@ fn reference(
     swapped: bool,
 ) -> Result<Option<Step>, OutOfMemory>
     requires { IsStart start.now }
-    ensures { IfOk result (IsOnly (IsFullReference start.now (wanted swapped here.now.conclusions))) }
+    ensures { IfOk result (IsOnly (IsFullReference start.now
+        (wanted swapped here.now.conclusions))) }
 {
     let Some(equation) = only(start.conclusions.as_slice()) else {
         unreachable!();

@@ -103,7 +103,8 @@ fn variable_before(variables: Variables, var: VarId, at: Cursor<'_>) -> Option<(
     requires short { IsShort var.0 }
     requires counted { CountFrom variables at.count (var.0 ∷ []) }
     ensures { MatchOption result (Ends at.entry.bytes.now → ⊥)
-        (λ p. Ends at.entry.bytes.now × (p.0 ≡ variable var.0) × (p.1.bytes.now ≡ at.entry.bytes.now)
+        (λ p. Ends at.entry.bytes.now × (p.0 ≡ variable var.0)
+        × (p.1.bytes.now ≡ at.entry.bytes.now)
         × (p.1.count ≡ count_after variables at.entry.count (var.0 ∷ []))) }
 {
     if !ends(at.bytes) {

@@ -45,7 +45,8 @@ module _ (sig : Sig) where
   room_before depth ss bound = bound - total (λ s. fewest sig depth s) ss
 
   -- the rows after this one, where a value is followed by what `later` says
-  abbrev pub rows_after_by : (SortId → ℕ → Tree → List Tree) → ℕ → List SortId → ℕ → List Tree → List (List Tree)
+  abbrev pub rows_after_by : (SortId → ℕ → Tree → List Tree) → ℕ → List SortId → ℕ → List Tree
+      → List (List Tree)
   rows_after_by later depth [] bound ts = []
   rows_after_by later depth (s ∷ ss) bound [] = []
   rows_after_by later depth (s ∷ ss) bound (t ∷ ts) =

@@ -22,7 +22,8 @@ module _ (sig : Sig) (depth : ℕ) where
   block firsts ss = map (λ rest. firsts ++ rest) (rows_of ss)
 
   -- values of the first of all sorts stand at the places, and these others are left
-  pub record IsBegun (all : List SortId) (cells : List Cell) (places : List ℕ) (others : List SortId) (firsts : List Tree) : Type 0 where
+  pub record IsBegun (all : List SortId) (cells : List Cell) (places : List ℕ)
+      (others : List SortId) (firsts : List Tree) : Type 0 where
     pub sorts : List SortId
     pub parted : sorts ++ others ≡ all
     pub listed : Contains (rows_of sorts) firsts

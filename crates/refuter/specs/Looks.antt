@@ -44,7 +44,8 @@ module _ (spec : Spec) (goal : Goal) (budget : ℕ) where
       × AreValuesOf spec (sorts_of goal.vars) row × GoalFails spec row goal
 
   -- the first of the rows were passed over and counted, and the answer is about those that are left
-  pub record LooksOver (tries : ℕ) (rows : List (List Tree)) (old new : Tally) (look : Look) : Type 0 where
+  pub record LooksOver (tries : ℕ) (rows : List (List Tree)) (old new : Tally) (look : Look) : Type
+      0 where
     pub passed : List (List Tree)
     pub left : List (List Tree)
     pub spent : ℕ

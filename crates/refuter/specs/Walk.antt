@@ -21,7 +21,8 @@ use Rattle.refuter.specs.declared.walking.Walk.{Walk}
 
 -- the goal is one of the specification's, the odometer walks its values, with room for all of them,
 -- and the sizes are those of its blocks
-pub record IsReady (spec : Spec) (goal : Goal) (depth : ℕ) (sig : Sig) (bound : ℕ) (sizes : List ℕ) : Type 0 where
+pub record IsReady (spec : Spec) (goal : Goal) (depth : ℕ) (sig : Sig) (bound : ℕ)
+    (sizes : List ℕ) : Type 0 where
   pub fine : IsWellSorted spec
   pub listed : (k : ℕ) × (slice_get spec.goals k ≡ Some goal)
   pub walks : sig ≡ spec.sig

@@ -355,7 +355,8 @@ fn make_room(
     row: &mut Vec<u32>,
 ) -> Result<(), OutOfMemory>
     requires { CanRead bank.old row.old.items }
-    ensures placed { OnOk result ((values : List Tree) → AreTerms bank.old row.old.items (trees_of values)
+    ensures placed { OnOk result ((values : List Tree)
+        → AreTerms bank.old row.old.items (trees_of values)
         → AreTerms bank.new row.new.items (trees_of values)) }
     ensures kept { OnOk result ((goal : Partial) → AreRightTables goal bank.old tables.old
         → AreRightTables goal bank.new tables.new) }

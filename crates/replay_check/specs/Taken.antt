@@ -47,12 +47,13 @@ module _ (above : Tree → Tree → Type 0) (spec : Spec) (usable : ℕ → Type
 
   -- the first k steps of a block that begins with this clause are taken, and the clauses that are
   -- needed from there on are kept
-  pub record AreTaken (start : Clause) (steps : List Step) (k : ℕ) (taken : TakenSteps) : Type 0 where
-    pub made : List Children
-    pub makes : StepsMake above spec usable (start ∷ []) 0 (take k steps) made
-    pub nodes : Agree (IsNeededFrom steps k) (clauses_of taken.nodes.items) (nodes_of start made)
-    pub links : taken.links.items ≡ map links_of made
-    pub few : AreFewNodes taken
+  pub record AreTaken (start : Clause) (steps : List Step) (k : ℕ) (taken : TakenSteps) : Type 0
+    where
+      pub made : List Children
+      pub makes : StepsMake above spec usable (start ∷ []) 0 (take k steps) made
+      pub nodes : Agree (IsNeededFrom steps k) (clauses_of taken.nodes.items) (nodes_of start made)
+      pub links : taken.links.items ≡ map links_of made
+      pub few : AreFewNodes taken
 
   -- all steps are taken, or one is refused, on its line, behind the first one of the claim
   abbrev pub FindsSteps : Clause → List Step → ℕ → Result TakenSteps Stop → Type 0

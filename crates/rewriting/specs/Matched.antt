@@ -32,4 +32,5 @@ FitsNext old new pattern term r =
 abbrev pub FitNext : List (Bor Tree) → List (Bor Tree) → List Tree → List Tree → Bool → Type 0
 FitNext old new patterns terms r =
     BindsAll (entries_of old) patterns terms (entries_of new) r
-    × ((count : ℕ) → NumberedAll (length old) (trees_of patterns) count → IsTrue r → length new ≡ count)
+    × ((count : ℕ) → NumberedAll (length old) (trees_of patterns) count → IsTrue r
+    → length new ≡ count)

@@ -48,7 +48,8 @@ abbrev pub AreOf : List (Option Tree) → List Slot → Type 0
 AreOf s slots = (n : ℕ) (t : Tree) → (slot slots n).term ≡ Some t → image s n ≡ t
 
 -- the slots after the terms of these variables were put there
-pub record Filled (s : List (Option Tree)) (old new : List Slot) (occurs : ℕ → Type 0) : Type 0 where
+pub record Filled (s : List (Option Tree)) (old new : List Slot) (occurs : ℕ
+    → Type 0) : Type 0 where
   pub size : length new ≡ length old
   pub are_of : AreOf s old → AreOf s new
   pub keeps : (n : ℕ) → IsSome (slot old n).term → IsSome (slot new n).term

@@ -25,7 +25,8 @@ AreInstances spec patterns ts =
     (entries : List (Option Tree)) × IsFine spec entries × (map (apply entries) patterns ≡ ts)
 
 -- the term has this normal form, and its uses are added at places below this one, within the budget
-pub record Normalized (spec : Spec) (place : List ℕ) (budget : ℕ) (t : Tree) (old new : List (List ℕ × ℕ)) (v : Tree) : Type 0 where
+pub record Normalized (spec : Spec) (place : List ℕ) (budget : ℕ) (t : Tree)
+    (old new : List (List ℕ × ℕ)) (v : Tree) : Type 0 where
   pub uses : List (List ℕ × ℕ)
   pub runs : Runs spec t uses v
   pub normal : IsNormal spec v
@@ -40,6 +41,7 @@ pub record Exceeds (spec : Spec) (budget : ℕ) (t : Tree) (old : List (List ℕ
   pub runs : Runs spec t uses last
   pub many : length old + length uses ≡ suc budget
 
-abbrev pub IsWalk : Spec → List ℕ → ℕ → Tree → List (List ℕ × ℕ) → List (List ℕ × ℕ) → Option Tree → Type 0
+abbrev pub IsWalk : Spec → List ℕ → ℕ → Tree → List (List ℕ × ℕ) → List (List ℕ × ℕ) → Option Tree
+    → Type 0
 IsWalk spec place budget t old new (Some v) = Normalized spec place budget t old new v
 IsWalk spec place budget t old new None = Exceeds spec budget t old

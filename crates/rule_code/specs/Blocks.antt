@@ -17,14 +17,18 @@ block steps end = doing steps ++ ends end ∷ []
 
 -- a block of which this holds is added
 abbrev pub AddsBlock : List Instruction → List Instruction → (List Step → End → Type 0) → Type 0
-AddsBlock old new P = (steps : List Step) × (end : End) × (new ≡ old ++ block steps end) × P steps end
+AddsBlock old new P =
+    (steps : List Step) × (end : End) × (new ≡ old ++ block steps end) × P steps end
 
 -- the code of a test that the rule of this number asks behind k others
 abbrev pub IsTestOf : Sig → LeftSide → Tree → ℕ → ℕ → List Step → End → Type 0
-IsTestOf sig left test number k steps end = (s : ℕ) × (taken : ℕ) × Codes sig left.homes.items test left.width steps s taken × (end ≡ decide s number k left.homes.items)
+IsTestOf sig left test number k steps end = (s : ℕ) × (taken : ℕ)
+    × Codes sig left.homes.items test left.width steps s taken
+    × (end ≡ decide s number k left.homes.items)
 
 -- the code that follows where the first k guards hold begins at the k-th of these places
-pub record HasBlock (sig : Sig) (code : List Instruction) (number : ℕ) (rule : Rule) (left : LeftSide) (begins : List ℕ) (k : ℕ) : Type 0 where
+pub record HasBlock (sig : Sig) (code : List Instruction) (number : ℕ) (rule : Rule)
+    (left : LeftSide) (begins : List ℕ) (k : ℕ) : Type 0 where
   pub place : ℕ
   pub steps : List Step
   pub end : End
@@ -34,4 +38,5 @@ pub record HasBlock (sig : Sig) (code : List Instruction) (number : ℕ) (rule :
 
 -- it does so for any number of guards that the rule has
 abbrev pub HaveBlocks : Sig → List Instruction → ℕ → Rule → LeftSide → List ℕ → Type 0
-HaveBlocks sig code number rule left begins = (k : ℕ) → k ≤ length rule.guards → HasBlock sig code number rule left begins k
+HaveBlocks sig code number rule left begins =
+    (k : ℕ) → k ≤ length rule.guards → HasBlock sig code number rule left begins k

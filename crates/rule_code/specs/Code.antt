@@ -31,10 +31,12 @@ module _ (spec : Spec) where
   abbrev pub Ends : List Tree → End → Tree → ℕ → Type 0
   Ends env (slot s) w n = (w ≡ instance env (var s)) × (n ≡ 0)
   Ends env (last f ss) w n = Gives spec (app f (slots env ss)) w n
-  Ends env (decide s number k homes) w n = (rule : Rule) × (slice_get spec.rules number ≡ Some rule) × IsDecided spec (entries env homes) rule k (instance env (var s)) w n
+  Ends env (decide s number k homes) w n = (rule : Rule) × (slice_get spec.rules number ≡ Some rule)
+      × IsDecided spec (entries env homes) rule k (instance env (var s)) w n
 
   -- from these slots on the code gives the value at the cost: each call gives by the definition of evaluation
   abbrev pub Does : List Tree → List Step → End → Tree → ℕ → Type 0
   Does env [] end w n = Ends env end w n
   Does env (build f ss ∷ steps) end w n = Does (env ++ app f (slots env ss) ∷ []) steps end w n
-  Does env (call f ss ∷ steps) end w n = (v : Tree) × (m : ℕ) × (k : ℕ) × Gives spec (app f (slots env ss)) v m × Does (env ++ v ∷ []) steps end w k × (n ≡ m + k)
+  Does env (call f ss ∷ steps) end w n = (v : Tree) × (m : ℕ) × (k : ℕ)
+      × Gives spec (app f (slots env ss)) v m × Does (env ++ v ∷ []) steps end w k × (n ≡ m + k)

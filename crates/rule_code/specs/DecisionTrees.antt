@@ -28,7 +28,8 @@ module _ (rules : List Rule) where
       → Lists others k
 
   -- a later node keeps those of the rules that can match
-  pub record Leads (nodes : List TreeNode) (i : ℕ) (numbers : List ℕ) (path : Path) (d next : ℕ) : Type 0 where
+  pub record Leads (nodes : List TreeNode) (i : ℕ) (numbers : List ℕ) (path : Path) (d next : ℕ) :
+      Type 0 where
     pub later : i < next
     pub node : TreeNode
     pub there : slice_get nodes next ≡ Some node
@@ -37,12 +38,14 @@ module _ (rules : List Rule) where
   -- for each symbol a later node follows
   abbrev pub IsSplit : List TreeNode → ℕ → List ℕ → Option Split → Type 0
   IsSplit nodes i numbers None = Unit {0}
-  IsSplit nodes i numbers (Some split) = (d : ℕ) → Leads nodes i numbers split.path d (next_of split d)
+  IsSplit nodes i numbers (Some split) =
+      (d : ℕ) → Leads nodes i numbers split.path d (next_of split d)
 
   -- the node has some of the rules with these numbers
-  pub record IsNode (numbers : List ℕ) (nodes : List TreeNode) (i : ℕ) (node : TreeNode) : Type 0 where
-    pub some : (k : ℕ) → Lists node.rules.items k → Lists numbers k
-    pub split : IsSplit nodes i node.rules.items node.split
+  pub record IsNode (numbers : List ℕ) (nodes : List TreeNode) (i : ℕ) (node : TreeNode) : Type 0
+    where
+      pub some : (k : ℕ) → Lists node.rules.items k → Lists numbers k
+      pub split : IsSplit nodes i node.rules.items node.split
 
   abbrev pub AreNodes : List ℕ → List TreeNode → Type 0
   AreNodes numbers nodes =

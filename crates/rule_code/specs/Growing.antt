@@ -30,10 +30,11 @@ AreLeaves numbers nodes =
 
 module _ (rules : List Rule) where
   -- those of the numbers whose rules have nothing at the place, or what is wanted
-  pub record AreThose (numbers : List ℕ) (path : Path) (wanted : Wanted) (those : List ℕ) : Type 0 where
-    pub some : AreAmong numbers those
-    pub all : (k : ℕ) (rule : Rule) → Lists numbers k → slice_get rules k ≡ Some rule
-        → CanBeWanted wanted (symbol_in path rule) → Lists those k
+  pub record AreThose (numbers : List ℕ) (path : Path) (wanted : Wanted) (those : List ℕ) : Type 0
+    where
+      pub some : AreAmong numbers those
+      pub all : (k : ℕ) (rule : Rule) → Lists numbers k → slice_get rules k ≡ Some rule
+          → CanBeWanted wanted (symbol_in path rule) → Lists those k
 
   -- no rule has the symbol at the place
   abbrev pub NoneHas : List ℕ → Path → ℕ → Type 0
@@ -42,7 +43,8 @@ module _ (rules : List Rule) where
       → symbol_in path rule ≡ Some d → ⊥
 
   -- the node of this number, where the first of these nodes has the number `first`, keeps the rules that can match
-  pub record LeadsInto (first : ℕ) (nodes : List TreeNode) (numbers : List ℕ) (path : Path) (d next : ℕ) : Type 0 where
+  pub record LeadsInto (first : ℕ) (nodes : List TreeNode) (numbers : List ℕ) (path : Path)
+      (d next : ℕ) : Type 0 where
     pub place : ℕ
     pub is : next ≡ first + place
     pub node : TreeNode
@@ -50,7 +52,8 @@ module _ (rules : List Rule) where
     pub keeps : KeepsThose rules numbers path d node.rules.items
 
   -- the nodes that follow a split of these numbers
-  pub record AreParts (first : ℕ) (numbers : List ℕ) (split : Split) (nodes : List TreeNode) : Type 0 where
+  pub record AreParts (first : ℕ) (numbers : List ℕ) (split : Split) (nodes : List TreeNode) : Type
+      0 where
     pub leaves : AreLeaves numbers nodes
     pub leads : (d : ℕ) → LeadsInto first nodes numbers split.path d (next_of split d)
 
@@ -58,7 +61,8 @@ module _ (rules : List Rule) where
 pub record IsPut (old new : List TreeNode) (at : ℕ) (split : Split) : Type 0 where
   pub count : length new ≡ length old
   pub here : (node : TreeNode) → slice_get old at ≡ Some node
-      → (put : TreeNode) × (slice_get new at ≡ Some put) × (put.rules ≡ node.rules) × (put.split ≡ Some split)
+      → (put : TreeNode) × (slice_get new at ≡ Some put) × (put.rules ≡ node.rules)
+      × (put.split ≡ Some split)
   pub others : (i : ℕ) → i ≢ at → slice_get new i ≡ slice_get old i
 
 -- the nodes keep their rules, and there are at most so many further ones

@@ -21,8 +21,10 @@ pub record AreHomes (all : List Tree) (count : ℕ) (homes : List ℕ) : Type 0 
 
 -- each slot of a variable that isn't its first one, with that one
 pub record AreRepeats (all : List Tree) (homes : List ℕ) (repeats : List Repeat) : Type 0 where
-  pub each : (s n h : ℕ) → slice_get all s ≡ Some (var n) → slice_get homes n ≡ Some h → (h ≡ s) ⊎ ((k : ℕ) × (slice_get repeats k ≡ Some (repeat h s)))
-  pub right : (k : ℕ) (r : Repeat) → slice_get repeats k ≡ Some r → (n : ℕ) × (slice_get all r.first ≡ Some (var n)) × (slice_get all r.again ≡ Some (var n))
+  pub each : (s n h : ℕ) → slice_get all s ≡ Some (var n) → slice_get homes n ≡ Some h → (h ≡ s)
+      ⊎ ((k : ℕ) × (slice_get repeats k ≡ Some (repeat h s)))
+  pub right : (k : ℕ) (r : Repeat) → slice_get repeats k ≡ Some r → (n : ℕ)
+      × (slice_get all r.first ≡ Some (var n)) × (slice_get all r.again ≡ Some (var n))
 
 -- the tests of a left side, whose variables have these slots
 pub record IsLeftSide (rule : Rule) (left : LeftSide) : Type 0 where

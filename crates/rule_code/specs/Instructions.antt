@@ -31,4 +31,5 @@ doing steps = map (λ (s : Step). does s) steps
 -- from this place on the code has these steps, and then this end
 abbrev pub IsCodeAt : List Instruction → ℕ → List Step → End → Type 0
 IsCodeAt code k [] end = slice_get code k ≡ Some (ends end)
-IsCodeAt code k (s ∷ steps) end = (slice_get code k ≡ Some (does s)) × IsCodeAt code (suc k) steps end
+IsCodeAt code k (s ∷ steps) end =
+    (slice_get code k ≡ Some (does s)) × IsCodeAt code (suc k) steps end

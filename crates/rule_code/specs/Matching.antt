@@ -19,15 +19,20 @@ Unpacks env (t ∷ ts) grown = (us : List Tree) × Passes env t us × Unpacks (e
 -- some test doesn't pass
 abbrev pub Fails : List Tree → List Test → Type 0
 Fails env [] = ⊥
-Fails env (t ∷ ts) = ((us : List Tree) → Passes env t us → ⊥) ⊎ ((us : List Tree) × Passes env t us × Fails (env ++ us) ts)
+Fails env (t ∷ ts) = ((us : List Tree) → Passes env t us → ⊥)
+    ⊎ ((us : List Tree) × Passes env t us × Fails (env ++ us) ts)
 
 -- the patterns of the slots, which are opened from number k on, in their order: a variable needs no test; a symbol is
 -- tested, and the patterns of its arguments are those of the next slots
 pub data Opens : List Tree → ℕ → List Test → List Tree → Type 0 where
   opened : {pats : List Tree} {k : ℕ} → length pats ≤ k → Opens pats k [] pats
-  passed : {pats all : List Tree} {k : ℕ} {tests : List Test} (n : ℕ) → slice_get pats k ≡ Some (var n) → Opens pats (suc k) tests all → Opens pats k tests all
-  opens : {pats all : List Tree} {k : ℕ} {tests : List Test} (f : ℕ) (us : List Tree) → slice_get pats k ≡ Some (app f (trees_of us)) → Opens (pats ++ us) (suc k) tests all → Opens pats k (test k f (length us) ∷ tests) all
+  passed : {pats all : List Tree} {k : ℕ} {tests : List Test} (n : ℕ)
+      → slice_get pats k ≡ Some (var n) → Opens pats (suc k) tests all → Opens pats k tests all
+  opens : {pats all : List Tree} {k : ℕ} {tests : List Test} (f : ℕ) (us : List Tree)
+      → slice_get pats k ≡ Some (app f (trees_of us)) → Opens (pats ++ us) (suc k) tests all
+      → Opens pats k (test k f (length us) ∷ tests) all
 
 -- each variable has a slot that is listed for it, which has the value of all its slots
 abbrev pub HaveHomes : List Tree → List ℕ → List Tree → Type 0
-HaveHomes all homes grown = (s n : ℕ) → slice_get all s ≡ Some (var n) → (h : ℕ) × (slice_get homes n ≡ Some h) × (instance grown (var h) ≡ instance grown (var s))
+HaveHomes all homes grown = (s n : ℕ) → slice_get all s ≡ Some (var n) → (h : ℕ)
+    × (slice_get homes n ≡ Some h) × (instance grown (var h) ≡ instance grown (var s))

@@ -20,12 +20,15 @@ abbrev pub program : Spec → List Instruction → Program
 program spec code = record { spec = spec; code = code }
 
 -- the code of the first n rules
-pub record AreRuleCodes (spec : Spec) (code : List Instruction) (n : ℕ) (made : List RuleCode) : Type 0 where
+pub record AreRuleCodes (spec : Spec) (code : List Instruction) (n : ℕ) (made : List RuleCode) :
+    Type 0 where
   pub count : length made ≡ n
-  pub each : (k : ℕ) (rule : Rule) (one : RuleCode) → slice_get spec.rules k ≡ Some rule → slice_get made k ≡ Some one → IsRuleCode spec code k rule one
+  pub each : (k : ℕ) (rule : Rule) (one : RuleCode) → slice_get spec.rules k ≡ Some rule
+      → slice_get made k ≡ Some one → IsRuleCode spec code k rule one
 
 -- the code of each rule, and a decision tree of each function's rules
-pub record IsProgram (spec : Spec) (code : List Instruction) (rules : List RuleCode) (trees : List DecisionTree) : Type 0 where
+pub record IsProgram (spec : Spec) (code : List Instruction) (rules : List RuleCode)
+    (trees : List DecisionTree) : Type 0 where
   pub compiled : AreRuleCodes spec code (length spec.rules) rules
   pub indexed : AreTrees spec trees
 
@@ -36,4 +39,5 @@ first_numbers (suc n) = first_numbers n ++ n ∷ []
 
 -- at this place begins the code of the term, whose variables, so many, stand in the first slots
 abbrev pub IsSide : Program → ℕ → ℕ → Tree → Type 0
-IsSide p place count term = (steps : List Step) × (end : End) × IsCodeAt p.code place steps end × IsBody p.spec.sig (first_numbers count) term count steps end
+IsSide p place count term = (steps : List Step) × (end : End) × IsCodeAt p.code place steps end
+    × IsBody p.spec.sig (first_numbers count) term count steps end

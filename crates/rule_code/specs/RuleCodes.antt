@@ -9,7 +9,8 @@ use Rattle.rule_code.specs.Blocks.{HaveBlocks}
 use Rattle.rule_code.specs.Branches.{AreBranches}
 
 -- its left side as tests, its guards and its right side as blocks, and for each guard the rules that go on
-pub record IsRuleCode (spec : Spec) (code : List Instruction) (number : ℕ) (rule : Rule) (made : RuleCode) : Type 0 where
+pub record IsRuleCode (spec : Spec) (code : List Instruction) (number : ℕ) (rule : Rule)
+    (made : RuleCode) : Type 0 where
   pub left : IsLeftSide rule made.left
   pub blocks : HaveBlocks spec.sig code number rule made.left made.begins.items
   pub branches : AreBranches spec.rules rule made.branches.items

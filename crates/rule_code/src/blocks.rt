@@ -27,7 +27,8 @@ pub(crate) fn emit_blocks(
 ) -> Result<Vec<usize>, OutOfMemory>
     requires sorted { RuleIsSorted sig.now rule.now }
     requires left { IsLeftSide rule.now left.now }
-    ensures blocks { IfOk result (λ begins. HaveBlocks sig.now code.new number rule.now left.now begins.items) }
+    ensures blocks { IfOk result (λ begins. HaveBlocks sig.now code.new number rule.now left.now
+        begins.items) }
     ensures adds { IfOk result (λ _. AddsCode code.old code.new) }
     ensures few { IfOk result (λ _. length code.new ≤ length code.old + rule_length rule.now) }
 {
@@ -54,7 +55,8 @@ fn emit_test(
 ) -> Result<(), OutOfMemory>
     requires symbols { SymbolsAreInRange sig.now test.now }
     requires variables { (n : ℕ) → Occurs n test.now → n < length left.now.homes.items }
-    ensures { IfOk result (λ _. AddsBlock code.old code.new (IsTestOf sig.now left.now test.now rule asked)) }
+    ensures { IfOk result (λ _. AddsBlock code.old code.new
+        (IsTestOf sig.now left.now test.now rule asked)) }
 {
     let (slot, _) = emit(alloc, sig, &left.homes, test, left.width, code)?;
     let kind = Kind::Decide { slot, rule, asked };
@@ -72,7 +74,8 @@ pub fn emit_body(
 ) -> Result<(), OutOfMemory>
     requires symbols { SymbolsAreInRange sig.now term.now }
     requires variables { (n : ℕ) → Occurs n term.now → n < length homes.now }
-    ensures { IfOk result (λ _. AddsBlock code.old code.new (IsBody sig.now homes.now term.now next)) }
+    ensures { IfOk result (λ _. AddsBlock code.old code.new
+        (IsBody sig.now homes.now term.now next)) }
 {
     match &term.node {
         Node::App(sym, args) if !sig.is_constructor(*sym) => {

@@ -54,7 +54,8 @@ impl DecisionTree {
     pub fn rules_for(&self, bank: &Bank, args: &[u32]) -> &[usize]
         requires tree { (rules : List Rule) × (numbers : List ℕ) × IsTree rules numbers self.now }
         requires call { (terms : List Tree) × AreTerms bank.now args.now (trees_of terms) }
-        ensures { (rules : List Rule) (numbers : List ℕ) (terms : List Tree) → IsTree rules numbers self.now
+        ensures { (rules : List Rule) (numbers : List ℕ) (terms : List Tree)
+            → IsTree rules numbers self.now
             → AreTerms bank.now args.now (trees_of terms) → AreLeft rules numbers terms result.now }
     {
         let mut at = 0;

@@ -23,7 +23,8 @@ pub(crate) fn emit(
 ) -> Result<(usize, usize), OutOfMemory>
     requires symbols { SymbolsAreInRange sig.now term.now }
     requires variables { (n : ℕ) → Occurs n term.now → n < length homes.now }
-    ensures { IfOk result (λ r. IsEmitted sig.now homes.now term.now next code.old code.new r.0 r.1) }
+    ensures { IfOk result (λ r. IsEmitted sig.now homes.now term.now next code.old code.new r.0
+        r.1) }
 {
     match &term.node {
         Node::Var(var) => Ok((homes[var.0 as usize], next)),
@@ -57,7 +58,8 @@ pub(crate) fn emit_all(
 ) -> Result<usize, OutOfMemory>
     requires symbols { AllSymbolsAreInRange sig.now (trees_of terms.now) }
     requires variables { (n : ℕ) → OccursAny n (trees_of terms.now) → n < length homes.now }
-    ensures { IfOk result (λ end. AreEmitted sig.now homes.now (trees_of terms.now) next code.old code.new slots.old.items slots.new.items end) }
+    ensures { IfOk result (λ end. AreEmitted sig.now homes.now (trees_of terms.now) next code.old
+        code.new slots.old.items slots.new.items end) }
 {
     match front(terms) {
         None => Ok(next),

@@ -20,8 +20,10 @@ impl Branch {
     /// The rule that goes on where the answer has this symbol and so many arguments.
     #[inline(always)]
     pub fn answered(&self, sym: u32, count: usize) -> Option<usize>
-        ensures { (rules : List SpecRule) (rule : SpecRule) (k : ℕ) (args : List Tree) → IsBranch rules rule k self.now
-            → count ≡ length args → IsFollowerOn rules rule k (application sym (trees_of args)) result }
+        ensures { (rules : List SpecRule) (rule : SpecRule) (k : ℕ) (args : List Tree)
+            → IsBranch rules rule k self.now
+            → count ≡ length args → IsFollowerOn rules rule k (application sym (trees_of args))
+            result }
     {
         if count != 0 {
             None

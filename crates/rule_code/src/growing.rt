@@ -62,7 +62,8 @@ fn grow(
     requires { at < length nodes.old.items }
     ensures within { IfOk result (λ taken. taken ≤ room) }
     ensures grow { IfOk result (Grow nodes.old.items nodes.new.items) }
-    ensures nodes { IfOk result (λ _. (numbers : List ℕ) → AreNodes rules.now numbers nodes.old.items
+    ensures nodes { IfOk result (λ _. (numbers : List ℕ)
+        → AreNodes rules.now numbers nodes.old.items
         → AreNodes rules.now numbers nodes.new.items) }
 {
     let numbers = nodes[at].rules.as_slice();

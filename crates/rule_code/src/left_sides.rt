@@ -84,7 +84,8 @@ fn find_repeats(
     homes: &[usize],
 ) -> Result<Vec<Repeat>, OutOfMemory>
     requires homes { AreHomes patterns.now (length homes.now) homes.now }
-    requires variables { (s n : ℕ) → slice_get patterns.now s ≡ Some (variable n) → n < length homes.now }
+    requires variables { (s n : ℕ) → slice_get patterns.now s ≡ Some (variable n)
+        → n < length homes.now }
     ensures { IfOk result (λ repeats. AreRepeats patterns.now homes.now repeats.items) }
 {
     let mut repeats = Vec::new(alloc);

@@ -22,8 +22,10 @@ impl LeftSide {
         base: usize,
         places: &mut Vec<u32>,
     ) -> Result<bool, OutOfMemory>
-        requires { (rule : Rule) × (side : IsLeftSide rule self.now) × (env : List Tree) × (base ≤ length places.old.items)
-            × AreTerms bank.now (drop base places.old.items) (trees_of env) × (length env ≡ length side.patterns) }
+        requires { (rule : Rule) × (side : IsLeftSide rule self.now) × (env : List Tree)
+            × (base ≤ length places.old.items)
+            × AreTerms bank.now (drop base places.old.items) (trees_of env)
+            × (length env ≡ length side.patterns) }
         ensures { IfOk result (Tells bank.now self.now base places.old.items places.new.items) }
     {
         let top = places.len();
@@ -36,8 +38,10 @@ impl LeftSide {
 
     /// The same, where the places of slots may stay in each case.
     fn fits(&self, bank: &Bank, base: usize, places: &mut Vec<u32>) -> Result<bool, OutOfMemory>
-        requires { (rule : Rule) × (side : IsLeftSide rule self.now) × (env : List Tree) × (base ≤ length places.old.items)
-            × AreTerms bank.now (drop base places.old.items) (trees_of env) × (length env ≡ length side.patterns) }
+        requires { (rule : Rule) × (side : IsLeftSide rule self.now) × (env : List Tree)
+            × (base ≤ length places.old.items)
+            × AreTerms bank.now (drop base places.old.items) (trees_of env)
+            × (length env ≡ length side.patterns) }
         ensures { IfOk result (Fits bank.now self.now base places.old.items places.new.items) }
     {
         if !pass(bank, &self.tests, base, places)? {
@@ -54,8 +58,10 @@ fn pass(
     base: usize,
     places: &mut Vec<u32>,
 ) -> Result<bool, OutOfMemory>
-    requires { (env : List Tree) × (patterns : List Tree) × (all : List Tree) × Opens patterns 0 tests.now all × (base ≤ length places.old.items)
-        × AreTerms bank.now (drop base places.old.items) (trees_of env) × (length env ≡ length patterns) }
+    requires { (env : List Tree) × (patterns : List Tree) × (all : List Tree)
+        × Opens patterns 0 tests.now all × (base ≤ length places.old.items)
+        × AreTerms bank.now (drop base places.old.items) (trees_of env)
+        × (length env ≡ length patterns) }
     ensures { IfOk result (ArePassed bank.now base tests.now places.old.items places.new.items) }
 {
     for test in tests {
@@ -72,7 +78,8 @@ fn pass(
 /// Whether the slots of each repeat have one value.
 fn are_same(bank: &Bank, repeats: &[Repeat], base: usize, places: &[u32]) -> bool
     requires { (grown : List Tree) × AreTerms bank.now (drop base places.now) (trees_of grown)
-        × ((k : ℕ) (r : SpecRepeat) → slice_get repeats.now k ≡ Some r → (r.first < length grown) × (r.again < length grown)) }
+        × ((k : ℕ) (r : SpecRepeat) → slice_get repeats.now k ≡ Some r → (r.first < length grown)
+        × (r.again < length grown)) }
     ensures { (grown : List Tree) → AreTerms bank.now (drop base places.now) (trees_of grown)
         → IsTrue result ↔ AreSame grown repeats.now }
 {

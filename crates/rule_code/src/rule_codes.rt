@@ -34,7 +34,8 @@ impl RuleCode {
     ) -> Result<RuleCode, OutOfMemory>
         requires fine { IsWellSorted spec.now }
         requires listed { number < length spec.now.rules }
-        ensures code { IfOk result (λ made. (rule : Rule) → slice_get spec.now.rules number ≡ Some rule
+        ensures code { IfOk result (λ made. (rule : Rule)
+            → slice_get spec.now.rules number ≡ Some rule
             → IsRuleCode spec.now code.new number rule made) }
         ensures adds { IfOk result (λ _. AddsCode code.old code.new) }
         ensures few { IfOk result (λ _. (rule : Rule) → slice_get spec.now.rules number ≡ Some rule
@@ -60,8 +61,10 @@ pub fn compile_rules(
     code: &mut Code,
 ) -> Result<Vec<RuleCode>, OutOfMemory>
     requires { IsWellSorted spec.now }
-    ensures codes { IfOk result (λ made. AreRuleCodes spec.now code.new (length spec.now.rules) made.items) }
-    ensures few { IfOk result (λ _. length code.new ≤ length code.old + rules_length spec.now.rules) }
+    ensures codes { IfOk result (λ made. AreRuleCodes spec.now code.new (length spec.now.rules)
+        made.items) }
+    ensures few { IfOk result (λ _. length code.new
+        ≤ length code.old + rules_length spec.now.rules) }
 {
     let count = spec.rules.len();
     let mut made = Vec::with_capacity(alloc, count)?;

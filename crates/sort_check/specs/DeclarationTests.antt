@@ -20,7 +20,8 @@ use Rattle.sort_check.specs.declared.faults.SortKind.TheVariants.{UnknownName, R
 -- names of sorts, none of which is taken
 abbrev pub sorts_tests : List (List ℕ) → List RawSort → Search SortFault
 sorts_tests taken [] = nothing
-sorts_tests taken (s ∷ ss) = then (test (Sort s.head.at RepeatedName) (¬ (IsNewName s.head.name taken))) (sorts_tests (taken ++ s.head.name ∷ []) ss)
+sorts_tests taken (s ∷ ss) = then (test (Sort s.head.at RepeatedName)
+    (¬ (IsNewName s.head.name taken))) (sorts_tests (taken ++ s.head.name ∷ []) ss)
 
 module _ (sorts : List (List ℕ)) where
   -- a sort that is named has to be declared
@@ -29,25 +30,31 @@ module _ (sorts : List (List ℕ)) where
 
   -- a symbol: its name, and then the sorts of its arguments
   abbrev pub symbol_tests : List (List ℕ) → RawNames → Search SortFault
-  symbol_tests taken c = then (test (Sort c.at RepeatedName) (¬ (IsNewName c.name taken))) (each sort_test c.args)
+  symbol_tests taken c = then (test (Sort c.at RepeatedName) (¬ (IsNewName c.name taken)))
+      (each sort_test c.args)
 
   abbrev pub constructors_tests : List (List ℕ) → List RawNames → Search SortFault
   constructors_tests taken [] = nothing
-  constructors_tests taken (c ∷ cs) = then (symbol_tests taken c) (constructors_tests (taken ++ c.name ∷ []) cs)
+  constructors_tests taken (c ∷ cs) =
+      then (symbol_tests taken c) (constructors_tests (taken ++ c.name ∷ []) cs)
 
   -- the constructors of all sorts
   abbrev pub all_constructors_tests : List (List ℕ) → List RawSort → Search SortFault
   all_constructors_tests taken [] = nothing
-  all_constructors_tests taken (s ∷ ss) = then (constructors_tests taken s.constructors) (all_constructors_tests (taken ++ map (λ (c : RawNames). c.name) s.constructors) ss)
+  all_constructors_tests taken (s ∷ ss) =
+      then (constructors_tests taken s.constructors)
+      (all_constructors_tests (taken ++ map (λ (c : RawNames). c.name) s.constructors) ss)
 
   abbrev pub functions_tests : List (List ℕ) → List RawFun → Search SortFault
   functions_tests taken [] = nothing
-  functions_tests taken (f ∷ fs) = then (then (symbol_tests taken f.head) (sort_test f.result)) (functions_tests (taken ++ f.head.name ∷ []) fs)
+  functions_tests taken (f ∷ fs) = then (then (symbol_tests taken f.head) (sort_test f.result))
+      (functions_tests (taken ++ f.head.name ∷ []) fs)
 
 -- each sort, of which the first has this number, has a value of at most 255 symbols
 abbrev pub small_tests : Sig → ℕ → List RawSort → Search SortFault
 small_tests sig n [] = nothing
-small_tests sig n (s ∷ ss) = then (test (Sort s.head.at NoSmallValue) (¬ (HasSmallValue sig (sort_of_number n)))) (small_tests sig (suc n) ss)
+small_tests sig n (s ∷ ss) = then (test (Sort s.head.at NoSmallValue)
+    (¬ (HasSmallValue sig (sort_of_number n)))) (small_tests sig (suc n) ss)
 
 -- The signature that declarations give. Where a sort isn't declared its number is that of `Bool`, which matters nowhere,
 -- since the test of its name finds it.
@@ -64,7 +71,8 @@ module _ (sorts : List (List ℕ)) where
   constructors_of n (s ∷ ss) = map (constructor_of n) s.constructors ++ constructors_of (suc n) ss
 
   abbrev pub function_of : RawFun → List ℕ × SymInfo
-  function_of f = (f.head.name, record { args = map sort_number f.head.args; result = sort_number f.result })
+  function_of f =
+      (f.head.name, record { args = map sort_number f.head.args; result = sort_number f.result })
 
 -- the names of all sorts
 abbrev pub all_sorts : RawSpec → List (List ℕ)
@@ -78,7 +86,8 @@ abbrev pub values_sig : RawSpec → Sig
 values_sig raw = declared_by (sort_names raw.sorts) (all_constructors raw) []
 
 abbrev pub sig_of : RawSpec → Sig
-sig_of raw = declared_by (sort_names raw.sorts) (all_constructors raw) (map (function_of (all_sorts raw)) raw.funs)
+sig_of raw = declared_by (sort_names raw.sorts) (all_constructors raw)
+    (map (function_of (all_sorts raw)) raw.funs)
 
 abbrev pub boolean_names : List (List ℕ)
 boolean_names = codes "true" ∷ codes "false" ∷ []
@@ -89,4 +98,7 @@ constructor_names raw = boolean_names ++ map (λ (e : List ℕ × SymInfo). e.0)
 
 -- the declarations: names of sorts, constructors, small values, functions
 abbrev pub declarations_tests : RawSpec → Search SortFault
-declarations_tests raw = then (sorts_tests (codes "Bool" ∷ []) raw.sorts) (then (all_constructors_tests (all_sorts raw) boolean_names raw.sorts) (then (small_tests (values_sig raw) 1 raw.sorts) (functions_tests (all_sorts raw) (constructor_names raw) raw.funs)))
+declarations_tests raw = then (sorts_tests (codes "Bool" ∷ []) raw.sorts)
+    (then (all_constructors_tests (all_sorts raw) boolean_names raw.sorts)
+    (then (small_tests (values_sig raw) 1 raw.sorts)
+    (functions_tests (all_sorts raw) (constructor_names raw) raw.funs)))

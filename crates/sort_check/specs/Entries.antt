@@ -36,7 +36,8 @@ entry_at es n = slice_index_or es n (record { name = []; at = 0; sort = None })
 abbrev pub given : List Entry → ℕ → Option SortId → Option SortId → List Entry
 given es n place (Some s) = es
 given es n None None = es
-given es n (Some s) None = slice_set es n (record { name = (entry_at es n).name; at = (entry_at es n).at; sort = Some s })
+given es n (Some s) None =
+    slice_set es n (record { name = (entry_at es n).name; at = (entry_at es n).at; sort = Some s })
 
 -- the variables after a word that is one: a new one goes last, with the sort of its place
 abbrev pub with_variable : List Entry → List ℕ → ℕ → Option SortId → Option ℕ → List Entry

@@ -48,7 +48,11 @@ plus_of s t = word (codes "plus") 0 (some s (some t none))
 
 -- sort Nat = zero | succ(Nat)
 abbrev nat_sort : RawSort
-nat_sort = record { head = nat; constructors = raw_symbol (codes "zero") [] ∷ raw_symbol (codes "succ") (nat ∷ []) ∷ [] }
+nat_sort = record {
+  head = nat;
+  constructors =
+      raw_symbol (codes "zero") [] ∷ raw_symbol (codes "succ") (nat ∷ []) ∷ [];
+}
 
 -- fun plus(Nat, Nat) : Nat
 abbrev plus_function : RawFun
@@ -60,7 +64,11 @@ plus_zero_gives t = record { left = plus_of zero_word (y_at 0); right = t; guard
 
 -- rule plus(succ(x), y) = succ(plus(x, y))
 abbrev pub plus_succ : RawRule
-plus_succ = record { left = plus_of (succ_of (x_at 0)) (y_at 0); right = succ_of (plus_of (x_at 0) (y_at 0)); guards = [] }
+plus_succ = record {
+  left = plus_of (succ_of (x_at 0)) (y_at 0);
+  right = succ_of (plus_of (x_at 0) (y_at 0));
+  guards = [];
+}
 
 -- plus(x, y) = plus(x, x)
 abbrev pub same_sums : RawEq
@@ -72,15 +80,19 @@ zero_adds_nothing = record { left = plus_of (x_at 0) zero_word; right = x_at 0 }
 
 -- a goal of this name with these bindings and this conclusion
 abbrev pub concludes : List ℕ → List RawBind → RawEq → RawGoal
-concludes name bs e = record { head = name_at name 0; binds = bs; premises = []; conclusions = e ∷ [] }
+concludes name bs e =
+    record { head = name_at name 0; binds = bs; premises = []; conclusions = e ∷ [] }
 
 -- naturals with addition, these rules and these goals
 abbrev pub naturals_with : List RawRule → List RawGoal → RawSpec
-naturals_with rules goals = record { sorts = nat_sort ∷ []; funs = plus_function ∷ []; rules = rules; goals = goals }
+naturals_with rules goals =
+    record { sorts = nat_sort ∷ []; funs = plus_function ∷ []; rules = rules; goals = goals }
 
 -- goal same(x : Nat, y : Nat) : plus(x, y) = plus(x, x), and goal unit : plus(x, zero) = x, whose x has no binding
 abbrev pub raw_naturals : RawSpec
-raw_naturals = naturals_with (plus_zero_gives (y_at 0) ∷ plus_succ ∷ []) (concludes (codes "same") (binds (codes "x") ∷ binds (codes "y") ∷ []) same_sums ∷ concludes (codes "unit") [] zero_adds_nothing ∷ [])
+raw_naturals = naturals_with (plus_zero_gives (y_at 0) ∷ plus_succ ∷ [])
+    (concludes (codes "same") (binds (codes "x") ∷ binds (codes "y") ∷ []) same_sums
+    ∷ concludes (codes "unit") [] zero_adds_nothing ∷ [])
 
 -- rule plus(zero, y) = x
 abbrev pub loose_rule : RawRule
@@ -92,7 +104,13 @@ free_goal = concludes (codes "free") [] (record { left = x_at 3; right = y_at 4 
 
 -- naturals with that rule, and behind it a sort that is named Nat once more
 abbrev pub nat_twice : RawSpec
-nat_twice = record { sorts = nat_sort ∷ record { head = name_at (codes "Nat") 9; constructors = [] } ∷ []; funs = plus_function ∷ []; rules = loose_rule ∷ []; goals = [] }
+nat_twice = record {
+  sorts = nat_sort ∷ record { head = name_at (codes "Nat") 9; constructors = [] }
+      ∷ [];
+  funs = plus_function ∷ [];
+  rules = loose_rule ∷ [];
+  goals = [];
+}
 
 pub record WorkedExamples : Type 0 where
   -- raw naturals stand for naturals

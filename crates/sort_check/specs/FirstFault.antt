@@ -16,7 +16,9 @@ use Rattle.sort_check.specs.declared.faults.Part.TheVariants.{Ground}
 
 -- faults are looked for in the declarations, then in the rules in order, then in the goals in order
 abbrev pub spec_tests : RawSpec → Search SortFault
-spec_tests raw = then (declarations_tests raw) (then (each_after (rule_tests (sig_of raw)) [] raw.rules) (each_after (goal_tests (sig_of raw)) [] raw.goals))
+spec_tests raw = then (declarations_tests raw)
+    (then (each_after (rule_tests (sig_of raw)) [] raw.rules)
+    (each_after (goal_tests (sig_of raw)) [] raw.goals))
 
 -- no test finds a fault
 abbrev pub HasNoFault : RawSpec → Type 0

@@ -34,7 +34,8 @@ seventeenth_test (b ∷ bs) = test (Sort b.name.at TooManyVariables) (Unit {0})
 abbrev pub inferred_tests : List Entry → List (Option SortId) → Search SortFault
 inferred_tests [] known = nothing
 inferred_tests (e ∷ es) [] = nothing
-inferred_tests (e ∷ es) (o ∷ os) = then (test (Sort e.at SortNotInferred) (o ≡ None)) (inferred_tests es os)
+inferred_tests (e ∷ es) (o ∷ os) =
+    then (test (Sort e.at SortNotInferred) (o ≡ None)) (inferred_tests es os)
 
 -- where both sides have sorts of their own, the right one has to have the left one's
 abbrev pub wanted : Option SortId → Option SortId → Option SortId
@@ -61,10 +62,12 @@ equations_of g = g.premises ++ g.conclusions
 
 -- a name of an earlier goal
 abbrev pub name_test : List RawGoal → RawGoal → Search SortFault
-name_test before g = test (Sort g.head.at RepeatedName) (¬ (IsNewName g.head.name (map (λ (b : RawGoal). b.head.name) before)))
+name_test before g = test (Sort g.head.at RepeatedName)
+    (¬ (IsNewName g.head.name (map (λ (b : RawGoal). b.head.name) before)))
 
 -- each of a list in order, each after the variables that those before it leave
-abbrev pub in_turn : {A : Type 0} → (List Entry → A → Search SortFault) → (List Entry → A → List Entry) → List Entry → List A → Search SortFault
+abbrev pub in_turn : {A : Type 0} → (List Entry → A → Search SortFault)
+    → (List Entry → A → List Entry) → List Entry → List A → Search SortFault
 in_turn tests after es [] = nothing
 in_turn tests after es (x ∷ xs) = then (tests es x) (in_turn tests after (after es x) xs)
 
@@ -76,11 +79,17 @@ left_by after es (x ∷ xs) = left_by after (after es x) xs
 module _ (sig : Sig) where
   -- a binding: a variable that is a symbol or bound before, and then its sort
   abbrev pub bind_tests : List RawBind → RawBind → Search SortFault
-  bind_tests before b = then (test (Sort b.name.at RepeatedName) (¬ (IsNewName b.name.name (names_of sig ++ bind_names before)))) (test (Sort b.sort.at UnknownName) (IsNewName b.sort.name sig.sorts))
+  bind_tests before b = then (test (Sort b.name.at RepeatedName)
+      (¬ (IsNewName b.name.name (names_of sig ++ bind_names before))))
+      (test (Sort b.sort.at UnknownName) (IsNewName b.sort.name sig.sorts))
 
   -- the variable that a binding gives
   abbrev pub bound : RawBind → Entry
-  bound b = record { name = b.name.name; at = b.name.at; sort = option_map (λ n. record { 0 = n }) (position (bytes_eq b.sort.name) sig.sorts) }
+  bound b = record {
+    name = b.name.name;
+    at = b.name.at;
+    sort = option_map (λ n. record { 0 = n }) (position (bytes_eq b.sort.name) sig.sorts);
+  }
 
   -- the sort of a side that is no variable
   abbrev pub own_sort : RawTree → Option SortId
@@ -88,10 +97,13 @@ module _ (sig : Sig) where
 
   -- the words of both sides
   abbrev pub sides_tests : List Entry → RawEq → Search SortFault
-  sides_tests es e = then (term_tests sig Goal es WrongSort e.left None) (term_tests sig Goal (entries_after sig es e.left None) WrongSort e.right (wanted (own_sort e.left) (own_sort e.right)))
+  sides_tests es e = then (term_tests sig Goal es WrongSort e.left None)
+      (term_tests sig Goal (entries_after sig es e.left None) WrongSort e.right
+      (wanted (own_sort e.left) (own_sort e.right)))
 
   abbrev pub after_sides : List Entry → RawEq → List Entry
-  after_sides es e = entries_after sig (entries_after sig es e.left None) e.right (wanted (own_sort e.left) (own_sort e.right))
+  after_sides es e = entries_after sig (entries_after sig es e.left None) e.right
+      (wanted (own_sort e.left) (own_sort e.right))
 
   -- the words of the sides of equations, in order, and the variables after them
   abbrev pub all_sides_tests : List Entry → List RawEq → Search SortFault
@@ -121,13 +133,18 @@ module _ (sig : Sig) where
 
   -- an equation of two variables
   abbrev pub pair_of : List Entry → RawEq → Option SortId → Option SortId → Option Pair
-  pair_of es e None None = Some (record { left = number_of es e.left; right = number_of es e.right; at = place_of e.right })
+  pair_of es e None None = Some (record {
+    left = number_of es e.left;
+    right = number_of es e.right;
+    at = place_of e.right;
+  })
   pair_of es e (Some s) o = None
   pair_of es e None (Some s) = None
 
   abbrev pub pairs_in : List Entry → List RawEq → List Pair
   pairs_in es [] = []
-  pairs_in es (e ∷ rest) = with_pair (pair_of es e (own_sort e.left) (own_sort e.right)) (pairs_in es rest)
+  pairs_in es (e ∷ rest) =
+      with_pair (pair_of es e (own_sort e.left) (own_sort e.right)) (pairs_in es rest)
 
   -- the equations with one variable for a side, in order, and the variables after them
   abbrev pub all_opposite_tests : List Entry → List RawEq → Search SortFault
@@ -144,7 +161,9 @@ module _ (sig : Sig) where
   abbrev pub sorts_tests : List Entry → List RawEq → Search SortFault
   sorts_tests es eqs =
       let opposed = opposed_by es eqs in
-      then (all_opposite_tests es eqs) (then (rounds_tests (rounds opposed) (known_sorts opposed) (pairs_in opposed eqs)) (inferred_tests opposed (inferred opposed eqs)))
+      then (all_opposite_tests es eqs) (then
+      (rounds_tests (rounds opposed) (known_sorts opposed) (pairs_in opposed eqs))
+      (inferred_tests opposed (inferred opposed eqs)))
 
   -- bindings in order, of which there are at most 16
   abbrev pub binds_tests : List RawBind → Search SortFault

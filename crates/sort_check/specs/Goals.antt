@@ -16,7 +16,8 @@ use Rattle.sort_check.specs.Inference.{Gets}
 
 -- the names of a goal's variables: the bindings, and then the others by first occurrence
 abbrev pub goal_names : Sig → RawGoal → List (List ℕ)
-goal_names sig raw = names_after_sides sig (map (λ (b : RawBind). b.name.name) raw.binds) (raw.premises ++ raw.conclusions)
+goal_names sig raw = names_after_sides sig (map (λ (b : RawBind). b.name.name) raw.binds)
+    (raw.premises ++ raw.conclusions)
 
 -- a variable of the binding's name, and of the sort of the name that the binding gives
 abbrev pub VariableStands : Sig → RawBind → VarInfo → Type 0
@@ -32,5 +33,6 @@ pub record GoalStands (sig : Sig) (raw : RawGoal) (goal : Goal) : Type 0 where
   pub bound : AllZip (VariableStands sig) raw.binds (take (length raw.binds) goal.vars)
   pub sorts : AllByRecursion (λ (v : VarInfo). Gets sig raw v.name v.sort) goal.vars
   pub premises : AllZip (EquationStands sig (variable_names goal.vars)) raw.premises goal.premises
-  pub conclusions : AllZip (EquationStands sig (variable_names goal.vars)) raw.conclusions goal.conclusions
+  pub conclusions : AllZip (EquationStands sig (variable_names goal.vars)) raw.conclusions
+      goal.conclusions
   pub sorted : GoalIsSorted sig goal

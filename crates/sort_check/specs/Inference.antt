@@ -13,7 +13,8 @@ use Rattle.sort_check.specs.Signatures.{SortStands}
 module _ (sig : Sig) where
   -- a word alone that is no symbol
   abbrev pub IsBareVariable : List ℕ → RawTree → Type 0
-  IsBareVariable x (word name at args) = (name ≡ x) × (args ≡ no_raws) × IsNewName name (names_of sig)
+  IsBareVariable x (word name at args) =
+      (name ≡ x) × (args ≡ no_raws) × IsNewName name (names_of sig)
 
   -- the word is a symbol that is declared like this
   abbrev pub IsSymbol : List ℕ → SymInfo → Type 0
@@ -30,7 +31,8 @@ module _ (sig : Sig) where
 
     -- it is one of these terms at places of these sorts, at one of this sort, or stands so in one of them
     pub IsAnyTaken : List ℕ → SortId → RawTrees → List SortId → Type 0
-    IsAnyTaken x s (more_raws t ts) (u ∷ us) = (IsBareVariable x t × (u ≡ s)) ⊎ (IsTaken x s t ⊎ IsAnyTaken x s ts us)
+    IsAnyTaken x s (more_raws t ts) (u ∷ us) =
+        (IsBareVariable x t × (u ≡ s)) ⊎ (IsTaken x s t ⊎ IsAnyTaken x s ts us)
     IsAnyTaken x s (more_raws t ts) [] = ⊥
     IsAnyTaken x s no_raws us = ⊥
 
@@ -42,13 +44,20 @@ module _ (sig : Sig) where
     -- the variable gets the sort: the least relation that these rules allow
     pub data Gets : List ℕ → SortId → Type 0 where
       -- a binding says so
-      bound : {x : List ℕ} {s : SortId} (b : RawBind) → Contains goal.binds b → b.name.name ≡ x → SortStands sig.sorts b.sort s → Gets x s
+      bound : {x : List ℕ} {s : SortId} (b : RawBind) → Contains goal.binds b → b.name.name ≡ x
+          → SortStands sig.sorts b.sort s → Gets x s
       -- it is an argument at a place of the sort
-      left_argument : {x : List ℕ} {s : SortId} (e : RawEq) → IsEquation e → IsTaken x s e.left → Gets x s
-      right_argument : {x : List ℕ} {s : SortId} (e : RawEq) → IsEquation e → IsTaken x s e.right → Gets x s
+      left_argument : {x : List ℕ} {s : SortId} (e : RawEq) → IsEquation e → IsTaken x s e.left
+          → Gets x s
+      right_argument : {x : List ℕ} {s : SortId} (e : RawEq) → IsEquation e → IsTaken x s e.right
+          → Gets x s
       -- it is equated to a term that has the sort and is no variable
-      left_side : {x : List ℕ} {s : SortId} (e : RawEq) → IsEquation e → IsBareVariable x e.left → HasResult e.right s → Gets x s
-      right_side : {x : List ℕ} {s : SortId} (e : RawEq) → IsEquation e → IsBareVariable x e.right → HasResult e.left s → Gets x s
+      left_side : {x : List ℕ} {s : SortId} (e : RawEq) → IsEquation e → IsBareVariable x e.left
+          → HasResult e.right s → Gets x s
+      right_side : {x : List ℕ} {s : SortId} (e : RawEq) → IsEquation e → IsBareVariable x e.right
+          → HasResult e.left s → Gets x s
       -- it is equated to a variable that gets the sort
-      as_right : {x y : List ℕ} {s : SortId} (e : RawEq) → IsEquation e → IsBareVariable x e.left → IsBareVariable y e.right → Gets y s → Gets x s
-      as_left : {x y : List ℕ} {s : SortId} (e : RawEq) → IsEquation e → IsBareVariable x e.left → IsBareVariable y e.right → Gets x s → Gets y s
+      as_right : {x y : List ℕ} {s : SortId} (e : RawEq) → IsEquation e → IsBareVariable x e.left
+          → IsBareVariable y e.right → Gets y s → Gets x s
+      as_left : {x y : List ℕ} {s : SortId} (e : RawEq) → IsEquation e → IsBareVariable x e.left
+          → IsBareVariable y e.right → Gets x s → Gets y s

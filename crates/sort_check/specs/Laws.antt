@@ -21,22 +21,29 @@ pub record OneSpecification : Type 0 where
 
 -- what has a fault stands for nothing: a raw specification, and a raw term over a signature
 pub record FaultyStandsForNone : Type 0 where
-  pub specification : (raw : RawSpec) (at : ℕ) (kind : SortKind) → HasFirstFault raw at kind → (spec : Spec) → ¬ (StandsFor raw spec)
-  pub term : (sig : Sig) (raw : RawTree) (at : ℕ) (kind : SortKind) → TermHasFirstFault sig raw at kind → (t : Tree) → ¬ (TermStandsFor sig raw t)
+  pub specification : (raw : RawSpec) (at : ℕ) (kind : SortKind) → HasFirstFault raw at kind
+      → (spec : Spec) → ¬ (StandsFor raw spec)
+  pub term : (sig : Sig) (raw : RawTree) (at : ℕ) (kind : SortKind)
+      → TermHasFirstFault sig raw at kind → (t : Tree) → ¬ (TermStandsFor sig raw t)
 
 -- a raw specification has one first fault at most, and none where no test finds one
 pub record OneFirstFault : Type 0 where
-  pub one : (raw : RawSpec) (at other : ℕ) (kind another : SortKind) → HasFirstFault raw at kind → HasFirstFault raw other another → (at ≡ other) × (kind ≡ another)
-  pub none : (raw : RawSpec) (at : ℕ) (kind : SortKind) → HasNoFault raw → HasFirstFault raw at kind → ⊥
+  pub one : (raw : RawSpec) (at other : ℕ) (kind another : SortKind) → HasFirstFault raw at kind
+      → HasFirstFault raw other another → (at ≡ other) × (kind ≡ another)
+  pub none : (raw : RawSpec) (at : ℕ) (kind : SortKind) → HasNoFault raw → HasFirstFault raw at kind
+      → ⊥
 
 -- what a raw term stands for has as many symbols and variables as the raw term has words
 abbrev pub KeepsSizes : Type 0
-KeepsSizes = (sig : Sig) (names : List (List ℕ)) (raw : RawTree) (t : Tree) → TermStands sig names raw t → tree_size t ≡ words raw
+KeepsSizes = (sig : Sig) (names : List (List ℕ)) (raw : RawTree) (t : Tree)
+    → TermStands sig names raw t → tree_size t ≡ words raw
 
 -- where no raw term has more than n words, no term of a rule has more than n symbols and variables
 abbrev pub NumberingKeepsSizes : Type 0
-NumberingKeepsSizes = (n : ℕ) (raw : RawSpec) (spec : Spec) → HasFewWords n raw → IsNumbered raw spec → RulesAreWithin n spec
+NumberingKeepsSizes = (n : ℕ) (raw : RawSpec) (spec : Spec) → HasFewWords n raw
+    → IsNumbered raw spec → RulesAreWithin n spec
 
 -- the numbering of a raw specification within the limits is well sorted, and so is what it stands for
 abbrev pub StandsWellSorted : Type 0
-StandsWellSorted = (raw : RawSpec) (spec : Spec) → KeepsLimits raw → IsNumbered raw spec → IsWellSorted spec
+StandsWellSorted =
+    (raw : RawSpec) (spec : Spec) → KeepsLimits raw → IsNumbered raw spec → IsWellSorted spec

@@ -19,7 +19,8 @@ module _ (sig : Sig) where
   -- the names after a term, each word that is no symbol behind those before it
   abbrev mutual
     pub names_after : List (List ℕ) → RawTree → List (List ℕ)
-    names_after seen (word name at raws) = after_word seen name (names_after_all seen raws) (position (bytes_eq name) (names_of sig))
+    names_after seen (word name at raws) =
+        after_word seen name (names_after_all seen raws) (position (bytes_eq name) (names_of sig))
 
     pub names_after_all : List (List ℕ) → RawTrees → List (List ℕ)
     names_after_all seen no_raws = seen
@@ -28,4 +29,5 @@ module _ (sig : Sig) where
   -- the names after the sides of equations
   abbrev pub names_after_sides : List (List ℕ) → List RawEq → List (List ℕ)
   names_after_sides seen [] = seen
-  names_after_sides seen (e ∷ es) = names_after_sides (names_after (names_after seen e.left) e.right) es
+  names_after_sides seen (e ∷ es) =
+      names_after_sides (names_after (names_after seen e.left) e.right) es

@@ -18,7 +18,8 @@ module _ (sig : Sig) (es : List Entry) where
   -- symbols stand for their numbers and variables for their places
   abbrev mutual
     pub IsOver : RawTree → Tree → Type 0
-    IsOver (word name at raws) (var n) = (raws ≡ no_raws) × (symbol_named sig name ≡ None) × (entry_named es name ≡ Some n)
+    IsOver (word name at raws) (var n) =
+        (raws ≡ no_raws) × (symbol_named sig name ≡ None) × (entry_named es name ≡ Some n)
     IsOver (word name at raws) (app f ts) = (symbol_named sig name ≡ Some f) × AreOver raws ts
 
     pub AreOver : RawTrees → Trees → Type 0

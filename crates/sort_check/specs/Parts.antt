@@ -38,16 +38,20 @@ counted counts None = 0
 
 -- the numbers count the rules of each function
 abbrev pub AreCounts : Sig → List RawRule → List ℕ → Type 0
-AreCounts sig rules counts = (name : List ℕ) (f : ℕ) → symbol_named sig name ≡ Some f → slice_index counts f ≡ rules_of name rules
+AreCounts sig rules counts = (name : List ℕ) (f : ℕ) → symbol_named sig name ≡ Some f
+    → slice_index counts f ≡ rules_of name rules
 
 module _ (sig : Sig) where
   -- the tests of a left side's root, where so many rules of each function stand before
   abbrev pub counted_tests : List ℕ → RawTree → Search SortFault
-  counted_tests counts (word name at args) = root_tests sig at (words (word name at args)) (counted counts (symbol_named sig name)) args (symbol_named sig name)
+  counted_tests counts (word name at args) =
+      root_tests sig at (words (word name at args)) (counted counts (symbol_named sig name)) args
+      (symbol_named sig name)
 
   -- the root is this function, before as many arguments as it takes
   abbrev pub IsRoot : RawTree → ℕ → Type 0
-  IsRoot (word name at args) f = (symbol_named sig name ≡ Some f) × ¬ (IsConstructor sig f) × (count args ≡ length (info_at sig f).args)
+  IsRoot (word name at args) f = (symbol_named sig name ≡ Some f) × ¬ (IsConstructor sig f)
+      × (count args ≡ length (info_at sig f).args)
 
   -- what is tested below a root
   abbrev pub below_tests : RawTree → RawRule → Search SortFault
@@ -67,4 +71,5 @@ module _ (sig : Sig) (es : List Entry) where
 
   -- these variables with the sorts that the equations give them
   abbrev pub inferred_variables : List RawEq → List VarInfo
-  inferred_variables eqs = variables_of (opposed_by sig es eqs) (inferred sig (opposed_by sig es eqs) eqs)
+  inferred_variables eqs =
+      variables_of (opposed_by sig es eqs) (inferred sig (opposed_by sig es eqs) eqs)

@@ -10,7 +10,8 @@ use Rattle.sort_check.specs.declared.faults.SortFault.TheVariants.{Sort}
 use Rattle.sort_check.specs.declared.faults.SortKind.TheVariants.{WrongSort}
 
 -- an equation gives the sort of one side to the other where that has none
-abbrev pub shared : List (Option SortId) → Pair → Option SortId → Option SortId → List (Option SortId)
+abbrev pub shared : List (Option SortId) → Pair → Option SortId → Option SortId
+    → List (Option SortId)
 shared known p (Some s) None = slice_set known p.right (Some s)
 shared known p None (Some s) = slice_set known p.left (Some s)
 shared known p (Some s) (Some u) = known
@@ -22,7 +23,9 @@ after_pair known p = shared known p (sort_at known p.left) (sort_at known p.righ
 -- one round over the equations, in order
 abbrev pub round_tests : List (Option SortId) → List Pair → Search SortFault
 round_tests known [] = nothing
-round_tests known (p ∷ ps) = then (test (Sort p.at WrongSort) (Differ (sort_at known p.left) (sort_at known p.right))) (round_tests (after_pair known p) ps)
+round_tests known (p ∷ ps) = then (test (Sort p.at WrongSort)
+    (Differ (sort_at known p.left) (sort_at known p.right)))
+    (round_tests (after_pair known p) ps)
 
 abbrev pub after_round : List (Option SortId) → List Pair → List (Option SortId)
 after_round known [] = known
@@ -31,7 +34,8 @@ after_round known (p ∷ ps) = after_round (after_pair known p) ps
 -- so many rounds: after one that changes nothing, no further one finds or changes anything
 abbrev pub rounds_tests : ℕ → List (Option SortId) → List Pair → Search SortFault
 rounds_tests zero known ps = nothing
-rounds_tests (suc n) known ps = then (round_tests known ps) (rounds_tests n (after_round known ps) ps)
+rounds_tests (suc n) known ps = then (round_tests known ps)
+    (rounds_tests n (after_round known ps) ps)
 
 abbrev pub after_rounds : ℕ → List (Option SortId) → List Pair → List (Option SortId)
 after_rounds zero known ps = known

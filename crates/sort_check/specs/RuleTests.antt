@@ -27,7 +27,11 @@ rules_of name rules = count_by (λ (r : RawRule). has_root name r.left) rules
 module _ (sig : Sig) where
   -- the root of a left side of so many words, where so many rules before are of this function
   abbrev pub root_tests : ℕ → ℕ → ℕ → RawTrees → Option ℕ → Search SortFault
-  root_tests at size before args (Some f) = then (test (Sort at NoFunction) (IsConstructor sig f)) (then (test (Sort at TooManyRules) (64 ≤ before)) (then (test (Sort at LeftTooLarge) (200 < size)) (test (Sort at WrongNumberOfArguments) (count args ≢ length (info_at sig f).args))))
+  root_tests at size before args (Some f) =
+      then (test (Sort at NoFunction) (IsConstructor sig f))
+      (then (test (Sort at TooManyRules) (64 ≤ before))
+      (then (test (Sort at LeftTooLarge) (200 < size))
+      (test (Sort at WrongNumberOfArguments) (count args ≢ length (info_at sig f).args))))
   root_tests at size before no_raws None = test (Sort at NoFunction) (Unit {0})
   root_tests at size before (more_raws t ts) None = test (Sort at UnknownName) (Unit {0})
 
@@ -36,15 +40,19 @@ module _ (sig : Sig) where
 
   -- the right side and the guards, over the variables of the left side
   abbrev pub body_tests : List Entry → RawRule → SortId → Search SortFault
-  body_tests es rule s = then (term_tests sig Right es WrongSort rule.right (Some s)) (each (guard_tests es) rule.guards)
+  body_tests es rule s = then (term_tests sig Right es WrongSort rule.right (Some s))
+      (each (guard_tests es) rule.guards)
 
   -- the left side below its root, and then the rest of the rule
   abbrev pub inner_tests : RawTrees → RawRule → Option ℕ → Search SortFault
-  inner_tests args rule (Some f) = then (terms_tests sig Left [] args (info_at sig f).args) (body_tests (entries_after_all sig [] args (info_at sig f).args) rule (info_at sig f).result)
+  inner_tests args rule (Some f) = then (terms_tests sig Left [] args (info_at sig f).args)
+      (body_tests (entries_after_all sig [] args (info_at sig f).args) rule (info_at sig f).result)
   inner_tests args rule None = nothing
 
   abbrev pub left_tests : List RawRule → RawTree → RawRule → Search SortFault
-  left_tests before (word name at args) rule = then (root_tests at (words (word name at args)) (rules_of name before) args (symbol_named sig name)) (inner_tests args rule (symbol_named sig name))
+  left_tests before (word name at args) rule =
+      then (root_tests at (words (word name at args)) (rules_of name before) args
+      (symbol_named sig name)) (inner_tests args rule (symbol_named sig name))
 
   -- a rule with those before it
   abbrev pub rule_tests : List RawRule → RawRule → Search SortFault

@@ -15,7 +15,8 @@ use Rattle.spec_grammar.specs.declared.raw.RawRule.{RawRule}
 use Rattle.sort_check.specs.Terms.{TermStands}
 
 abbrev pub GuardStands : Sig → List (List ℕ) → RawGuard → Guard → Type 0
-GuardStands sig names raw guard = TermStands sig names raw.test guard.test × (guard.wanted ≡ raw.wanted)
+GuardStands sig names raw guard =
+    TermStands sig names raw.test guard.test × (guard.wanted ≡ raw.wanted)
 
 -- the sides and the guards are terms over the rule's variables, which have distinct names and are numbered by first
 -- occurrence on the left side, a function before constructor patterns; both sides have one sort, and each test is Boolean
@@ -27,5 +28,7 @@ pub record RuleStands (sig : Sig) (raw : RawRule) (rule : Rule) : Type 0 where
   pub head : IsLeft sig rule.left
   pub numbered : Numbered 0 rule.left (length (sorts_of rule.vars))
   pub few_variables : length rule.vars ≤ 16
-  pub sides : (s : SortId) × Sorted sig (sorts_of rule.vars) rule.left s × Sorted sig (sorts_of rule.vars) rule.right s
-  pub tests : AllByRecursion (λ (g : Guard). Sorted sig (sorts_of rule.vars) g.test bool_sort) rule.guards
+  pub sides : (s : SortId) × Sorted sig (sorts_of rule.vars) rule.left s
+      × Sorted sig (sorts_of rule.vars) rule.right s
+  pub tests : AllByRecursion (λ (g : Guard). Sorted sig (sorts_of rule.vars) g.test bool_sort)
+      rule.guards

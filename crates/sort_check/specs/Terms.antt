@@ -11,8 +11,10 @@ module _ (sig : Sig) (names : List (List ℕ)) where
   -- a word alone that is no symbol is the variable of this name; any other word is a symbol before its arguments
   abbrev mutual
     pub TermStands : RawTree → Tree → Type 0
-    TermStands (word name at raws) (var n) = (raws ≡ no_raws) × IsNewName name (names_of sig) × (slice_get names n ≡ Some name)
-    TermStands (word name at raws) (app f ts) = (slice_get (names_of sig) f ≡ Some name) × TermsStand raws ts
+    TermStands (word name at raws) (var n) =
+        (raws ≡ no_raws) × IsNewName name (names_of sig) × (slice_get names n ≡ Some name)
+    TermStands (word name at raws) (app f ts) =
+        (slice_get (names_of sig) f ≡ Some name) × TermsStand raws ts
 
     pub TermsStand : RawTrees → Trees → Type 0
     TermsStand no_raws none = Unit {0}

@@ -18,7 +18,8 @@ abbrev pub order_tests : (Tree → Tree → Type 0) → List Rule → Rule → S
 order_tests above before rule =
     then (test (suc (length before), 0) (¬ (above rule.left rule.right)))
     (each_after
-    (λ guards g. test (suc (length before), suc (length guards)) (¬ (GuardIsOrdered above rule.left g)))
+    (λ guards g. test (suc (length before), suc (length guards))
+    (¬ (GuardIsOrdered above rule.left g)))
     [] rule.guards)
 
 -- the guards of the rules with this rule's left side

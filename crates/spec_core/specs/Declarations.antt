@@ -54,11 +54,16 @@ IsNotBool e = e.1.result.0 ≢ 0
 module _ (sorts : List (List ℕ)) (constructors functions : List (List ℕ × SymInfo)) where
   -- the signature of these declarations, with `Bool` and its constructors before them
   abbrev pub declared_by : Sig
-  declared_by = record { sorts = codes "Bool" ∷ sorts; table = all_symbols constructors functions; constructors = 2 + length constructors }
+  declared_by = record {
+    sorts = codes "Bool" ∷ sorts;
+    table = all_symbols constructors functions;
+    constructors = 2 + length constructors;
+  }
 
   -- no name occurs twice among the sorts, nor among the symbols
   abbrev pub AreDistinct : Type 0
-  AreDistinct = AreNewNames [] (codes "Bool" ∷ sorts) × AreFresh [] (all_symbols constructors functions)
+  AreDistinct =
+      AreNewNames [] (codes "Bool" ∷ sorts) × AreFresh [] (all_symbols constructors functions)
 
 -- the signature is made of declarations with distinct names and sorts in range, none of them a constructor of `Bool`,
 -- and each sort has a value of at most 255 symbols

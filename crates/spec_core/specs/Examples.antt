@@ -53,7 +53,8 @@ pub record WorkedExamples : Type 0 where
   pub well_sorted : IsWellSorted naturals
   pub not_well_sorted : IsWellSorted twice → ⊥
   -- plus(succ(zero), zero) gives succ(zero) by two uses of rules
-  pub one_plus_zero : Gives naturals (plus_term (succ_term zero_term) zero_term) (succ_term zero_term) 2
+  pub one_plus_zero : Gives naturals (plus_term (succ_term zero_term) zero_term)
+      (succ_term zero_term) 2
   pub zero_gives_itself : Gives naturals zero_term zero_term 0
   -- plus(x, y) = plus(x, x) fails at x = zero, y = succ(zero), and holds at x = y = zero
   pub same_fails : GoalFails naturals (zero_term ∷ succ_term zero_term ∷ []) same_goal
@@ -63,7 +64,9 @@ pub record WorkedExamples : Type 0 where
   pub verdict_holds : IsVerdict naturals (zero_term ∷ zero_term ∷ []) 1 same_goal Holds
   -- one rule without guards is a whole group, and so are two that want one test true and false
   pub unguarded : Whole ((0, []) ∷ [])
-  pub guarded : (test : Tree) → Whole ((0, record { test = test; wanted = true } ∷ []) ∷ (1, record { test = test; wanted = false } ∷ []) ∷ [])
+  pub guarded : (test : Tree) → Whole
+      ((0, record { test = test; wanted = true } ∷ [])
+      ∷ (1, record { test = test; wanted = false } ∷ []) ∷ [])
   -- plus(zero, y) and plus(succ(x), y) don't overlap, and plus(zero, y) and plus(x, y) do
   pub apart : NoOverlap naturals
   pub not_apart : NoOverlap overlapping → ⊥
@@ -74,8 +77,13 @@ pub record WorkedExamples : Type 0 where
   pub covering : IsCovering naturals
   pub not_covering : IsCovering uncovered → ⊥
   -- the values of Nat of depth at most 3, and the substitutions of two variables at depth 2
-  pub three_values : values naturals_sig 3 nat ≡ zero_term ∷ succ_term zero_term ∷ succ_term (succ_term zero_term) ∷ []
+  pub three_values : values naturals_sig 3 nat
+      ≡ zero_term ∷ succ_term zero_term ∷ succ_term (succ_term zero_term) ∷ []
   pub no_values : values naturals_sig 0 nat ≡ []
-  pub four_substitutions : substitutions naturals same_goal 2 ≡ (zero_term ∷ zero_term ∷ []) ∷ (zero_term ∷ succ_term zero_term ∷ []) ∷ (succ_term zero_term ∷ zero_term ∷ []) ∷ (succ_term zero_term ∷ succ_term zero_term ∷ []) ∷ []
+  pub four_substitutions : substitutions naturals same_goal 2
+      ≡ (zero_term ∷ zero_term ∷ []) ∷ (zero_term ∷ succ_term zero_term ∷ [])
+      ∷ (succ_term zero_term ∷ zero_term ∷ []) ∷ (succ_term zero_term ∷ succ_term zero_term ∷ [])
+      ∷ []
   -- the text of plus(x, ?1) where only the variable 0 has a name
-  pub text : term_text naturals_sig (codes "x" ∷ []) (plus_term (var 0) (succ_term (var 1))) ≡ codes "plus(x, succ(?1))"
+  pub text : term_text naturals_sig (codes "x" ∷ []) (plus_term (var 0) (succ_term (var 1)))
+      ≡ codes "plus(x, succ(?1))"

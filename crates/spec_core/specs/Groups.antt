@@ -10,7 +10,8 @@ use Rattle.spec_core.specs.declared.records.Spec.{Spec}
 -- the numbers and the guards of the rules with this left side, where the first rule has the number n
 abbrev pub group : Tree → ℕ → List Rule → List (ℕ × List Guard)
 group left n [] = []
-group left n (r ∷ rs) = if same_tree left r.left then (n, r.guards) ∷ group left (suc n) rs else group left (suc n) rs
+group left n (r ∷ rs) =
+    if same_tree left r.left then (n, r.guards) ∷ group left (suc n) rs else group left (suc n) rs
 
 -- the first guard has this test
 abbrev pub BeginsWith : Tree → List Guard → Type 0
@@ -34,8 +35,11 @@ wanting wanted (m ∷ ms) = rest_if wanted m.0 m.1 (wanting wanted ms)
 -- and the rests of those that want it true are whole, and so are the rests of those that want it false
 pub data Whole : List (ℕ × List Guard) → Type 0 where
   alone : {k : ℕ} → Whole ((k, []) ∷ [])
-  split : {ms : List (ℕ × List Guard)} (test : Tree) → AllByRecursion (λ (m : ℕ × List Guard). BeginsWith test m.1) ms → Whole (wanting true ms) → Whole (wanting false ms) → Whole ms
+  split : {ms : List (ℕ × List Guard)} (test : Tree)
+      → AllByRecursion (λ (m : ℕ × List Guard). BeginsWith test m.1) ms → Whole (wanting true ms)
+      → Whole (wanting false ms) → Whole ms
 
 -- the guard lists of the rules of each left side are whole
 abbrev pub GroupsAreWhole : Spec → Type 0
-GroupsAreWhole spec = (k : ℕ) (rule : Rule) → slice_get spec.rules k ≡ Some rule → Whole (group rule.left 0 spec.rules)
+GroupsAreWhole spec = (k : ℕ) (rule : Rule) → slice_get spec.rules k ≡ Some rule
+    → Whole (group rule.left 0 spec.rules)

@@ -19,4 +19,5 @@ abbrev pub IsLinear : Tree → Type 0
 IsLinear t = (n : ℕ) → OccursTwice n t → ⊥
 
 abbrev pub LeftSidesAreLinear : Spec → Type 0
-LeftSidesAreLinear spec = (k : ℕ) (rule : Rule) → slice_get spec.rules k ≡ Some rule → IsLinear rule.left
+LeftSidesAreLinear spec =
+    (k : ℕ) (rule : Rule) → slice_get spec.rules k ≡ Some rule → IsLinear rule.left

@@ -61,38 +61,84 @@ variable name = record { name = name; sort = nat }
 
 -- rule plus(zero, y) = y
 abbrev pub plus_zero_rule : Rule
-plus_zero_rule = record { vars = variable (codes "y") ∷ []; left = plus_term zero_term (var 0); right = var 0; guards = [] }
+plus_zero_rule = record {
+  vars = variable (codes "y") ∷ [];
+  left = plus_term zero_term (var 0);
+  right = var 0;
+  guards = [];
+}
 
 -- rule plus(succ(x), y) = succ(plus(x, y))
 abbrev pub plus_succ_rule : Rule
-plus_succ_rule = record { vars = variable (codes "x") ∷ variable (codes "y") ∷ []; left = plus_term (succ_term (var 0)) (var 1); right = succ_term (plus_term (var 0) (var 1)); guards = [] }
+plus_succ_rule = record {
+  vars = variable (codes "x") ∷ variable (codes "y") ∷ [];
+  left = plus_term (succ_term (var 0)) (var 1);
+  right = succ_term (plus_term (var 0) (var 1));
+  guards = [];
+}
 
 -- rule plus(zero, y) = x, whose right side has a variable that its left side lacks
 abbrev pub loose_rule : Rule
-loose_rule = record { vars = variable (codes "y") ∷ variable (codes "x") ∷ []; left = plus_term zero_term (var 0); right = var 1; guards = [] }
+loose_rule = record {
+  vars = variable (codes "y") ∷ variable (codes "x") ∷ [];
+  left = plus_term zero_term (var 0);
+  right = var 1;
+  guards = [];
+}
 
 -- goal same(x : Nat, y : Nat) : plus(x, y) = plus(x, x)
 abbrev pub same_goal : Goal
-same_goal = record { name = codes "same"; vars = variable (codes "x") ∷ variable (codes "y") ∷ []; premises = []; conclusions = record { left = plus_term (var 0) (var 1); right = plus_term (var 0) (var 0) } ∷ [] }
+same_goal = record {
+  name = codes "same";
+  vars = variable (codes "x") ∷ variable (codes "y") ∷ [];
+  premises = [];
+  conclusions = record {
+    left = plus_term (var 0) (var 1);
+    right = plus_term (var 0) (var 0);
+  } ∷ [];
+}
 
 -- goal unit(x : Nat) : plus(x, zero) = x
 abbrev pub unit_goal : Goal
-unit_goal = record { name = codes "unit"; vars = variable (codes "x") ∷ []; premises = []; conclusions = record { left = plus_term (var 0) zero_term; right = var 0 } ∷ [] }
+unit_goal = record {
+  name = codes "unit";
+  vars = variable (codes "x") ∷ [];
+  premises = [];
+  conclusions = record { left = plus_term (var 0) zero_term; right = var 0 } ∷ [];
+}
 
 -- goal mixed : zero = true, whose sides have two sorts
 abbrev pub mixed_goal : Goal
-mixed_goal = record { name = codes "mixed"; vars = []; premises = []; conclusions = record { left = zero_term; right = app 0 none } ∷ [] }
+mixed_goal = record {
+  name = codes "mixed";
+  vars = [];
+  premises = [];
+  conclusions = record { left = zero_term; right = app 0 none } ∷ [];
+}
 
 abbrev pub naturals : Spec
-naturals = record { sig = naturals_sig; rules = plus_zero_rule ∷ plus_succ_rule ∷ []; goals = same_goal ∷ unit_goal ∷ [] }
+naturals = record {
+  sig = naturals_sig;
+  rules = plus_zero_rule ∷ plus_succ_rule ∷ [];
+  goals = same_goal ∷ unit_goal ∷ [];
+}
 
 -- two goals of one name
 abbrev pub twice : Spec
-twice = record { sig = naturals_sig; rules = plus_zero_rule ∷ plus_succ_rule ∷ []; goals = same_goal ∷ same_goal ∷ [] }
+twice = record {
+  sig = naturals_sig;
+  rules = plus_zero_rule ∷ plus_succ_rule ∷ [];
+  goals = same_goal ∷ same_goal ∷ [];
+}
 
 -- rule plus(x, y) = x, whose left side every call of plus matches
 abbrev pub plus_any_rule : Rule
-plus_any_rule = record { vars = variable (codes "x") ∷ variable (codes "y") ∷ []; left = plus_term (var 0) (var 1); right = var 0; guards = [] }
+plus_any_rule = record {
+  vars = variable (codes "x") ∷ variable (codes "y") ∷ [];
+  left = plus_term (var 0) (var 1);
+  right = var 0;
+  guards = [];
+}
 
 abbrev pub overlapping : Spec
 overlapping = record { sig = naturals_sig; rules = plus_zero_rule ∷ plus_any_rule ∷ []; goals = [] }

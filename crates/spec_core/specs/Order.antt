@@ -20,7 +20,8 @@ abbrev pub constructors_from : ℕ → ℕ → SortId → List (List ℕ × SymI
 constructors_from f zero s es = []
 constructors_from f (suc left) s [] = []
 constructors_from f (suc left) s (e ∷ es) =
-    if e.1.result.0 == s.0 then (f, e.1.args) ∷ constructors_from (suc f) left s es else constructors_from (suc f) left s es
+    if e.1.result.0 == s.0 then (f, e.1.args) ∷ constructors_from (suc f) left s es
+    else constructors_from (suc f) left s es
 
 abbrev pub constructors_of : Sig → SortId → List (ℕ × List SortId)
 constructors_of sig s = constructors_from 0 sig.constructors s sig.table
@@ -38,7 +39,10 @@ is_small t = nat_le (tree_size t) 255
 -- the values of the sort with at most this depth
 abbrev pub values : Sig → ℕ → SortId → List Tree
 values sig zero s = []
-values sig (suc depth) s = filter is_small (flat_map (λ (c : ℕ × List SortId). map (λ ts. app c.0 (trees_of ts)) (product (map (λ u. values sig depth u) c.1))) (constructors_of sig s))
+values sig (suc depth) s = filter is_small
+    (flat_map (λ (c : ℕ × List SortId). map
+    (λ ts. app c.0 (trees_of ts)) (product (map (λ u. values sig depth u) c.1)))
+    (constructors_of sig s))
 
 abbrev pub substitutions : Spec → Goal → ℕ → List (List Tree)
 substitutions spec goal depth = product (map (λ s. values spec.sig depth s) (sorts_of goal.vars))

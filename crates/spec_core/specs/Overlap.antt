@@ -10,4 +10,7 @@ use Rattle.spec_core.specs.Sorts.{SortedAll, AreBuilt}
 -- no list of values of a function's argument sorts matches two different left sides
 abbrev pub NoOverlap : Spec → Type 0
 NoOverlap spec =
-    (j k : ℕ) (r q : Rule) (f : ℕ) (i : SymInfo) (vs : Trees) (xs ys : List Tree) → slice_get spec.rules j ≡ Some r → slice_get spec.rules k ≡ Some q → info_of spec.sig f ≡ Some i → SortedAll spec.sig [] vs i.args → AreBuilt spec.sig vs → instance xs r.left ≡ app f vs → instance ys q.left ≡ app f vs → r.left ≡ q.left
+    (j k : ℕ) (r q : Rule) (f : ℕ) (i : SymInfo) (vs : Trees) (xs ys : List Tree)
+    → slice_get spec.rules j ≡ Some r → slice_get spec.rules k ≡ Some q
+    → info_of spec.sig f ≡ Some i → SortedAll spec.sig [] vs i.args → AreBuilt spec.sig vs
+    → instance xs r.left ≡ app f vs → instance ys q.left ≡ app f vs → r.left ≡ q.left

@@ -15,12 +15,15 @@ shape_symbol args = record { args = args; result = shape }
 
 -- sort Tree = node(Tree, Tree) | leaf
 abbrev pub tree_sig : Sig
-tree_sig = declared_by (codes "Tree" ∷ []) ((codes "node", shape_symbol (shape ∷ shape ∷ [])) ∷ (codes "leaf", shape_symbol []) ∷ []) []
+tree_sig = declared_by (codes "Tree" ∷ [])
+    ((codes "node", shape_symbol (shape ∷ shape ∷ [])) ∷ (codes "leaf", shape_symbol []) ∷ []) []
 
 -- sort Color = red | green
 abbrev pub color_sig : Sig
-color_sig = declared_by (codes "Color" ∷ []) ((codes "red", shape_symbol []) ∷ (codes "green", shape_symbol []) ∷ []) []
+color_sig = declared_by (codes "Color" ∷ [])
+    ((codes "red", shape_symbol []) ∷ (codes "green", shape_symbol []) ∷ []) []
 
 -- sort Wide = wide(Bool, .., Bool), with this number of arguments
 abbrev pub wide_sig : ℕ → Sig
-wide_sig n = declared_by (codes "Wide" ∷ []) ((codes "wide", shape_symbol (replicate n bool_sort)) ∷ []) []
+wide_sig n =
+    declared_by (codes "Wide" ∷ []) ((codes "wide", shape_symbol (replicate n bool_sort)) ∷ []) []

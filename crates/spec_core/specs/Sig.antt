@@ -23,7 +23,8 @@ IsSort sig s = s.0 < length sig.sorts
 
 -- the sorts of each symbol are sorts of the signature
 abbrev pub SortsAreInRange : Sig → Type 0
-SortsAreInRange sig = (f : ℕ) (i : SymInfo) → info_of sig f ≡ Some i → IsSort sig i.result × AllByRecursion (IsSort sig) i.args
+SortsAreInRange sig = (f : ℕ) (i : SymInfo) → info_of sig f ≡ Some i → IsSort sig i.result
+    × AllByRecursion (IsSort sig) i.args
 
 -- the names of the symbols, by number
 abbrev pub names_of : Sig → List (List ℕ)

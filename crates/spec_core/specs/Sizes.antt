@@ -25,7 +25,8 @@ module _ (sig : Sig) (least : List ℕ) where
 
   -- the constructor's applications don't give less
   abbrev pub IsSettledAt : ℕ → Type 0
-  IsSettledAt c = (i : SymInfo) → info_of sig c ≡ Some i → slice_index least i.result.0 ≤ min (1 + sum_of least i.args) 256
+  IsSettledAt c = (i : SymInfo) → info_of sig c ≡ Some i
+      → slice_index least i.result.0 ≤ min (1 + sum_of least i.args) 256
 
   -- no constructor's applications give less
   abbrev pub AreSettled : Type 0
@@ -35,5 +36,7 @@ module _ (sig : Sig) (least : List ℕ) where
   pub record AreLeast : Type 0 where
     pub long : length least ≡ length sig.sorts
     pub bounded : (s : ℕ) → slice_index least s ≤ 256
-    pub is_least : (s : ℕ) → s < length sig.sorts → slice_index least s ≤ 255 → IsLeast sig (sort_of_number s) (slice_index least s)
-    pub has_none : (s : ℕ) → s < length sig.sorts → 255 < slice_index least s → HasSmallValue sig (sort_of_number s) → ⊥
+    pub is_least : (s : ℕ) → s < length sig.sorts → slice_index least s ≤ 255
+        → IsLeast sig (sort_of_number s) (slice_index least s)
+    pub has_none : (s : ℕ) → s < length sig.sorts → 255 < slice_index least s
+        → HasSmallValue sig (sort_of_number s) → ⊥

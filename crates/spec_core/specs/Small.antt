@@ -26,7 +26,8 @@ module _ (sig : Sig) where
 
   -- the fewest symbols of a value of the sort
   abbrev pub IsLeast : SortId → ℕ → Type 0
-  IsLeast s n = ((v : Tree) × IsValue sig s v × (tree_size v ≡ n)) × ((v : Tree) → IsValue sig s v → n ≤ tree_size v)
+  IsLeast s n = ((v : Tree) × IsValue sig s v × (tree_size v ≡ n))
+      × ((v : Tree) → IsValue sig s v → n ≤ tree_size v)
 
   -- some application of the constructor is a value of the sort with so many symbols
   abbrev pub Makes : ℕ → SortId → ℕ → Type 0
@@ -40,7 +41,8 @@ module _ (sig : Sig) where
   abbrev mutual
     pub IsSmall : SortId → Tree → Type 0
     IsSmall s (var n) = ⊥
-    IsSmall s (app c ts) = IsFirstMaker c s × ((i : SymInfo) × (info_of sig c ≡ Some i) × AreSmall i.args ts)
+    IsSmall s (app c ts) =
+        IsFirstMaker c s × ((i : SymInfo) × (info_of sig c ≡ Some i) × AreSmall i.args ts)
 
     pub AreSmall : List SortId → Trees → Type 0
     AreSmall [] none = Unit {0}

@@ -10,7 +10,8 @@ module _ (sig : Sig) where
   abbrev mutual
     pub Sorted : List SortId → Tree → SortId → Type 0
     Sorted ctx (var n) s = slice_get ctx n ≡ Some s
-    Sorted ctx (app f ts) s = (i : SymInfo) × (info_of sig f ≡ Some i) × (i.result ≡ s) × SortedAll ctx ts i.args
+    Sorted ctx (app f ts) s =
+        (i : SymInfo) × (info_of sig f ≡ Some i) × (i.result ≡ s) × SortedAll ctx ts i.args
 
     pub SortedAll : List SortId → Trees → List SortId → Type 0
     SortedAll ctx none [] = Unit {0}

@@ -23,7 +23,8 @@ module _ (sig : Sig) (names : List (List ℕ)) where
     pub term_text : Tree → List ℕ
     term_text (var n) = variable_text (slice_get names n) n
     term_text (app f none) = symbol_text (slice_get (names_of sig) f)
-    term_text (app f (some t ts)) = symbol_text (slice_get (names_of sig) f) ++ codes "(" ++ term_text t ++ others_text ts ++ codes ")"
+    term_text (app f (some t ts)) = symbol_text (slice_get (names_of sig) f) ++ codes "("
+        ++ term_text t ++ others_text ts ++ codes ")"
 
     pub others_text : Trees → List ℕ
     others_text none = []

@@ -12,11 +12,13 @@ use Rattle.spec_core.specs.WellSorted.{sorts_of}
 module _ (spec : Spec) (values : List Tree) where
   -- both sides give one value
   abbrev pub EquationHolds : Equation → Type 0
-  EquationHolds e = (v : Tree) × (n : ℕ) × (m : ℕ) × Gives spec (instance values e.left) v n × Gives spec (instance values e.right) v m
+  EquationHolds e = (v : Tree) × (n : ℕ) × (m : ℕ) × Gives spec (instance values e.left) v n
+      × Gives spec (instance values e.right) v m
 
   -- the sides give two different values
   abbrev pub EquationBroken : Equation → Type 0
-  EquationBroken e = (v : Tree) × (w : Tree) × (n : ℕ) × (m : ℕ) × (v ≢ w) × Gives spec (instance values e.left) v n × Gives spec (instance values e.right) w m
+  EquationBroken e = (v : Tree) × (w : Tree) × (n : ℕ) × (m : ℕ) × (v ≢ w)
+      × Gives spec (instance values e.left) v n × Gives spec (instance values e.right) w m
 
   -- each equation holds
   abbrev pub AllHold : List Equation → Type 0
@@ -50,4 +52,5 @@ AreValuesOf spec (s ∷ ss) [] = ⊥
 
 -- the goal holds under all values of its variables
 abbrev pub GoalIsTrue : Spec → Goal → Type 0
-GoalIsTrue spec goal = (values : List Tree) → AreValuesOf spec (sorts_of goal.vars) values → GoalHolds spec values goal
+GoalIsTrue spec goal =
+    (values : List Tree) → AreValuesOf spec (sorts_of goal.vars) values → GoalHolds spec values goal

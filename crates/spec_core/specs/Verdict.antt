@@ -32,12 +32,14 @@ module _ (spec : Spec) (values : List Tree) (budget : ℕ) where
   -- the conclusions in order: the first that is spent or holds decides; where each is broken the goal fails
   abbrev pub ConclusionsSay : List Equation → Verdict → Type 0
   ConclusionsSay [] r = r ≡ Fails
-  ConclusionsSay (e ∷ es) r = (SidesSpent e × (r ≡ Spent)) ⊎ ((SidesSame e × (r ≡ Holds)) ⊎ (SidesDiffer e × ConclusionsSay es r))
+  ConclusionsSay (e ∷ es) r = (SidesSpent e × (r ≡ Spent))
+      ⊎ ((SidesSame e × (r ≡ Holds)) ⊎ (SidesDiffer e × ConclusionsSay es r))
 
   -- the premises in order: the first that is spent or broken decides; where each holds the conclusions do
   abbrev pub PremisesSay : List Equation → List Equation → Verdict → Type 0
   PremisesSay [] cs r = ConclusionsSay cs r
-  PremisesSay (e ∷ es) cs r = (SidesSpent e × (r ≡ Spent)) ⊎ ((SidesDiffer e × (r ≡ Holds)) ⊎ (SidesSame e × PremisesSay es cs r))
+  PremisesSay (e ∷ es) cs r = (SidesSpent e × (r ≡ Spent))
+      ⊎ ((SidesDiffer e × (r ≡ Holds)) ⊎ (SidesSame e × PremisesSay es cs r))
 
   -- the goal's verdict within the budget
   abbrev pub IsVerdict : Goal → Verdict → Type 0

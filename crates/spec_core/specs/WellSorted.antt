@@ -42,8 +42,10 @@ IsShallow t = tree_depth t ≤ 100
 -- the variables are numbered by first occurrence on the left side, where each of them stands
 pub record RuleIsSorted (sig : Sig) (rule : Rule) : Type 0 where
   pub left : IsLeft sig rule.left
-  pub sides : (s : SortId) × Sorted sig (sorts_of rule.vars) rule.left s × Sorted sig (sorts_of rule.vars) rule.right s
-  pub guards : AllByRecursion (λ (g : Guard). Sorted sig (sorts_of rule.vars) g.test bool_sort) rule.guards
+  pub sides : (s : SortId) × Sorted sig (sorts_of rule.vars) rule.left s
+      × Sorted sig (sorts_of rule.vars) rule.right s
+  pub guards : AllByRecursion (λ (g : Guard). Sorted sig (sorts_of rule.vars) g.test bool_sort)
+      rule.guards
   pub numbered : Numbered 0 rule.left (length (sorts_of rule.vars))
   pub bound : (n : ℕ) → n < length (sorts_of rule.vars) → Occurs n rule.left
   pub few_variables : length rule.vars ≤ 16
@@ -53,7 +55,8 @@ pub record RuleIsSorted (sig : Sig) (rule : Rule) : Type 0 where
 
 -- both sides of each equation have one sort
 abbrev pub EquationsAreSorted : Sig → List SortId → List Equation → Type 0
-EquationsAreSorted sig ctx es = (k : ℕ) (e : Equation) → slice_get es k ≡ Some e → (s : SortId) × Sorted sig ctx e.left s × Sorted sig ctx e.right s
+EquationsAreSorted sig ctx es = (k : ℕ) (e : Equation) → slice_get es k ≡ Some e → (s : SortId)
+    × Sorted sig ctx e.left s × Sorted sig ctx e.right s
 
 pub record GoalIsSorted (sig : Sig) (goal : Goal) : Type 0 where
   pub premises : EquationsAreSorted sig (sorts_of goal.vars) goal.premises
@@ -67,13 +70,16 @@ HasFewArguments sig = (f : ℕ) (i : SymInfo) → info_of sig f ≡ Some i → l
 
 -- no two goals have the same name
 abbrev pub GoalNamesAreDistinct : List Goal → Type 0
-GoalNamesAreDistinct goals = (j k : ℕ) (g h : Goal) → slice_get goals j ≡ Some g → slice_get goals k ≡ Some h → g.name ≡ h.name → j ≡ k
+GoalNamesAreDistinct goals = (j k : ℕ) (g h : Goal) → slice_get goals j ≡ Some g
+    → slice_get goals k ≡ Some h → g.name ≡ h.name → j ≡ k
 
 pub record IsWellSorted (spec : Spec) : Type 0 where
   pub signature : IsDeclared spec.sig
   pub arities : HasFewArguments spec.sig
-  pub rules : (k : ℕ) (rule : Rule) → slice_get spec.rules k ≡ Some rule → RuleIsSorted spec.sig rule
-  pub goals : (k : ℕ) (goal : Goal) → slice_get spec.goals k ≡ Some goal → GoalIsSorted spec.sig goal
+  pub rules : (k : ℕ) (rule : Rule) → slice_get spec.rules k ≡ Some rule
+      → RuleIsSorted spec.sig rule
+  pub goals : (k : ℕ) (goal : Goal) → slice_get spec.goals k ≡ Some goal
+      → GoalIsSorted spec.sig goal
   pub names : GoalNamesAreDistinct spec.goals
   pub few_rules : length spec.rules < 2 ^ 32
   pub few_goals : length spec.goals < 2 ^ 32

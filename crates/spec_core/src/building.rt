@@ -65,7 +65,8 @@ impl Signature {
 
         // The errors: each comes only where its cause is there, and Ok only where neither is.
         ensures distinct { OnOk result (AreDistinct sorts constructors functions) }
-        ensures repeated { result ≡ Err BuildError.Repeated → AreDistinct sorts constructors functions → ⊥ }
+        ensures repeated { result ≡ Err BuildError.Repeated
+            → AreDistinct sorts constructors functions → ⊥ }
         ensures no_small_value { (s : SortId) → result ≡ Err (BuildError.NoSmallValue s) →
             AreDistinct sorts constructors functions ×
             IsFirstWithout (declared_by sorts constructors functions) s }

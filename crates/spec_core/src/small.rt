@@ -55,7 +55,8 @@ fn lower_all(tables: &Tables, least: &mut [u16]) -> bool
     requires in_range { SortsAreInRange tables.now }
     requires reached { AreReached tables.now least.old }
     ensures reached { AreReached tables.now least.new }
-    ensures lowered { MatchBool result (sum least.new < sum least.old) (AreSettled tables.now least.new) }
+    ensures lowered { MatchBool result (sum least.new < sum least.old)
+        (AreSettled tables.now least.new) }
 {
     let mut lowered = false;
     for number in 0..tables.constructors() {

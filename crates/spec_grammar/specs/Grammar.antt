@@ -32,7 +32,8 @@ name_text mark n rest = (Word n.name n.at, name_mark n.name mark) ∷ rest
 -- term = NAME ["(" term {"," term} ")"], with d words above it
 abbrev mutual
   pub term_text : ℕ → Option LimitKind → RawTree → List Marked → List Marked
-  term_text d mark (word name at ts) rest = (Word name at, name_mark name mark) ∷ args_text d ts rest
+  term_text d mark (word name at ts) rest =
+      (Word name at, name_mark name mark) ∷ args_text d ts rest
 
   pub args_text : ℕ → RawTrees → List Marked → List Marked
   args_text d none rest = rest

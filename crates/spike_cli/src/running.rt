@@ -122,7 +122,8 @@ fn finish<F: Files, S: Sink>(
     ensures finishes { FinishesReading (S.written out.old) (S.written out.new)
         (S.faults out.old) (S.faults out.new) (F.faults files.old) (F.faults files.new)
         (IsEnd (F.held files.old) (task_of command.now) accepted.now.raw accepted.now.admitted.spec)
-        (MayWriteOn (F.held files.old) (task_of command.now) accepted.now.raw accepted.now.admitted.spec)
+        (MayWriteOn (F.held files.old) (task_of command.now) accepted.now.raw
+        accepted.now.admitted.spec)
         result }
     ensures asked { AsksFor (further_files (task_of command.now))
         (F.asked files.old) (F.asked files.new) }

@@ -31,13 +31,18 @@ mutual
   tree_inj (var m) (var n) p = λ i. var (coded_ℕ.inj m n (ap (λ g. tail g) p) i)
   tree_inj (var m) (app g us) p = absurd (apart 0 1 p (omega arith))
   tree_inj (app f ts) (var n) p = absurd (apart 1 0 p (omega arith))
-  tree_inj (app f ts) (app g us) p = λ i. app (coded_ℕ.inj f g (ap (λ g. head (tail g)) p) i) (trees_inj ts us (ap (λ g. tail (tail g)) p) i)
+  tree_inj (app f ts) (app g us) p =
+      λ i. app (coded_ℕ.inj f g (ap (λ g. head (tail g)) p) i)
+      (trees_inj ts us (ap (λ g. tail (tail g)) p) i)
 
   pub trees_inj : (x y : Trees) → trees_code x ≡ trees_code y → x ≡ y
   trees_inj none none p = refl
-  trees_inj none (some t ts) p = absurd (let q : gnil ≡ gcons (tree_code t) (trees_code ts) = p in cc)
-  trees_inj (some t ts) none p = absurd (let q : gcons (tree_code t) (trees_code ts) ≡ gnil = p in cc)
-  trees_inj (some t ts) (some u us) p = λ i. some (tree_inj t u (ap (λ g. head g) p) i) (trees_inj ts us (ap (λ g. tail g) p) i)
+  trees_inj none (some t ts) p =
+      absurd (let q : gnil ≡ gcons (tree_code t) (trees_code ts) = p in cc)
+  trees_inj (some t ts) none p =
+      absurd (let q : gcons (tree_code t) (trees_code ts) ≡ gnil = p in cc)
+  trees_inj (some t ts) (some u us) p =
+      λ i. some (tree_inj t u (ap (λ g. head g) p) i) (trees_inj ts us (ap (λ g. tail g) p) i)
 
 abbrev pub coded_tree : Coded Tree
 coded_tree = record { code = tree_code; inj = tree_inj }

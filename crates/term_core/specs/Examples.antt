@@ -34,7 +34,8 @@ pub record WorkedExamples : Type 0 where
   pub no_third : HasNoPlace (3 ∷ []) outer
   pub none_below_a_variable : HasNoPlace (1 ∷ 1 ∷ []) outer
   -- with x at 2.1 it is f(x, g(x, x))
-  pub replaced : IsReplaced (2 ∷ 1 ∷ []) outer (var 0) (app 5 (some (var 0) (some (app 6 (some (var 0) (some (var 0) none))) none)))
+  pub replaced : IsReplaced (2 ∷ 1 ∷ []) outer (var 0)
+      (app 5 (some (var 0) (some (app 6 (some (var 0) (some (var 0) none))) none)))
   -- x, y and x again occur, and x is met first
   pub all_occurrences : occurrences outer ≡ 0 ∷ 1 ∷ 0 ∷ []
   pub met_first : firsts (occurrences outer) ≡ 0 ∷ 1 ∷ []

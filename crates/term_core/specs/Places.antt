@@ -18,11 +18,13 @@ HasNoPlace path t = (s : Tree) → IsAt path t s → ⊥
 
 -- the second arguments are the first ones with the argument of this number exchanged
 abbrev pub IsExchanged : ℕ → Trees → Tree → Trees → Type 0
-IsExchanged number ts t us = (k : ℕ) × (number ≡ k + 1) × (us ≡ trees_of (slice_set (list_of ts) k t))
+IsExchanged number ts t us =
+    (k : ℕ) × (number ≡ k + 1) × (us ≡ trees_of (slice_set (list_of ts) k t))
 
 -- the second term is the first one with the subterm at the path exchanged for `new`
 abbrev pub IsReplaced : List ℕ → Tree → Tree → Tree → Type 0
 IsReplaced [] t new made = made ≡ new
 IsReplaced (number ∷ path) (var n) new made = ⊥
 IsReplaced (number ∷ path) (app f ts) new made =
-    (old : Tree) × (changed : Tree) × (us : Trees) × IsArgument number ts old × IsReplaced path old new changed × IsExchanged number ts changed us × (made ≡ app f us)
+    (old : Tree) × (changed : Tree) × (us : Trees) × IsArgument number ts old
+    × IsReplaced path old new changed × IsExchanged number ts changed us × (made ≡ app f us)

@@ -57,7 +57,8 @@ impl Term {
     /// answers None.
     pub fn replace(&self, alloc: Global, path: &[u8], new: Term) -> Result<Term, ReplaceError>
         ensures replaced { IfOk result (λ made. IsReplaced path.now self.now new made) }
-        ensures no_such_place { result ≡ Err ReplaceError.NoSuchPlace → HasNoPlace path.now self.now }
+        ensures no_such_place { result ≡ Err ReplaceError.NoSuchPlace
+            → HasNoPlace path.now self.now }
     {
         let Some((number, rest)) = front(path) else {
             return Ok(new);

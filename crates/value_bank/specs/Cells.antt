@@ -31,7 +31,8 @@ AreBelow n ps = AllByRecursion (λ (p : ℕ). p < n) ps
 -- each cell refers to earlier cells alone, and no two places have the same cell
 pub record IsBank (cells : List Cell) : Type 0 where
   pub earlier : (k : ℕ) (f : ℕ) (ps : List ℕ) → slice_get cells k ≡ Some (cell f ps) → AreBelow k ps
-  pub distinct : (j k : ℕ) (c : Cell) → slice_get cells j ≡ Some c → slice_get cells k ≡ Some c → j ≡ k
+  pub distinct : (j k : ℕ) (c : Cell) → slice_get cells j ≡ Some c → slice_get cells k ≡ Some c
+      → j ≡ k
 
 -- no place has the cell
 abbrev pub IsNowhere : List Cell → Cell → Type 0

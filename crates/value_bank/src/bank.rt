@@ -30,7 +30,8 @@ impl Model for Bank {
 
     ghost view = { λ a. a.cells };
 
-    ghost invariant = { λ a. IsBank a.cells × (a.links ≡ hashes a.cells) × (length a.cells < 2 ^ 32) };
+    ghost invariant = { λ a. IsBank a.cells × (a.links ≡ hashes a.cells)
+        × (length a.cells < 2 ^ 32) };
 }
 
 impl Bank {
@@ -86,7 +87,8 @@ impl Bank {
     #[inline(always)]
     fn find(&self, sym: u32, args: &[u32], hash: u32) -> Option<u32>
         requires { hash ≡ hash_of sym args.now }
-        ensures { MatchOption result (IsNowhere self.now (cell sym args.now)) (λ p. slice_get self.now p ≡ Some (cell sym args.now)) }
+        ensures { MatchOption result (IsNowhere self.now (cell sym args.now))
+            (λ p. slice_get self.now p ≡ Some (cell sym args.now)) }
     {
         let mut at = self.links.last(hash);
         while at != 0 {

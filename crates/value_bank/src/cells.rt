@@ -27,9 +27,11 @@ impl Model for Cells {
 
     ghost Value = { List Cell };
 
-    ghost view = { λ a. map (λ s. cell s.sym (take s.count (drop s.start a.args.items))) a.spans.items };
+    ghost view = { λ a. map (λ s. cell s.sym (take s.count (drop s.start a.args.items)))
+        a.spans.items };
 
-    ghost invariant = { λ a. AllByRecursion (λ s. s.start + s.count ≤ length a.args.items) a.spans.items };
+    ghost invariant = { λ a. AllByRecursion
+        (λ s. s.start + s.count ≤ length a.args.items) a.spans.items };
 }
 
 impl Cells {

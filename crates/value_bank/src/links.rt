@@ -31,7 +31,8 @@ impl Model for Links {
 
     ghost view = { λ a. map (λ l. l.hash) a.links.items };
 
-    ghost invariant = { λ a. AreLinked a.first.items (map (λ l. l.hash) a.links.items) (map (λ l. l.before) a.links.items) };
+    ghost invariant = { λ a. AreLinked a.first.items (map (λ l. l.hash) a.links.items)
+        (map (λ l. l.before) a.links.items) };
 }
 
 impl Links {
@@ -131,7 +132,8 @@ fn bucket(count: usize, hash: u32) -> usize
 fn among(first: &[u32], links: &[Link], hash: u32, at: u32) -> u32
     requires linked { AreLinked first.now (hashes_of links.now) (befores_of links.now) }
     requires within { at ≤ length links.now }
-    requires chained { (k : ℕ) → at ≡ suc k → IsIn (length first.now) (hashes_of links.now) (place_of (length first.now) hash) k }
+    requires chained { (k : ℕ) → at ≡ suc k
+        → IsIn (length first.now) (hashes_of links.now) (place_of (length first.now) hash) k }
     ensures { IsLast (HasHash (hashes_of links.now) hash) at result }
 {
     let _count = first.len();

@@ -47,7 +47,8 @@ impl Bank {
         places: &mut Vec<u32>,
     ) -> Result<(), OutOfMemory>
         requires { AreGround (trees_of values.now) }
-        ensures placed { IfOk result (λ _. AddsPlaces self.new (trees_of values.now) places.old.items places.new.items) }
+        ensures placed { IfOk result (λ _. AddsPlaces self.new (trees_of values.now)
+            places.old.items places.new.items) }
         ensures adds { AddsCells self.old self.new }
         ensures few { length self.new ≤ length self.old + sizes (trees_of values.now) }
     {
