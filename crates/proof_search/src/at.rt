@@ -90,19 +90,15 @@ impl<'a> At<'a> {
 
     /// Whether an equation at this place of another clause may become one of the node's of its kind,
     /// as written or swapped, by their spines.
-    pub(crate) fn may_close(&self, place: Option<LeadingPlace>) -> bool
+    pub(crate) fn may_close(&self, place: &Option<LeadingPlace>) -> bool
         requires { IsAt self.now }
-        ensures { IsTrue result ↔ MayClose self.now.here.now place }
+        ensures { IsTrue result ↔ MayClose self.now.here.now place.now }
     {
         let Some(place) = place else {
             return false;
         };
-        let spines = SideSpines {
-            left: place.left,
-            right: place.right,
-        };
         for own in self.spines(place.conclusion) {
-            if spines.may_become_either(*own) {
+            if own.may_close(place) {
                 return true;
             }
         }

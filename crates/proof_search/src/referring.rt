@@ -113,12 +113,12 @@ fn subsumption_by<'a, O: TermOrder>(
         None => Ok(None),
         Some(node) => {
             spines_may_become();
-            let place = at.building.leadings[number as usize];
+            let place = &at.building.leadings[number as usize];
             if !at.may_close(place) {
                 return Ok(None);
             }
             let referral = Referral::Node(number);
-            let first = leading_at(&node.clause, place);
+            let first = leading_at(&node.clause, *place);
             first_closing(alloc, order, at, matcher, &referral, &node.clause, first)
         }
     }
@@ -266,7 +266,7 @@ fn closing_by<'a, O: TermOrder>(
         (closing target clause by.now.equation.now left.now right.now ∷ [])) }
 {
     spines_may_become();
-    if !by.spines.may_become(own) {
+    if !by.spines.may_become(&own) {
         return Ok(None);
     }
     let count = by.clause.ctx.len();

@@ -1,7 +1,8 @@
 ghost use Rattle.std.specs.Prelude.{◌≡◌, ◌↔◌, IsTrue, IfOk};
 ghost use Rattle.proof_search.specs.SideSpines.{side_spines, listed_spines, SidesMayBecome, MayBecomeEither};
+ghost use Rattle.proof_search.specs.Leading.{kept_spines};
 
-use fitting_lists::Spine;
+use fitting_lists::{LeadingPlace, Spine};
 use spec_core::Equation;
 use std::alloc::Global;
 use term_core::OutOfMemory;
@@ -35,17 +36,18 @@ impl SideSpines {
     }
 
     /// Whether sides with these spines may become sides with the other ones.
-    pub(crate) fn may_become(self, other: SideSpines) -> bool
-        ensures { IsTrue result ↔ SidesMayBecome self other }
+    pub(crate) fn may_become(&self, other: &SideSpines) -> bool
+        ensures { IsTrue result ↔ SidesMayBecome self.now other.now }
     {
         self.left.may_become(other.left) && self.right.may_become(other.right)
     }
 
-    /// The same for the other ones as they are, or else swapped.
-    pub(crate) fn may_become_either(self, other: SideSpines) -> bool
-        ensures { IsTrue result ↔ MayBecomeEither self other }
+    /// Whether an equation at the place may become one with these spines, as written or swapped.
+    pub(crate) fn may_close(&self, place: &LeadingPlace) -> bool
+        ensures { IsTrue result ↔ MayBecomeEither (kept_spines place.now) self.now }
     {
-        self.may_become(other) || self.may_become(other.swapped())
+        (place.left.may_become(self.left) && place.right.may_become(self.right))
+            || (place.left.may_become(self.right) && place.right.may_become(self.left))
     }
 }
 

@@ -50,12 +50,12 @@ one_more P xs n d lt isnt none k own before at may = by (below_or_last k n befor
         sym (get_or_from_slice_get xs k own d at) ∙ ap (λ m. get_or xs m d) e in
         isnt (subst (λ (x : SideSpines). P x) same may)
 
-pub returns-then-may_become_either : goal.returns-then-may_become_either
-returns-then-may_become_either c = (
+pub returns-then-may_close : goal.returns-then-may_close
+returns-then-may_close c = (
   λ t.
-      there c.args.self.now.here.now c.in-Some.place c.args.place c.in-Some.is
+      there c.args.self.now.here.now c.in-Some.place c.args.place.now c.in-Some.is
       c.spines-own-items.result.now c.spines-own-items.ensures c.loop-own.own-index _
-      c.loop-own-test.true (c.may_become_either.ensures.0 c.if-may_become_either.true),
+      c.loop-own-test.true (c.may_close.ensures.0 c.if-may_close.true),
   λ may. refl,
 )
 
@@ -63,14 +63,14 @@ pub loop-own-preserved : goal.loop-own-preserved
 loop-own-preserved c =
     one_more (MayBecomeEither (kept_spines c.in-Some.place)) c.spines-own-items.result.now
     c.loop-own.own-index _ c.loop-own-test.true
-    (not_is c.may_become_either.result _ c.if-may_become_either.false c.may_become_either.ensures)
+    (not_is c.may_close.result _ c.if-may_close.false c.may_close.ensures)
     c.loop-own.invariant
 
 pub returns : goal.returns
 returns c = (
   λ t. absurd (let q : false ≡ true = t in cc),
   λ may.
-      absurd (not_there c.args.self.now.here.now c.in-Some.place c.args.place c.in-Some.is
+      absurd (not_there c.args.self.now.here.now c.in-Some.place c.args.place.now c.in-Some.is
       c.spines-own-items.result.now c.spines-own-items.ensures c.loop-own.own-index
       c.loop-own-test.false c.loop-own.invariant may),
 )
