@@ -1,6 +1,6 @@
 -- A clause within the limits stays so where a place holds another term, if there is room for the
 -- term's symbols and levels.
-use Rattle.std.proofs.Common.{◌≡◌, ℕ, ◌+◌, ◌-◌, ◌≤◌, ◌<◌, List, [], ◌∷◌, ◌++◌, Bool, true, false, length, min, ap, ◌∙◌, arith}
+use Rattle.std.proofs.Common.{◌≡◌, ℕ, ◌+◌, ◌-◌, ◌≤◌, List, [], ◌∷◌, ◌++◌, Bool, true, false, length, min, ap, ◌∙◌, arith}
 use Rattle.term_core.specs.Tree.{Tree, trees_of, tree_size, sizes, tree_depth, depths}
 use Rattle.term_core.specs.Contexts.{plug}
 use Rattle.spec_core.specs.declared.records.Equation.{Equation}
@@ -115,12 +115,31 @@ module _ (c : Clause) (w : IsWithin c) (place : Place) (at : TermAt c place) (ol
   pub some_room : AreSizes → first + second - part ≤ 4000
   some_room s = omega (arith, (sizes_are s).3)
 
-  pub no_room : AreSizes → (u : Tree) (n : ℕ) → n ≡ min (tree_size u) (4000 - (first + second - part) + 1) → 4000 - (first + second - part) < n → IsWithin (holding at u) → ⊥
-  no_room s u n e more v =
+  -- the test of the room
+  pub room_test :
+      AreSizes → (u : Tree) (n : ℕ) → n ≡ min (tree_size u) (4000 - (first + second - part) + 1) →
+      (n ≤ 4000 - (first + second - part) → clause_size (holding at u) ≤ 4000)
+      × (clause_size (holding at u) ≤ 4000 → n ≤ 4000 - (first + second - part))
+  room_test s u n e =
       let f = sizes_are s in
-      omega (arith, e, more, f.0, f.1, f.2, f.3, size_there c place at u, v.size)
+      let there = size_there c place at u in (
+        λ small. omega (arith, e, small, f.0, f.1, f.2, f.3, there),
+        λ v. omega (arith, e, f.0, f.1, f.2, f.3, there, v),
+      )
 
-  pub room : AreSizes → (u : Tree) (n : ℕ) → n ≡ min (tree_size u) (4000 - (first + second - part) + 1) → n ≤ 4000 - (first + second - part) → clause_size (holding at u) ≤ 4000
-  room s u n e more =
-      let f = sizes_are s in
-      omega (arith, e, more, f.0, f.1, f.2, f.3, size_there c place at u)
+-- a term that isn't larger than the one at the place has room
+pub no_larger :
+    (c : Clause) (place : Place) (at : TermAt c place) (old : Tree) → at.term ≡ old → (u : Tree) →
+    IsWithin c → (part n : ℕ) → part ≡ min (tree_size old) 4000 →
+    n ≡ min (tree_size u) (part + 1) → n ≤ part → clause_size (holding at u) ≤ 4000
+no_larger c place at old is u w part n p e small =
+    omega (
+      arith,
+      p,
+      e,
+      small,
+      ap tree_size is,
+      own_size c place at,
+      w.size,
+      size_there c place at u,
+    )

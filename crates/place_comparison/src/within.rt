@@ -1,7 +1,7 @@
-ghost use Rattle.std.specs.Prelude.{◌≡◌, ◌↔◌, IsTrue, min};
+ghost use Rattle.std.specs.Prelude.{◌≡◌, ◌↔◌, ◌≤◌, IsTrue, min};
 ghost use Rattle.term_core.specs.Tree.{trees_of, sizes};
 ghost use Rattle.clause_core.specs.Clauses.{sides_of};
-ghost use Rattle.clause_core.specs.Limits.{IsWithin};
+ghost use Rattle.clause_core.specs.Limits.{IsWithin, clause_size};
 ghost use Rattle.clause_core.specs.Places.{TermAt, holding};
 
 use clause_core::{Clause, Place};
@@ -23,15 +23,30 @@ pub fn within_at(clause: &Clause, place: &Place, old: &Term, new: &Term) -> bool
     ensures { (at : TermAt clause.now place.now) →
         IsTrue result ↔ IsWithin (holding at new.now) }
 {
-    let premises = size(clause.premises.as_slice(), MOST_SYMBOLS);
-    let conclusions = size(clause.conclusions.as_slice(), MOST_SYMBOLS);
-    let kept = premises + conclusions - old.size(MOST_SYMBOLS);
-    let room = MOST_SYMBOLS - kept;
-    if new.size(room + 1) > room {
+    if !has_room(clause, place, old, new) {
         return false;
     }
     let levels = MOST_LEVELS - place.path.len() as u32;
     new.depth(levels + 1) <= levels
+}
+
+/// Whether the clause with the new term has no more symbols than the limits allow. It has where the
+/// new term isn't larger than the old one, and then the clause isn't walked.
+fn has_room(clause: &Clause, place: &Place, old: &Term, new: &Term) -> bool
+    requires within { IsWithin clause.now }
+    requires there { (at : TermAt clause.now place.now) × (at.term ≡ old.now) }
+    ensures { (at : TermAt clause.now place.now) →
+        IsTrue result ↔ (clause_size (holding at new.now) ≤ 4000) }
+{
+    let part = old.size(MOST_SYMBOLS);
+    if new.size(part + 1) <= part {
+        return true;
+    }
+    let premises = size(clause.premises.as_slice(), MOST_SYMBOLS);
+    let conclusions = size(clause.conclusions.as_slice(), MOST_SYMBOLS);
+    let kept = premises + conclusions - part;
+    let room = MOST_SYMBOLS - kept;
+    new.size(room + 1) <= room
 }
 
 /// The sum of the sizes of the sides, or `cap` where that is less.
