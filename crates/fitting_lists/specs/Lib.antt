@@ -3,6 +3,7 @@
 pub mod Questions
 pub mod Fitting
 pub mod Spines
+pub mod Along
 pub mod Leading
 pub mod Answering
 pub mod Examples

@@ -35,7 +35,7 @@ fn may_become_all(patterns: &[Term], terms: &[Term]) -> bool
 
 /// Whether the root of the pattern is a variable or the symbol at the root of the term. Where it is
 /// neither, no list makes the pattern the term.
-pub(crate) fn roots_agree(pattern: &Term, term: &Term) -> bool
+fn roots_agree(pattern: &Term, term: &Term) -> bool
     ensures { (list : List Tree) → instance list pattern.now ≡ term.now → IsTrue result }
 {
     match (&pattern.node, &term.node) {

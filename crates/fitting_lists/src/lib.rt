@@ -15,6 +15,7 @@
 //! these calls in `proofs/Variables.antt`.
 #![tactic(auto)]
 
+mod along;
 mod becoming;
 mod bindings;
 mod laws;

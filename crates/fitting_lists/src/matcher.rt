@@ -4,7 +4,8 @@ ghost use Rattle.fitting_lists.specs.Answering.{AreVariables, IsOnlyAnswer};
 ghost use Rattle.fitting_lists.specs.Fitting.{both_sides};
 ghost use Rattle.fitting_lists.specs.Found.{found_in, answer_of};
 
-use crate::becoming::{heads_agree, roots_agree};
+use crate::along::sides_agree;
+use crate::becoming::heads_agree;
 use crate::bindings::Bindings;
 use crate::matching::bind;
 use spec_core::Equation;
@@ -12,8 +13,9 @@ use std::alloc::Global;
 use term_core::{OutOfMemory, Term};
 
 /// Room in which the variables of a pattern get their terms. It is used again from try to try, so
-/// that a try allocates nothing once there is room for its variables. Where roots differ, nothing
-/// is touched, and where memory runs out, the next try goes on as any other.
+/// that a try allocates nothing once there is room for its variables. A try compares some symbols
+/// first: where they differ, nothing is touched. Where memory runs out, the next try goes on as any
+/// other.
 #[derive(Drop)]
 pub struct Matcher<'a> {
     bindings: Bindings<'a>,
@@ -45,7 +47,7 @@ impl<'a> Matcher<'a> {
           terms = left.now ∷ right.now ∷ [];
         }) (answer_of found self.new)) }
     {
-        if !roots_agree(&equation.left, left) || !roots_agree(&equation.right, right) {
+        if !sides_agree(equation, left, right) {
             return Ok(false);
         }
         self.bindings.reset(count)?;
