@@ -9,7 +9,7 @@ ghost use Rattle.proof_script.specs.Ranges.{WordIsInRange};
 ghost use Rattle.proof_script.specs.Written.{text_by, word_of};
 
 use clause_core::Place;
-use spec_core::Signature;
+use spec_core::{Signature, append_decimal};
 use std::alloc::Global;
 use term_core::{Name, Node, OutOfMemory, Term, front};
 
@@ -74,13 +74,13 @@ fn append_word(
     match *word {
         Word::Fixed(fixed) => text.extend_from_slice(fixed)?,
         Word::Name(name) => text.extend_from_slice(name.as_bytes())?,
-        Word::Number(number) => append_number(alloc, number, text)?,
+        Word::Number(number) => append_decimal(number, text)?,
         Word::Variable(number) => {
             text.push(b'?')?;
-            append_number(alloc, number as usize, text)?;
+            append_decimal(number as usize, text)?;
         }
-        Word::Equation(conclusion, number) => append_equation(alloc, conclusion, number, text)?,
-        Word::Place(place) => append_place(alloc, place, text)?,
+        Word::Equation(conclusion, number) => append_equation(conclusion, number, text)?,
+        Word::Place(place) => append_place(place, text)?,
         Word::Side(left) => text.push(if left { b'l' } else { b'r' })?,
         Word::Term(term) => sig.print(alloc, &[], term, text)?,
         Word::Terms(terms) => append_list(alloc, sig, Variables::Numbered, terms, text)?,
@@ -89,41 +89,29 @@ fn append_word(
     Ok(())
 }
 
-fn append_number(alloc: Global, number: usize, text: &mut Vec<u8>) -> Result<(), OutOfMemory>
-    ensures { OnOk result (text.new.items ≡ text.old.items ++ decimal number) }
-{
-    text.extend_from_slice(number.to_string(alloc)?.as_bytes())?;
-    Ok(())
-}
-
-fn append_equation(
-    alloc: Global,
-    conclusion: bool,
-    number: u16,
-    text: &mut Vec<u8>,
-) -> Result<(), OutOfMemory>
+fn append_equation(conclusion: bool, number: u16, text: &mut Vec<u8>) -> Result<(), OutOfMemory>
     ensures { OnOk result (text.new.items ≡ text.old.items ++ equation_text conclusion number) }
 {
     text.push(if conclusion { b'c' } else { b'p' })?;
-    append_number(alloc, number as usize, text)
+    append_decimal(number as usize, text)
 }
 
-fn append_place(alloc: Global, place: &Place, text: &mut Vec<u8>) -> Result<(), OutOfMemory>
+fn append_place(place: &Place, text: &mut Vec<u8>) -> Result<(), OutOfMemory>
     ensures { OnOk result (text.new.items ≡ text.old.items ++ place_text place.now) }
 {
-    append_equation(alloc, place.conclusion, place.number, text)?;
+    append_equation(place.conclusion, place.number, text)?;
     text.extend_from_slice(if place.left { b".l" } else { b".r" })?;
-    append_path(alloc, place.path.as_slice(), text)
+    append_path(place.path.as_slice(), text)
 }
 
 /// Appends each argument number after a dot.
-fn append_path(alloc: Global, path: &[u8], text: &mut Vec<u8>) -> Result<(), OutOfMemory>
+fn append_path(path: &[u8], text: &mut Vec<u8>) -> Result<(), OutOfMemory>
     ensures { OnOk result (text.new.items ≡ text.old.items
         ++ flat_map (λ i. codes "." ++ decimal i) path.now) }
 {
     for number in path {
         text.push(b'.')?;
-        append_number(alloc, *number as usize, text)?;
+        append_decimal(*number as usize, text)?;
     }
     Ok(())
 }

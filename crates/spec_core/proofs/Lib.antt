@@ -20,3 +20,4 @@ mod Covered
 pub mod Findings
 pub mod Constructors
 pub mod RuleTables
+mod Decimals

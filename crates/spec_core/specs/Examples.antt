@@ -87,3 +87,5 @@ pub record WorkedExamples : Type 0 where
   -- the text of plus(x, ?1) where only the variable 0 has a name
   pub text : term_text naturals_sig (codes "x" ∷ []) (plus_term (var 0) (succ_term (var 1)))
       ≡ codes "plus(x, succ(?1))"
+  -- the text of the variable 10 without a name has both digits
+  pub ten : term_text naturals_sig [] (var 10) ≡ codes "?10"

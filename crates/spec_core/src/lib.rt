@@ -20,6 +20,7 @@ mod tables;
 
 pub use building::BuildError;
 pub use laws::{one_small_value, one_value, worked_examples};
+pub use printing::append_decimal;
 pub use records::{Equation, Goal, Guard, Rule, Spec, SymInfo, VarInfo, Verdict};
 pub use rule_table::RuleTable;
 pub use small::SMALL_VALUE_SYMBOLS;

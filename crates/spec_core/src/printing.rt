@@ -1,4 +1,5 @@
 ghost use Rattle.std.specs.Prelude.{◌≡◌, ◌++◌, OnOk, OnErr, slice_get};
+ghost use Rattle.std.specs.Fmt.{decimal};
 ghost use Rattle.term_core.specs.Tree.{trees_of};
 ghost use Rattle.spec_core.specs.TermText.{term_text, others_text, variable_names, variable_text, SymbolsAreInRange, AllSymbolsAreInRange};
 
@@ -6,6 +7,9 @@ use crate::records::VarInfo;
 use crate::symbols::Signature;
 use std::alloc::Global;
 use term_core::{Node, OutOfMemory, Term, VarId, front};
+
+/// Few terms have a longer text. The text of the others isn't moved while it grows.
+const USUAL_ROOM: usize = 256;
 
 impl Signature {
     /// Appends the term's text. A variable without an entry in `names` prints as `?n`.
@@ -21,8 +25,8 @@ impl Signature {
             out.old.items ++ term_text self.now (variable_names names.now) term.now) }
         ensures kept { OnErr result (out.new.items ≡ out.old.items) }
     {
-        let mut text = Vec::new(alloc);
-        self.append_term(alloc, names, term, &mut text)?;
+        let mut text = Vec::with_capacity(alloc, USUAL_ROOM)?;
+        self.append_term(names, term, &mut text)?;
         out.extend_from_slice(&text)?;
         Ok(())
     }
@@ -30,7 +34,6 @@ impl Signature {
     #[cycle(append)]
     fn append_term(
         &self,
-        alloc: Global,
         names: &[VarInfo],
         term: &Term,
         text: &mut Vec<u8>,
@@ -40,15 +43,15 @@ impl Signature {
             text.old.items ++ term_text self.now (variable_names names.now) term.now) }
     {
         match &term.node {
-            Node::Var(var) => append_variable(alloc, names, *var, text),
+            Node::Var(var) => append_variable(names, *var, text),
             Node::App(sym, args) => {
                 text.extend_from_slice(self.name(*sym))?;
                 let Some((first, others)) = front(args.as_slice()) else {
                     return Ok(());
                 };
                 text.push(b'(')?;
-                self.append_term(alloc, names, first, text)?;
-                self.append_others(alloc, names, others, text)?;
+                self.append_term(names, first, text)?;
+                self.append_others(names, others, text)?;
                 text.push(b')')?;
                 Ok(())
             }
@@ -59,7 +62,6 @@ impl Signature {
     #[cycle(append)]
     fn append_others(
         &self,
-        alloc: Global,
         names: &[VarInfo],
         terms: &[Term],
         text: &mut Vec<u8>,
@@ -71,19 +73,15 @@ impl Signature {
         let Some((first, others)) = front(terms) else {
             return Ok(());
         };
-        text.extend_from_slice(b", ")?;
-        self.append_term(alloc, names, first, text)?;
-        self.append_others(alloc, names, others, text)
+        text.push(b',')?;
+        text.push(b' ')?;
+        self.append_term(names, first, text)?;
+        self.append_others(names, others, text)
     }
 }
 
 /// Appends the variable's name, or `?n` where it has none.
-fn append_variable(
-    alloc: Global,
-    names: &[VarInfo],
-    var: VarId,
-    text: &mut Vec<u8>,
-) -> Result<(), OutOfMemory>
+fn append_variable(names: &[VarInfo], var: VarId, text: &mut Vec<u8>) -> Result<(), OutOfMemory>
     ensures { OnOk result (text.new.items ≡
         text.old.items ++ variable_text (slice_get (variable_names names.now) var.0) var.0) }
 {
@@ -91,8 +89,19 @@ fn append_variable(
         Some(info) => text.extend_from_slice(info.name.as_bytes())?,
         None => {
             text.push(b'?')?;
-            text.extend_from_slice(var.0.to_string(alloc)?.as_bytes())?;
+            append_decimal(var.0 as usize, text)?;
         }
     }
+    Ok(())
+}
+
+/// Appends the number's decimal digits, and needs no memory beside the text.
+pub fn append_decimal(number: usize, text: &mut Vec<u8>) -> Result<(), OutOfMemory>
+    ensures { OnOk result (text.new.items ≡ text.old.items ++ decimal number) }
+{
+    if number >= 10 {
+        append_decimal(number / 10, text)?;
+    }
+    text.push(b'0' + (number % 10) as u8)?;
     Ok(())
 }

@@ -12,6 +12,7 @@ use Rattle.spec_core.specs.declared.records.Rule.{Rule}
 use Rattle.spec_core.specs.Gives.{Gives, built, called, no_terms, more_terms, no_guards}
 use Rattle.spec_core.specs.Groups.{alone, split}
 use Rattle.spec_core.specs.Naturals.{nat, naturals_sig, naturals, overlapping, plus_zero_rule, plus_succ_rule, plus_any_rule, zero_term, succ_term, plus_term}
+use Rattle.spec_core.proofs.Decimals.{decimal_step}
 use Rattle.spec_core.proofs.SortedNaturals.{declared, not_declared, nat_has_a_small_value, no_small_value, zero_rule_is_sorted, succ_rule_is_sorted, loose_rule_is_not, same_goal_is_sorted, mixed_goal_is_not, well_sorted, not_well_sorted}
 use Rattle.spec_core.proofs.Covered.{linear, not_linear, covering, not_covering}
 use Rattle.spec_core.proofs.SmallShapes.{no_small_wide_value, small_nat, small_tree, small_color}
@@ -123,4 +124,5 @@ returns c = record {
   no_values = refl;
   four_substitutions = refl;
   text = let e : decimal 1 ≡ 49 ∷ [] = decimal_digit 1 (omega arith) in rw e;
+  ten = rw (decimal_step 10 (omega arith) (omega arith), decimal_digit 1 (omega arith));
 }
