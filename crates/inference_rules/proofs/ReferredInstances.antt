@@ -1,19 +1,23 @@
 -- The instance of a clause that a step refers to: what the rows say of it.
-use Rattle.std.proofs.Common.{◌≡◌, ◌↔◌, ℕ, List, [], Option, Some, Bool, true, false, IsTrue, inl, inr, refl, sym, ◌∙◌, subst, map}
+use Rattle.std.proofs.Common.{◌≡◌, ◌↔◌, ◌⊎◌, ℕ, ◌<◌, length, get_or, List, [], Option, Some, Bool, true, false, IsTrue, inl, inr, refl, sym, ◌∙◌, subst, map}
+use Rattle.std.specs.List.{AllByRecursion}
 use Rattle.term_core.specs.Tree.{Tree, trees_of}
 use Rattle.term_core.specs.declared.ids.SortId.{SortId}
 use Rattle.spec_core.specs.Sorts.{SortedAll}
+use Rattle.spec_core.specs.declared.records.Equation.{Equation}
 use Rattle.spec_core.specs.declared.records.Spec.{Spec}
 use Rattle.clause_core.specs.declared.clauses.Clause.{Clause}
 use Rattle.clause_core.specs.declared.answers.Why.TheVariants.{DoesNotFit}
-use Rattle.clause_core.specs.ClauseInstances.{clause_instance}
+use Rattle.clause_core.specs.ClauseInstances.{clause_instance, equation_instance}
+use Rattle.clause_core.specs.Equations.{Among, IsIdentity}
 use Rattle.clause_core.specs.Limits.{IsWithin}
-use Rattle.clause_core.specs.Referred.{AreTermsFor, instance_here, with_instance}
+use Rattle.clause_core.specs.Referred.{AreTermsFor, PremisesAreThere, instance_here, with_instance}
 use Rattle.clause_core.specs.Rows.{Made, Row, needs, makes}
 use Rattle.clause_core.specs.Subsuming.{Subsumes, subsumed_by}
 use Rattle.inference_rules.specs.declared.nodes.StepError.{StepError}
 use Rattle.inference_rules.specs.declared.nodes.StepError.TheVariants.{Why as because, OutOfMemory as out_of_memory}
 use Rattle.inference_rules.specs.Conditions.{Refuses, RefusesWith, Makes}
+use Rattle.test_sets.proofs.ChildrenOfPatterns.{mapped_at}
 
 module _ (spec : Spec) (c d : Clause) (terms : List Tree) where
   -- what is found of the terms, their sorts and the instance by them
@@ -33,13 +37,6 @@ module _ (spec : Spec) (c d : Clause) (terms : List Tree) where
       let q : ok ≡ true = (h c.ctx).1 old in
       let r : false ≡ true = sym wrong ∙ q in
       cc
-
-  pub made_here :
-      (entries : List (Option Tree)) → entries ≡ map (λ (t : Tree). Some t) terms → (ctx : List SortId) → ctx ≡ c.ctx → (ok : Bool) → ok ≡ true →
-      ((ctx : List SortId) → IsTrue ok ↔ IsWithin (clause_instance entries ctx d)) → (x : Clause) → x ≡ clause_instance entries ctx d →
-      IsWithin x × (x ≡ instance_here spec c d terms)
-  made_here entries e ctx p ok right h x is =
-      (subst IsWithin (sym is) ((h ctx).0 right), is ∙ (λ i. clause_instance (e i) (p i) d))
 
   -- where there is no instance, no row that begins with it goes on
   pub no_instance :
@@ -79,3 +76,13 @@ module _ (spec : Spec) (c d : Clause) (terms : List Tree) where
       (refs : Clause → List (ℕ × Clause)) (error : StepError) → RefusesWith (with_instance spec c d terms (λ x. makes [] [])) error →
       RefusesWith (subsumed_by spec c d terms refs) error
   no_instance_subsumes refs error r = no_instance (λ z. needs (Subsumes c z) DoesNotFit (λ subsumes. makes [] (refs z))) error r
+
+-- a premise whose instance isn't there
+pub premise_missing :
+    (entries : List (Option Tree)) (ctx : List SortId) (c d : Clause) (premises : List Equation) (number : ℕ) (e : Equation) →
+    premises ≡ d.premises → number < length premises → e ≡ get_or premises number e → (made : Equation) → made ≡ equation_instance entries e →
+    (Among made c.premises ⊎ IsIdentity made → ⊥) → PremisesAreThere c (clause_instance entries ctx d) → ⊥
+premise_missing entries ctx c d premises number e are lt is made own n there =
+    let P : Equation → Type 0 = λ e. Among e c.premises ⊎ IsIdentity e in
+    n (subst P (sym own)
+    (mapped_at P (equation_instance entries) premises number e lt is (subst (λ es. AllByRecursion P (map (equation_instance entries) es)) (sym are) there)))

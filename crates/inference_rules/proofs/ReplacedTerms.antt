@@ -1,11 +1,14 @@
 -- A term at a place that is exchanged by an equation: what the rows say of it.
-use Rattle.std.proofs.Common.{◌≡◌, ℕ, length, arith, List, [], ◌∷◌, Bool, not, inl, inr, refl, ap, sym, ◌∙◌, subst}
+use Rattle.std.proofs.Common.{◌≡◌, ℕ, length, arith, List, [], ◌∷◌, Option, Bool, true, false, not, inl, inr, refl, ap, sym, ◌∙◌, subst, map}
 use Rattle.term_core.specs.Tree.{Tree}
+use Rattle.term_core.specs.declared.ids.SortId.{SortId}
 use Rattle.spec_core.specs.declared.records.Equation.{Equation}
 use Rattle.spec_core.specs.declared.records.Spec.{Spec}
+use Rattle.substitutions.specs.Substitution.{apply}
 use Rattle.clause_core.specs.declared.clauses.Clause.{Clause}
 use Rattle.clause_core.specs.declared.steps.Place.{Place}
 use Rattle.clause_core.specs.declared.answers.Why.TheVariants.{DoesNotFit, NoSuchPlace}
+use Rattle.clause_core.specs.ClauseInstances.{clause_instance, equation_instance}
 use Rattle.clause_core.specs.Comparing.{IsTestable}
 use Rattle.clause_core.specs.Limits.{IsWithin}
 use Rattle.clause_core.specs.NumberedEquations.{EquationAt}
@@ -59,17 +62,41 @@ pub no_items : {X : Type 0} (xs : List X) → length xs ≡ 0 → xs ≡ []
 no_items [] e = refl
 no_items (x ∷ xs) e = absurd (omega arith)
 
--- the one conclusion of a clause, where it rewrites
-pub no_conclusion : (c x : Clause) (t : Tree) (left : Bool) → x.conclusions ≡ [] → Rewrites c x t left → ⊥
-no_conclusion c x t left none r = let q : [] ≡ r.equation ∷ [] = sym none ∙ r.alone in cc
+-- a side of the instance of an equation
+pub side_instance : (entries : List (Option Tree)) (left : Bool) (e : Equation) → side left (equation_instance entries e) ≡ apply entries (side left e)
+side_instance entries true e = refl
+side_instance entries false e = refl
 
-module _ (c x : Clause) (t : Tree) (left : Bool) (e : Equation) (es : List Equation) (are : x.conclusions ≡ e ∷ es) where
-  pub rewrites : es ≡ [] → side left e ≡ t → PremisesAreThere c x → (r : Rewrites c x t left) × (r.equation ≡ e)
-  rewrites none is there = (record { equation = e; alone = are ∙ ap (λ ds. e ∷ ds) none; premises = there; is = is }, refl)
+no_sources : {X Y : Type 0} (f : X → Y) (xs : List X) → map f xs ≡ [] → xs ≡ []
+no_sources f [] e = refl
+no_sources f (x ∷ xs) e = absurd (let q : f x ∷ map f xs ≡ [] = e in cc)
 
-  pub rewrites_not : (es ≡ [] → side left e ≡ t → PremisesAreThere c x → ⊥) → Rewrites c x t left → ⊥
-  rewrites_not h r =
-      let q : e ∷ es ≡ r.equation ∷ [] = sym are ∙ r.alone in
-      let same : e ≡ r.equation = cc in
-      let none : es ≡ [] = cc in
-      h none (ap (λ z. side left z) same ∙ r.is) r.premises
+-- the one conclusion of a clause whose instance rewrites
+module _ (entries : List (Option Tree)) (ctx : List SortId) (c d : Clause) (t : Tree) (left : Bool) where
+  pub no_conclusion : d.conclusions ≡ [] → Rewrites c (clause_instance entries ctx d) t left → ⊥
+  no_conclusion none r =
+      let q : [] ≡ r.equation ∷ [] = ap (λ ds. map (equation_instance entries) ds) (sym none) ∙ r.alone in
+      cc
+
+  module _ (e : Equation) (es : List Equation) (are : d.conclusions ≡ e ∷ es) where
+    pub rewrites :
+        es ≡ [] → apply entries (side left e) ≡ t → PremisesAreThere c (clause_instance entries ctx d) →
+        (r : Rewrites c (clause_instance entries ctx d) t left) × (r.equation ≡ equation_instance entries e)
+    rewrites none is there = (
+      record {
+        equation = equation_instance entries e;
+        alone = ap (λ ds. map (equation_instance entries) ds) (are ∙ ap (λ ds. e ∷ ds) none);
+        premises = there;
+        is = side_instance entries left e ∙ is;
+      },
+      refl,
+    )
+
+    pub rewrites_not :
+        (es ≡ [] → apply entries (side left e) ≡ t → PremisesAreThere c (clause_instance entries ctx d) → ⊥) →
+        Rewrites c (clause_instance entries ctx d) t left → ⊥
+    rewrites_not h r =
+        let q : equation_instance entries e ∷ map (equation_instance entries) es ≡ r.equation ∷ [] = ap (λ ds. map (equation_instance entries) ds) (sym are) ∙ r.alone in
+        let same : equation_instance entries e ≡ r.equation = cc in
+        let none : map (equation_instance entries) es ≡ [] = cc in
+        h (no_sources (equation_instance entries) es none) (sym (side_instance entries left e) ∙ ap (λ z. side left z) same ∙ r.is) r.premises

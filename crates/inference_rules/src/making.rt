@@ -111,23 +111,22 @@ pub(crate) fn child_holding<O: TermOrder>(
     here: &Clause,
     place: &Place,
     old: &Term,
-    new: &Term,
+    new: Term,
     refs: Seq<Reference>,
 ) -> Result<Children, StepError>
     requires here { IsWithin here.now }
     requires there { (at : TermAt here.now place.now) × (at.term ≡ old.now) }
-    requires new { IsTestable new.now }
+    requires new { IsTestable new }
     ensures { (at : TermAt here.now place.now) (referred : List (ℕ × ClauseOf)) →
         AllZip (IsReference (O.above order.now) here.now) referred refs →
         Answered (O.above order.now) here.now []
-        (makes (compared_child (holding at new.now) ∷ []) referred) result }
+        (makes (compared_child (holding at new) ∷ []) referred) result }
 {
-    let relation = relation_at(order, old, new);
-    if !within_at(here, place, old, new) {
+    let relation = relation_at(order, old, &new);
+    if !within_at(here, place, old, &new) {
         return Err(StepError::Why(Why::Limit));
     }
-    let held = new.copy(alloc)?;
-    let child = here.holding(alloc, place, held)?;
+    let child = here.holding(alloc, place, new)?;
     let clause = into_tidied(alloc, child)?;
     let mut clauses = Seq::new(alloc);
     clauses.push(Child { clause, relation })?;

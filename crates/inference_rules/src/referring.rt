@@ -1,5 +1,6 @@
-ghost use Rattle.std.specs.Prelude.{◌≡◌, ◌⊎◌, ◌↔◌, [], Some, IsTrue, MatchOption, MatchResult, Contains, slice_get};
+ghost use Rattle.std.specs.Prelude.{◌≡◌, ◌⊎◌, ◌↔◌, [], Some, IsTrue, IfOk, MatchOption, MatchResult, Contains, slice_get};
 ghost use Rattle.spec_core.specs.declared.records.Goal.{Goal as GoalOf};
+ghost use Rattle.clause_core.specs.ClauseInstances.{clause_instance};
 ghost use Rattle.clause_core.specs.Equations.{Among, IsIdentity};
 ghost use Rattle.clause_core.specs.Limits.{IsWithin};
 ghost use Rattle.clause_core.specs.Referred.{NodeAt, UsableGoal, AreTermsFor, PremisesAreThere, instance_here as instance_of, with_instance};
@@ -12,7 +13,8 @@ use crate::terms::{entries_of, have_sorts};
 use clause_core::{Clause, Why, among, instance, instance_within, is_identity};
 use spec_core::{Equation, Goal, Spec};
 use std::alloc::Global;
-use term_core::{Name, Term};
+use substitutions::Subst;
+use term_core::{Name, OutOfMemory, Term};
 
 /// The node of this number.
 pub(crate) fn node_at(nodes: &[Node], number: u32) -> Option<&Node>
@@ -58,6 +60,33 @@ fn has_name(goal: &Goal, name: &Name) -> bool
     goal.name.as_bytes() == name.as_bytes()
 }
 
+/// The substitution of the terms for the variables of the clause, if they have their sorts over the
+/// variables of the clause here and the instance is within the limits. The instance isn't built.
+pub(crate) fn entries_here(
+    alloc: Global,
+    spec: &Spec,
+    here: &Clause,
+    clause: &Clause,
+    terms: &[Term],
+) -> Result<Subst, StepError>
+    ensures { MatchResult result
+        (λ theta. AreTermsFor spec.now here.now clause.now terms.now
+        × IsWithin (clause_instance theta.terms here.now.ctx clause.now)
+        × (clause_instance theta.terms here.now.ctx clause.now
+        ≡ instance_of spec.now here.now clause.now terms.now))
+        (λ error. RefusesWith
+        (with_instance spec.now here.now clause.now terms.now (λ x. makes [] [])) error) }
+{
+    if !have_sorts(&spec.sig, here.ctx.as_slice(), terms, clause.ctx.as_slice()) {
+        return Err(StepError::Why(Why::Sort));
+    }
+    let theta = entries_of(alloc, terms)?;
+    if !instance_within(clause, &theta) {
+        return Err(StepError::Why(Why::Limit));
+    }
+    Ok(theta)
+}
+
 /// The instance of the clause by the terms, over the variables of the clause here.
 pub(crate) fn instance_here(
     alloc: Global,
@@ -72,15 +101,31 @@ pub(crate) fn instance_here(
         (λ error. RefusesWith
         (with_instance spec.now here.now clause.now terms.now (λ x. makes [] [])) error) }
 {
-    let ctx = here.ctx.as_slice();
-    if !have_sorts(&spec.sig, ctx, terms, clause.ctx.as_slice()) {
-        return Err(StepError::Why(Why::Sort));
+    let theta = entries_here(alloc, spec, here, clause, terms)?;
+    Ok(instance(alloc, clause, &theta, here.ctx.as_slice())?)
+}
+
+/// Whether the instance of each premise of the clause is among the premises here or has identical
+/// sides. They are built one at a time.
+pub(crate) fn instances_are_there(
+    alloc: Global,
+    here: &Clause,
+    clause: &Clause,
+    theta: &Subst,
+) -> Result<bool, OutOfMemory>
+    ensures { IfOk result (λ there. IsTrue there ↔
+        PremisesAreThere here.now (clause_instance theta.now.terms here.now.ctx clause.now)) }
+{
+    for premise in clause.premises.as_slice() {
+        let instance = Equation {
+            left: theta.apply(alloc, &premise.left)?,
+            right: theta.apply(alloc, &premise.right)?,
+        };
+        if !premise_is_there(here, &instance) {
+            return Ok(false);
+        }
     }
-    let theta = entries_of(alloc, terms)?;
-    if !instance_within(clause, &theta) {
-        return Err(StepError::Why(Why::Limit));
-    }
-    Ok(instance(alloc, clause, &theta, ctx)?)
+    Ok(true)
 }
 
 /// Whether each premise of the instance is among the premises here or has identical sides.

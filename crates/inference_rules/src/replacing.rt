@@ -1,6 +1,7 @@
 ghost use Rattle.std.specs.Prelude.{◌≡◌, [], IfOk, MatchOption, Contains};
 ghost use Rattle.std.specs.List.{AllZip};
 ghost use Rattle.spec_core.specs.declared.records.Spec.{Spec as SpecOf};
+ghost use Rattle.clause_core.specs.ClauseInstances.{clause_instance, equation_instance};
 ghost use Rattle.clause_core.specs.Limits.{IsWithin};
 ghost use Rattle.clause_core.specs.Replacing.{Rewrites, context_row, hyp_row, lemma_row, rewritten_by};
 ghost use Rattle.clause_core.specs.Places.{side as side_of};
@@ -10,11 +11,13 @@ ghost use Rattle.inference_rules.specs.Nodes.{referred_to};
 
 use crate::making::{child_holding, reference};
 use crate::nodes::{Node, StepError};
-use crate::referring::{instance_here, node_at, premises_are_there, usable_goal};
-use clause_core::{Children, Clause, Place, Reference, Why, of_goal};
+use crate::referring::{entries_here, instances_are_there, node_at, usable_goal};
+use crate::terms::is_instance_by;
+use clause_core::{Children, Clause, Place, Reference, Why, instance, of_goal};
 use path_order::TermOrder;
 use spec_core::{Equation, Spec};
 use std::alloc::Global;
+use substitutions::Subst;
 use term_core::{Name, OutOfMemory, Seq, Term, front};
 
 /// How an equation that is referred to rewrites: by the instance with these terms for its
@@ -46,8 +49,8 @@ pub(crate) fn context<O: TermOrder>(
     if !side(premise, left).same(term) {
         return Err(StepError::Why(Why::DoesNotFit));
     }
-    let refs = Seq::new(alloc);
-    child_holding(alloc, order, here, place, term, side(premise, !left), refs)
+    let other = side(premise, !left).copy(alloc)?;
+    child_holding(alloc, order, here, place, term, other, Seq::new(alloc))
 }
 
 /// `hyp`: the term at the place is a side of the one conclusion of an instance of the node of this
@@ -110,62 +113,67 @@ fn rewrite<O: TermOrder>(
         (rewritten_by spec.now here.now clause.now
         how.now.terms.now how.now.place.now how.now.left (referred_to node)) result }
 {
-    let instance = instance_here(alloc, spec, here, clause, how.terms)?;
+    let theta = entries_here(alloc, spec, here, clause, how.terms)?;
     let Some(term) = here.term_at(how.place) else {
         return Err(StepError::Why(Why::NoSuchPlace));
     };
-    let Some(equation) = usable_conclusion(here, &instance, term, how.left) else {
+    let Some(equation) = usable_conclusion(alloc, here, clause, &theta, term, how.left)? else {
         return Err(StepError::Why(Why::DoesNotFit));
     };
-    let refs = references(alloc, order, here, node, &instance)?;
-    child_holding(
-        alloc,
-        order,
-        here,
-        how.place,
-        term,
-        side(equation, !how.left),
-        refs,
-    )
+    let refs = references(alloc, order, here, node, clause, &theta)?;
+    let other = theta.apply(alloc, side(equation, !how.left))?;
+    child_holding(alloc, order, here, how.place, term, other, refs)
 }
 
-/// A reference to the node of this number, if there is one, with its instance.
+/// A reference to the node of this number, if there is one, with the instance of its clause.
 fn references<O: TermOrder>(
     alloc: Global,
     order: &O,
     here: &Clause,
     node: Option<u32>,
-    instance: &Clause,
+    clause: &Clause,
+    theta: &Subst,
 ) -> Result<Seq<Reference>, OutOfMemory>
     requires here { IsWithin here.now }
-    requires instance { IsWithin instance.now }
+    requires instance { IsWithin (clause_instance theta.now.terms here.now.ctx clause.now) }
     ensures { IfOk result (AllZip (IsReference (O.above order.now) here.now)
-        (referred_to node instance.now)) }
+        (referred_to node (clause_instance theta.now.terms here.now.ctx clause.now))) }
 {
     let mut refs = Seq::new(alloc);
     if let Some(number) = node {
-        refs.push(reference(alloc, order, here, number, instance)?)?;
+        let instance = instance(alloc, clause, theta, here.ctx.as_slice())?;
+        refs.push(reference(alloc, order, here, number, &instance)?)?;
     }
     Ok(refs)
 }
 
-/// The one conclusion of the instance, if this side of it is the term and the premises of the
-/// instance are there.
+/// The one conclusion of the clause, if the instance of this side of it is the term and the
+/// premises of the instance are there.
 fn usable_conclusion<'a>(
+    alloc: Global,
     here: &Clause,
-    instance: &'a Clause,
+    clause: &'a Clause,
+    theta: &Subst,
     term: &Term,
     left: bool,
-) -> Option<&'a Equation>
-    ensures { MatchOption result (Rewrites here.now instance.now term.now left → ⊥)
-        (λ e. (rewrites : Rewrites here.now instance.now term.now left)
-        × (rewrites.equation ≡ e.now)) }
+) -> Result<Option<&'a Equation>, OutOfMemory>
+    ensures { IfOk result (λ found. MatchOption found
+        (Rewrites here.now (clause_instance theta.now.terms here.now.ctx clause.now)
+        term.now left → ⊥)
+        (λ e. (rewrites : Rewrites here.now
+        (clause_instance theta.now.terms here.now.ctx clause.now) term.now left)
+        × (rewrites.equation ≡ equation_instance theta.now.terms e.now))) }
 {
-    let (equation, others) = front(instance.conclusions.as_slice())?;
-    if others.is_empty() && side(equation, left).same(term) && premises_are_there(here, instance) {
-        return Some(equation);
+    let Some((equation, others)) = front(clause.conclusions.as_slice()) else {
+        return Ok(None);
+    };
+    if !others.is_empty() || !is_instance_by(theta, side(equation, left), term) {
+        return Ok(None);
     }
-    None
+    if !instances_are_there(alloc, here, clause, theta)? {
+        return Ok(None);
+    }
+    Ok(Some(equation))
 }
 
 /// The left side where true, the right one where false.
