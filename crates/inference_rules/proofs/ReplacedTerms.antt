@@ -67,36 +67,17 @@ pub side_instance : (entries : List (Option Tree)) (left : Bool) (e : Equation) 
 side_instance entries true e = refl
 side_instance entries false e = refl
 
-no_sources : {X Y : Type 0} (f : X → Y) (xs : List X) → map f xs ≡ [] → xs ≡ []
-no_sources f [] e = refl
-no_sources f (x ∷ xs) e = absurd (let q : f x ∷ map f xs ≡ [] = e in cc)
-
 -- the one conclusion of a clause whose instance rewrites
-module _ (entries : List (Option Tree)) (ctx : List SortId) (c d : Clause) (t : Tree) (left : Bool) where
-  pub no_conclusion : d.conclusions ≡ [] → Rewrites c (clause_instance entries ctx d) t left → ⊥
-  no_conclusion none r =
-      let q : [] ≡ r.equation ∷ [] = ap (λ ds. map (equation_instance entries) ds) (sym none) ∙ r.alone in
-      cc
-
-  module _ (e : Equation) (es : List Equation) (are : d.conclusions ≡ e ∷ es) where
-    pub rewrites :
-        es ≡ [] → apply entries (side left e) ≡ t → PremisesAreThere c (clause_instance entries ctx d) →
-        (r : Rewrites c (clause_instance entries ctx d) t left) × (r.equation ≡ equation_instance entries e)
-    rewrites none is there = (
-      record {
-        equation = equation_instance entries e;
-        alone = ap (λ ds. map (equation_instance entries) ds) (are ∙ ap (λ ds. e ∷ ds) none);
-        premises = there;
-        is = side_instance entries left e ∙ is;
-      },
-      refl,
-    )
-
-    pub rewrites_not :
-        (es ≡ [] → apply entries (side left e) ≡ t → PremisesAreThere c (clause_instance entries ctx d) → ⊥) →
-        Rewrites c (clause_instance entries ctx d) t left → ⊥
-    rewrites_not h r =
-        let q : equation_instance entries e ∷ map (equation_instance entries) es ≡ r.equation ∷ [] = ap (λ ds. map (equation_instance entries) ds) (sym are) ∙ r.alone in
-        let same : equation_instance entries e ≡ r.equation = cc in
-        let none : map (equation_instance entries) es ≡ [] = cc in
-        h (no_sources (equation_instance entries) es none) (sym (side_instance entries left e) ∙ ap (λ z. side left z) same ∙ r.is) r.premises
+pub rewrites :
+    (entries : List (Option Tree)) (ctx : List SortId) (c d : Clause) (t : Tree) (left : Bool) (e : Equation) (es : List Equation) →
+    d.conclusions ≡ e ∷ es → es ≡ [] → apply entries (side left e) ≡ t → PremisesAreThere c (clause_instance entries ctx d) →
+    (r : Rewrites c (clause_instance entries ctx d) t left) × (r.equation ≡ equation_instance entries e)
+rewrites entries ctx c d t left e es are none is there = (
+  record {
+    equation = equation_instance entries e;
+    alone = ap (λ ds. map (equation_instance entries) ds) (are ∙ ap (λ ds. e ∷ ds) none);
+    premises = there;
+    is = side_instance entries left e ∙ is;
+  },
+  refl,
+)
