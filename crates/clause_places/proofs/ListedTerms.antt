@@ -9,13 +9,16 @@ use Rattle.std.proofs.lemmas.Simd.{map-map}
 use Rattle.std.proofs.lemmas.Option.{slice_get-map, slice_get-get_or}
 use Rattle.term_core.specs.Tree.{Tree, Trees, app, none, some, trees_of, list_of}
 use Rattle.term_core.specs.References.{terms_of}
+use Rattle.term_core.proofs.Items.{taken_next}
 use Rattle.term_core.proofs.Trees.{list_of-trees_of}
 use Rattle.spec_core.specs.declared.records.Equation.{Equation}
 use Rattle.clause_core.specs.declared.clauses.Clause.{Clause}
 use Rattle.clause_core.specs.Clauses.{sides_of, sides}
 use Rattle.clause_core.proofs.Sides.{sides_next}
 use Rattle.clause_places.specs.Spots.{Spot, paths, argument_paths, side_spots, equation_spots, spots, spot_of_index}
+use Rattle.clause_places.specs.Counts.{counts_of}
 use Rattle.clause_places.specs.Listed.{subterms}
+use Rattle.clause_places.specs.declared.terms.Counts.{Counts}
 
 abbrev term_of : Spot → Tree
 term_of s = s.term
@@ -76,6 +79,21 @@ equation_added es k e old made first more lt is before left right =
     ∙ ap (λ ts. ts ++ both) before
     ∙ append_assoc old done both
     ∙ ap (λ ts. old ++ ts) (sym all)
+
+-- and how many places its sides have
+pub counts_added :
+    (es : List Equation) (k : ℕ) (e : Equation) (counts more : List Counts) (left right : ℕ) →
+    k < length es → e ≡ get_or es k e → counts ≡ map counts_of (take k es) →
+    left ≡ length (paths e.left) → right ≡ length (paths e.right) →
+    more ≡ counts ++ (record { left = left; right = right }) ∷ [] →
+    more ≡ map counts_of (take (k + 1) es)
+counts_added es k e counts more left right lt is before many other added =
+    let made = λ (n m : ℕ). let c : Counts = record { left = n; right = m } in c in
+    let own : made left right ≡ counts_of e = λ i. made (many i) (other i) in
+    added
+    ∙ (λ i. before i ++ own i ∷ [])
+    ∙ sym (map-append counts_of (take k es) (e ∷ []))
+    ∙ ap (λ ds. map counts_of ds) (sym (taken_next es k e lt is))
 
 in_side :
     (conclusion : Bool) (n : ℕ) (left : Bool) (t : Tree) →

@@ -1,10 +1,9 @@
 -- A walk along places that looks for the one of an index: along lists one behind the other, a term,
 -- its arguments, a side, and a clause.
-use Rattle.std.proofs.Common.{◌≡◌, ℕ, zero, suc, ◌+◌, ◌-◌, ◌<◌, ◌≤◌, List, [], ◌∷◌, ◌++◌, Bool, true, false, Some, None, refl, ap, sym, ◌∙◌, subst, arith, length, map, take, append_assoc}
-use Rattle.std.specs.Prelude.{Option, SomeIff, option_map, slice_get}
+use Rattle.std.proofs.Common.{◌≡◌, ℕ, zero, suc, ◌+◌, ◌-◌, ◌<◌, ◌≤◌, List, [], ◌∷◌, ◌++◌, Bool, true, false, Some, None, refl, ap, sym, ◌∙◌, subst, arith, length, map, append_assoc}
+use Rattle.std.specs.Prelude.{Option, SomeIff, option_map, reverse, slice_get}
 use Rattle.std.specs.List.{AllByRecursion}
-use Rattle.std.proofs.Math.Seq.{take-append_seam}
-use Rattle.std.proofs.lemmas.List.{append-nil, length-append, length-map}
+use Rattle.std.proofs.lemmas.List.{append-nil, length-append, length-map, reverse-append, reverse-reverse}
 use Rattle.std.proofs.lemmas.Option.{slice_get-map, slice_get-get_or}
 use Rattle.term_core.specs.Tree.{Tree, var, app, trees_of, list_of}
 use Rattle.term_core.specs.Measure.{weight, list_weight, list_weight_is}
@@ -66,16 +65,19 @@ module _ (old new : List ℕ) where
 abbrev in_argument : ℕ → List ℕ × Tree → List ℕ × Tree
 in_argument n p = (n ∷ p.0, p.1)
 
--- the path of the index is one of an argument
+-- the path of the index is one of an argument, whose number comes last
 pub passes_in_argument :
-    (n : ℕ) (old long new : List ℕ) (ps more : List (List ℕ × Tree)) (k : ℕ) →
-    long ≡ old ++ n ∷ [] → Passes ps k long new None →
+    (n : ℕ) (old below new : List ℕ) (ps more : List (List ℕ × Tree)) (k : ℕ) →
+    new ≡ below ++ n ∷ [] → Passes ps k old below None →
     Passes (map (in_argument n) ps ++ more) k old new None
-passes_in_argument n old long new ps more k there h =
+passes_in_argument n old below new ps more k there h =
     let at : slice_get (map (in_argument n) ps) k ≡ Some (in_argument n h.0) =
     slice_get-map (in_argument n) ps k ∙ ap (λ o. option_map (in_argument n) o) h.1 in
-    let path : new ≡ old ++ (n ∷ h.0.0) =
-    h.2 ∙ ap (λ q. q ++ h.0.0) there ∙ append_assoc old (n ∷ []) h.0.0 in
+    let path : new ≡ old ++ reverse (n ∷ h.0.0) =
+    there
+    ∙ ap (λ q. q ++ n ∷ []) h.2
+    ∙ append_assoc old (reverse h.0.0) (n ∷ [])
+    ∙ ap (λ q. old ++ q) (sym (reverse-append (n ∷ []) h.0.0)) in
     passes_before old new (map (in_argument n) ps) more k (in_argument n h.0, at, path)
 
 -- the arguments behind one that is passed
@@ -125,11 +127,11 @@ module _ (t : Tree) (f : ℕ) (ts us : List Tree) (is : app f (trees_of ts) ≡ 
 -- a walk along arguments
 module _ (n : ℕ) (t : Tree) (ts us : List Tree) (first : ts ≡ t ∷ us) (k : ℕ) (old : List ℕ) where
   pub found_in_argument :
-      (long new : List ℕ) → long ≡ old ++ n ∷ [] → Passes (paths t) k long new None →
+      (below new : List ℕ) → new ≡ below ++ n ∷ [] → Passes (paths t) k old below None →
       Passes (argument_paths n (trees_of ts)) k old new None
-  found_in_argument long new there h =
+  found_in_argument below new there h =
       subst (λ vs. Passes (argument_paths n (trees_of vs)) k old new None) (sym first)
-      (passes_in_argument n old long new (paths t) (argument_paths (suc n) (trees_of us)) k there h)
+      (passes_in_argument n old below new (paths t) (argument_paths (suc n) (trees_of us)) k there h)
 
   pub passes_arguments :
       (base new : List ℕ) (left : ℕ) (r : Option ℕ) → k ≡ length (paths t) + left → base ≡ old →
@@ -146,7 +148,7 @@ module _ (n : ℕ) (t : Tree) (ts us : List Tree) (first : ts ≡ t ∷ us) (k :
 -- a walk along a side
 pub found_in_side :
     (conclusion : Bool) (number : ℕ) (left : Bool) (t : Tree) (k : ℕ) (empty new path : List ℕ) →
-    empty ≡ [] → path ≡ new → Passes (paths t) k empty new None →
+    empty ≡ [] → path ≡ reverse new → Passes (paths t) k empty new None →
     Finds (side_spots conclusion number left t) k
     (Found (record { conclusion = conclusion; number = number; left = left; path = path }))
 found_in_side conclusion number left t k empty new path none is h =
@@ -157,7 +159,8 @@ found_in_side conclusion number left t k empty new path none is h =
     let made : Spot = record { place = place p.0; term = p.1 } in made in
     let at : slice_get (map spot (paths t)) k ≡ Some (spot h.0) =
     slice_get-map spot (paths t) k ∙ ap (λ o. option_map spot o) h.1 in
-    let same : path ≡ h.0.0 = is ∙ h.2 ∙ ap (λ q. q ++ h.0.0) none in
+    let turned : new ≡ reverse h.0.0 = h.2 ∙ ap (λ q. q ++ reverse h.0.0) none in
+    let same : path ≡ h.0.0 = is ∙ ap (λ q. reverse q) turned ∙ reverse-reverse h.0.0 in
     (spot h.0, at, ap place same)
 
 -- a walk along a clause
@@ -214,13 +217,3 @@ pub lighter_arguments :
     list_weight us < weight t
 lighter_arguments t f ts us e same =
     subst (λ x. list_weight us < weight x) e (rw same (omega (arith, list_weight_is ts)))
-
--- a path from which a number is popped that was pushed to it
-pub popped :
-    (long same new base : List ℕ) (n len : ℕ) → length same ≡ len → long ≡ base ++ n ∷ [] →
-    same ≡ long → new ≡ take (len - 1) same → new ≡ base
-popped long same new base n len l there kept taken =
-    let longer : length same ≡ length base + 1 =
-    ap (λ (path : List ℕ). length path) (kept ∙ there) ∙ length-append base (n ∷ []) in
-    let cut : len - 1 ≡ length base = omega (arith, longer, l) in
-    taken ∙ (λ i. take (cut i) ((kept ∙ there) i)) ∙ take-append_seam base (n ∷ [])

@@ -7,6 +7,7 @@ pub mod Laws
 pub mod Examples
 -- What only this crate's own contracts speak of.
 pub mod Codes
+pub mod Counts
 pub mod Listed
 pub mod Walk
 pub mod Demand

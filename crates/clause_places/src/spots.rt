@@ -2,7 +2,7 @@ ghost use Rattle.std.specs.Prelude.{◌≡◌, ◌<◌, IfOk, length};
 ghost use Rattle.clause_places.specs.Spots.{spots as spots_in, spot_of_index};
 ghost use Rattle.clause_places.specs.Numbers.{NumbersFit};
 
-use crate::terms::terms_of;
+use crate::terms::{Counts, add_equations, no_terms};
 use crate::walk::{Search, place_in_equations};
 use clause_core::{Clause, Place};
 use std::alloc::Global;
@@ -15,6 +15,9 @@ use term_core::{OutOfMemory, Term, TermRefs};
 pub struct Spots<'a> {
     clause: &'a Clause,
     terms: TermRefs<'a>,
+    /// How many there are in the sides of each premise, and of each conclusion.
+    premises: Vec<Counts>,
+    conclusions: Vec<Counts>,
 }
 
 impl<'a> Model for Spots<'a> {
@@ -31,7 +34,7 @@ impl<'a> Model for Spots<'a> {
 
     ghost view = { λ a. spots a.clause.now };
 
-    ghost invariant = { λ a. AreListed a.clause.now a.terms };
+    ghost invariant = { λ a. AreListed a.clause.now a.terms a.premises.items a.conclusions.items };
 }
 
 impl<'a> Spots<'a> {
@@ -40,8 +43,15 @@ impl<'a> Spots<'a> {
         requires { NumbersFit clause.now }
         ensures { IfOk result (λ made. made ≡ spots_in clause.now) }
     {
-        let terms = terms_of(alloc, clause)?;
-        Ok(Spots { clause, terms })
+        let mut terms = no_terms(alloc)?;
+        let premises = add_equations(alloc, clause.premises.as_slice(), &mut terms)?;
+        let conclusions = add_equations(alloc, clause.conclusions.as_slice(), &mut terms)?;
+        Ok(Spots {
+            clause,
+            terms,
+            premises,
+            conclusions,
+        })
     }
 
     pub fn len(&self) -> usize
@@ -65,12 +75,16 @@ impl<'a> Spots<'a> {
     {
         let premises = self.clause.premises.as_slice();
         let conclusions = self.clause.conclusions.as_slice();
-        match place_in_equations(alloc, false, 1, premises, index)? {
+        let counts = self.premises.as_slice();
+        match place_in_equations(alloc, false, 1, premises, counts, index)? {
             Search::Found(place) => Ok(place),
-            Search::Left(left) => match place_in_equations(alloc, true, 1, conclusions, left)? {
-                Search::Found(place) => Ok(place),
-                Search::Left(_) => unreachable!(),
-            },
+            Search::Left(left) => {
+                let counts = self.conclusions.as_slice();
+                match place_in_equations(alloc, true, 1, conclusions, counts, left)? {
+                    Search::Found(place) => Ok(place),
+                    Search::Left(_) => unreachable!(),
+                }
+            }
         }
     }
 }

@@ -1,11 +1,13 @@
-ghost use Rattle.std.specs.Prelude.{◌+◌, ◌≤◌, ◌++◌, IfOk, true, false, length};
+ghost use Rattle.std.specs.Prelude.{◌≡◌, ◌+◌, ◌≤◌, ◌++◌, IfOk, true, false, length, map};
 ghost use Rattle.std.specs.List.{AllByRecursion};
 ghost use Rattle.term_core.specs.Tree.{trees_of};
 ghost use Rattle.clause_core.specs.Clauses.{sides_of};
 ghost use Rattle.clause_places.specs.Spots.{equation_spots, side_spots, paths, argument_paths};
+ghost use Rattle.clause_places.specs.Counts.{counts_of};
 ghost use Rattle.clause_places.specs.Numbers.{IsNarrow, AreNarrow};
 ghost use Rattle.clause_places.specs.Walk.{Finds, Passes};
 
+use crate::terms::Counts;
 use clause_core::Place;
 use spec_core::Equation;
 use std::alloc::Global;
@@ -28,25 +30,27 @@ pub(crate) enum Search {
 }
 
 /// Looks for the place of this index among those of the equations, of which the first one has the
-/// number.
+/// number, and whose sides have so many places. A side that is passed is not walked along.
 pub(crate) fn place_in_equations(
     alloc: Global,
     conclusion: bool,
     number: u16,
     equations: &[Equation],
+    counts: &[Counts],
     index: usize,
 ) -> Result<Search, OutOfMemory>
     requires few { number + length equations.now ≤ 65 }
     requires narrow { AllByRecursion IsNarrow (sides_of equations.now) }
+    requires counts { counts.now ≡ map counts_of equations.now }
     ensures { IfOk result (Finds (equation_spots conclusion number equations.now) index) }
 {
     match equations {
         [] => Ok(Search::Left(index)),
         [first, others @ ..] => {
-            match place_in_equation(alloc, conclusion, number, first, index)? {
+            match place_in_equation(alloc, conclusion, number, first, counts[0], index)? {
                 Search::Found(place) => Ok(Search::Found(place)),
                 Search::Left(left) => {
-                    place_in_equations(alloc, conclusion, number + 1, others, left)
+                    place_in_equations(alloc, conclusion, number + 1, others, &counts[1..], left)
                 }
             }
         }
@@ -58,10 +62,12 @@ fn place_in_equation(
     conclusion: bool,
     number: u16,
     equation: &Equation,
+    counts: Counts,
     index: usize,
 ) -> Result<Search, OutOfMemory>
     requires left { IsNarrow equation.now.left }
     requires right { IsNarrow equation.now.right }
+    requires counts { counts ≡ counts_of equation.now }
     ensures { IfOk result (Finds (side_spots conclusion number true equation.now.left
         ++ side_spots conclusion number false equation.now.right) index) }
 {
@@ -75,9 +81,9 @@ fn place_in_equation(
         number,
         left: false,
     };
-    match place_in_side(alloc, left, &equation.left, index)? {
+    match place_in_side(alloc, left, &equation.left, counts.left, index)? {
         Search::Found(place) => Ok(Search::Found(place)),
-        Search::Left(rest) => place_in_side(alloc, right, &equation.right, rest),
+        Search::Left(rest) => place_in_side(alloc, right, &equation.right, counts.right, rest),
     }
 }
 
@@ -85,26 +91,35 @@ fn place_in_side(
     alloc: Global,
     side: Side,
     term: &Term,
+    count: usize,
     index: usize,
 ) -> Result<Search, OutOfMemory>
-    requires { IsNarrow term.now }
+    requires narrow { IsNarrow term.now }
+    requires count { count ≡ length (paths term.now) }
     ensures { IfOk result
         (Finds (side_spots side.conclusion side.number side.left term.now) index) }
 {
+    if index >= count {
+        return Ok(Search::Left(index - count));
+    }
     let mut path = Vec::new(alloc);
     match pass_term(term, index, &mut path)? {
-        Some(left) => Ok(Search::Left(left)),
-        None => Ok(Search::Found(Place {
-            conclusion: side.conclusion,
-            number: side.number,
-            left: side.left,
-            path: Seq::from_vec(path),
-        })),
+        Some(_) => unreachable!(),
+        None => {
+            path.reverse();
+            Ok(Search::Found(Place {
+                conclusion: side.conclusion,
+                number: side.number,
+                left: side.left,
+                path: Seq::from_vec(path),
+            }))
+        }
     }
 }
 
 /// Passes the paths of the term, and answers how far the index is behind them. None where it comes
-/// to the path of this index, which then stands behind the path that was given.
+/// to the path of this index, which then stands behind the numbers that were given, its last number
+/// first: only the path that is found is written.
 #[cycle(pass)]
 fn pass_term(term: &Term, index: usize, path: &mut Vec<u8>) -> Result<Option<usize>, OutOfMemory>
     requires { IsNarrow term.now }
@@ -134,15 +149,12 @@ fn pass_arguments(
 {
     match terms {
         [] => Ok(Some(index)),
-        [first, others @ ..] => {
-            path.push(number)?;
-            match pass_term(first, index, path)? {
-                None => Ok(None),
-                Some(left) => {
-                    path.pop();
-                    pass_arguments(number + 1, others, left, path)
-                }
+        [first, others @ ..] => match pass_term(first, index, path)? {
+            None => {
+                path.push(number)?;
+                Ok(None)
             }
-        }
+            Some(left) => pass_arguments(number + 1, others, left, path),
+        },
     }
 }

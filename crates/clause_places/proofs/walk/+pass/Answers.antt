@@ -6,7 +6,7 @@ use Rattle.term_core.proofs.Items.{if_ok_map}
 use Rattle.term_core.proofs.Trees.{slice_front}
 use Rattle.clause_places.specs.Spots.{paths, argument_paths}
 use Rattle.clause_places.specs.Walk.{Passes}
-use Rattle.clause_places.proofs.WalkedPlaces.{passes_variable, passes_call, found_in_call, found_in_argument, passes_arguments, narrow_arguments, lighter_arguments, popped}
+use Rattle.clause_places.proofs.WalkedPlaces.{passes_variable, passes_call, found_in_call, found_in_argument, passes_arguments, narrow_arguments, lighter_arguments}
 use Rattle.clause_places.proofs.walk.+pass.Goals as goal
 
 pub pass_term-pass_arguments-requires : goal.pass_term-pass_arguments-requires
@@ -46,14 +46,14 @@ pass_term-returns-in-None t c =
     c.as_slice.ensures c.args.index c.args.path.now.items c.pass_arguments.new.path.items
     (rw c.in-None.is at c.in_ok-left-in-App.ensures)
 
-pub pass_arguments-returns-in-None : goal.pass_arguments-returns-in-None
-pass_arguments-returns-in-None t c =
+pub pass_arguments-returns-in_ok-push-in-None : goal.pass_arguments-returns-in_ok-push-in-None
+pass_arguments-returns-in_ok-push-in-None t c =
     let ts = c.args.terms.now in
     let first : ts ≡ c.first-item.result ∷ take (length ts - 1) (drop 1 ts) =
     slice_front ts c.first-item.result c.in-len1-up.len_at_least c.first-item.is in
     found_in_argument c.args.number c.first-item.result ts (take (length ts - 1) (drop 1 ts)) first
-    c.args.index c.args.path.now.items c.push.new.self.items c.pass_term.new.path.items
-    c.in_ok-push-in-len1-up.ensures.items (rw c.in-None.is at c.in_ok-pass_term-in-len1-up.ensures)
+    c.args.index c.args.path.now.items c.pass_term.new.path.items c.push.new.self.items
+    c.in_ok-push-in-None.ensures.items (rw c.in-None.is at c.in_ok-pass_term-in-len1-up.ensures)
 
 pub pass_arguments-returns-in-Some : goal.pass_arguments-returns-in-Some
 pass_arguments-returns-in-Some t c =
@@ -63,19 +63,14 @@ pass_arguments-returns-in-Some t c =
     let k = c.args.index in
     let n = c.args.number in
     let old = c.args.path.now.items in
-    let base = c.pop.new.self.items in
+    let base = c.pass_term.new.path.items in
     let new = c.pass_arguments.new.path.items in
     let first : ts ≡ u ∷ others =
     slice_front ts u c.in-len1-up.len_at_least c.first-item.is in
-    let passed : Passes (paths u) k c.push.new.self.items c.pass_term.new.path.items
-    (Some c.in-Some.left) =
+    let passed : Passes (paths u) k old base (Some c.in-Some.left) =
     rw c.in-Some.is at c.in_ok-pass_term-in-len1-up.ensures in
-    let same : base ≡ old =
-    popped c.push.new.self.items c.pass_term.new.path.items base old n c.pass_term.new.path.len
-    (sym c.pass_term.new.path.ok.0) c.in_ok-push-in-len1-up.ensures.items passed.1
-    c.pop.ensures.rest in
     if_ok_map c.pass_arguments.result
     (Passes (argument_paths (n + 1) (trees_of others)) c.in-Some.left base new)
     (Passes (argument_paths n (trees_of ts)) k old new)
-    (λ r h. passes_arguments n u ts others first k old base new c.in-Some.left r passed.0 same h)
+    (λ r h. passes_arguments n u ts others first k old base new c.in-Some.left r passed.0 passed.1 h)
     c.pass_arguments.ensures
