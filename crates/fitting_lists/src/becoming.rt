@@ -46,7 +46,7 @@ fn roots_agree(pattern: &Term, term: &Term) -> bool
 }
 
 /// The same of the roots, and of those of the arguments. It goes no deeper.
-pub(crate) fn heads_agree(pattern: &Term, term: &Term) -> bool
+pub fn heads_agree(pattern: &Term, term: &Term) -> bool
     ensures { (list : List Tree) → instance list pattern.now ≡ term.now → IsTrue result }
 {
     match (&pattern.node, &term.node) {

@@ -27,7 +27,7 @@ mod occurring;
 mod spines;
 mod term_lists;
 
-pub use becoming::may_become;
+pub use becoming::{heads_agree, may_become};
 pub use laws::{spines_are_along, spines_may_become, worked_examples};
 pub use leading_equations::{LeadingPlace, leading};
 pub use matcher::Matcher;

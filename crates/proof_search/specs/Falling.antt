@@ -1,6 +1,6 @@
 -- Steps that rewrite a term to one that is less: whether they do is told by the two terms. Where
 -- one side of the equation is above the other one, no step from the other one does.
-use Rattle.std.specs.Prelude.{◌≡◌, ◌⊎◌, ℕ, ◌≤◌, true, List, [], ◌∷◌, Some, slice_get}
+use Rattle.std.specs.Prelude.{◌≡◌, ℕ, ◌≤◌, Bool, true, List, [], ◌∷◌, Some, slice_get}
 use Rattle.std.specs.List.{AllByRecursion}
 use Rattle.term_core.specs.Tree.{Tree, instance, tree_size}
 use Rattle.term_core.specs.declared.ids.SortId.{SortId}
@@ -8,18 +8,18 @@ use Rattle.spec_core.specs.Declarations.{IsDeclared}
 use Rattle.spec_core.specs.Sig.{Sig, IsSort}
 use Rattle.spec_core.specs.Sorts.{Sorted}
 use Rattle.spec_core.specs.WellSorted.{HasFewArguments}
+use Rattle.spec_core.specs.declared.records.Equation.{Equation}
 use Rattle.spec_core.specs.declared.records.Goal.{Goal}
 use Rattle.clause_core.specs.declared.clauses.Clause.{Clause}
 use Rattle.clause_core.specs.Clauses.{ClauseIsSorted}
+use Rattle.clause_core.specs.Places.{side}
 use Rattle.clause_core.specs.Tidied.{goal_clause}
-use Rattle.fitting_lists.specs.Spines.{IsAlong}
 use Rattle.inference_rules.specs.Answers.{clauses_of}
 use Rattle.proof_search.specs.declared.at.At.{At}
 use Rattle.proof_search.specs.declared.falling_sides.FallingSides.{FallingSides}
 use Rattle.proof_search.specs.declared.rewriting.Rewriting.{Rewriting}
-use Rattle.proof_search.specs.declared.side_spines.SideSpines.{SideSpines}
 use Rattle.proof_search.specs.Referring.{Target, node, goal, target_of}
-use Rattle.proof_search.specs.FallingSides.{AreFalling, AreLemmaSides}
+use Rattle.proof_search.specs.FallingSides.{AreFalling, AreLemmaSides, marked}
 use Rattle.proof_search.specs.SideSpines.{side_spines}
 
 -- a goal of this name has this clause
@@ -49,11 +49,11 @@ pub record CanRewrite (above : Tree → Tree → Type 0) (at : At) (r : Rewritin
   pub falling : AreSides above (target_of r.referral.now) r.clause.now r.sides
   pub spines : r.spines ≡ side_spines r.equation.now
 
--- a side that may fall is along the term, by the spines of the sides
-abbrev pub MayFit : FallingSides → SideSpines → Tree → Type 0
-MayFit sides spines t =
-    ((sides.left ≡ true) × IsAlong spines.left t)
-    ⊎ ((sides.right ≡ true) × IsAlong spines.right t)
+-- a side that may fall becomes the term by some list
+abbrev pub SideFits : FallingSides → Equation → Tree → Type 0
+SideFits sides e t =
+    (left : Bool) × (list : List Tree) × (marked left sides ≡ true)
+    × (instance list (side left e) ≡ t)
 
 -- the term is above the other one, and both are small enough for the order's test
 pub record FallsTo (above : Tree → Tree → Type 0) (t u : Tree) : Type 0 where

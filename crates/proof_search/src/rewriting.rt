@@ -1,13 +1,16 @@
-ghost use Rattle.std.specs.Prelude.{◌≡◌, ◌↔◌, IsTrue, IfOk};
+ghost use Rattle.std.specs.Prelude.{◌≡◌, List, IsTrue, IfOk};
+ghost use Rattle.term_core.specs.Tree.{Tree, instance};
 ghost use Rattle.term_core.specs.References.{terms_of};
 ghost use Rattle.clause_core.specs.Clauses.{ClauseIsSorted};
 ghost use Rattle.clause_core.specs.Places.{side as side_of};
+ghost use Rattle.fitting_lists.specs.Spines.{spine_of};
 ghost use Rattle.routine_proof.specs.Candidates.{all_less, each};
 ghost use Rattle.proof_search.specs.Chosen.{clause_of, lemma_uses_by};
 ghost use Rattle.proof_search.specs.FallingSides.{KeepsSides};
 ghost use Rattle.proof_search.specs.Taking.{IsAt, IsThere, IsTaken, IsFound, SaysAt, place_of, term_of};
 ghost use Rattle.proof_search.specs.Referring.{node, target_of, rewritings, falling_rewriting, falling_rewritings, rewriting_step as step_by};
-ghost use Rattle.proof_search.specs.Falling.{IsReferred, CanRewrite, AreSides, MayFit};
+ghost use Rattle.proof_search.specs.Falling.{IsReferred, CanRewrite, AreSides, SideFits};
+ghost use Rattle.proof_search.specs.SideSpines.{side_spines};
 
 use crate::at::{Asked, At, taken};
 use crate::falling_sides::{FallingSides, only_conclusion};
@@ -16,7 +19,7 @@ use crate::referring::Referral;
 use crate::side_spines::SideSpines;
 use clause_core::{Clause, tidying_laws};
 use clause_places::places_are_there;
-use fitting_lists::{Matcher, copies, spines_are_along};
+use fitting_lists::{Matcher, Spine, copies, heads_agree, spines_are_along};
 use path_order::TermOrder;
 use place_comparison::place_decides;
 use routine_proof::Move;
@@ -35,13 +38,24 @@ struct Rewriting<'a> {
 }
 
 impl<'a> Rewriting<'a> {
-    /// Whether a side that may fall may become the term, as far as its spine tells.
+    /// Whether a side that may fall may become the term.
     fn may_fit(&self, term: &Term) -> bool
-        ensures { IsTrue result ↔ MayFit self.now.sides self.now.spines term.now }
+        requires { self.now.spines ≡ side_spines self.now.equation.now }
+        ensures { SideFits self.now.sides self.now.equation.now term.now → IsTrue result }
     {
-        (self.sides.left && self.spines.left.is_along(term))
-            || (self.sides.right && self.spines.right.is_along(term))
+        (self.sides.left && may_become(&self.equation.left, self.spines.left, term))
+            || (self.sides.right && may_become(&self.equation.right, self.spines.right, term))
     }
+}
+
+/// Whether the side, which has this spine, may become the term: as far as the spine tells, and the
+/// symbols at the roots of both and of their arguments.
+fn may_become(side: &Term, spine: Spine, term: &Term) -> bool
+    requires { spine ≡ spine_of side.now }
+    ensures { (list : List Tree) → instance list side.now ≡ term.now → IsTrue result }
+{
+    spines_are_along();
+    spine.is_along(term) && heads_agree(side, term)
 }
 
 /// The first step that rewrites by node 0 as a hypothesis.
@@ -125,7 +139,6 @@ fn first_rewriting<'a, O: TermOrder>(
     places_are_there();
     place_decides(order);
     never_rises(order);
-    spines_are_along();
     let Some(equation) = only_conclusion(clause) else {
         return Ok(None);
     };

@@ -3,10 +3,8 @@ use Rattle.std.specs.Prelude.{is_some}
 use Rattle.term_core.specs.Tree.{Tree}
 use Rattle.clause_places.specs.Spots.{spots, spot_of_index}
 use Rattle.routine_proof.specs.Candidates.{Gives}
-use Rattle.proof_search.specs.declared.side_spines.SideSpines.{SideSpines}
-use Rattle.proof_search.specs.Falling.{MayFit}
+use Rattle.proof_search.specs.Falling.{SideFits}
 use Rattle.proof_search.specs.Referring.{target_of, rewritings_at}
-use Rattle.proof_search.specs.SideSpines.{side_spines}
 use Rattle.proof_search.specs.Taking.{SaysAt}
 use Rattle.proof_search.proofs.FallingSteps.{none_rewrites}
 use Rattle.proof_search.proofs.PermutedSteps.{first_by_sides}
@@ -66,15 +64,14 @@ loop-index-preserved-then-not-may_fit g c =
     let e = c.in-Some.equation.now in
     let sides = c.args.sides in
     let target = target_of c.args.referral.now in
-    let unfit : MayFit sides (side_spines e) spot.term → ⊥ = λ fits.
+    let unfit : SideFits sides e spot.term → ⊥ = λ fits.
     not_true c.may_fit.result c.if-not-may_fit.true
-    (c.may_fit.ensures.1
-    (subst (λ (x : SideSpines × Tree). MayFit sides x.0 x.1)
-    (λ i. (sym c.of.ensures i, sym c.term.ensures i)) fits)) in
+    (c.may_fit.ensures
+    (subst (λ (t : Tree). SideFits sides e t) (sym c.term.ensures) fits)) in
     let first = first_by_sides above d sides e c.in-Some.ensures at c.requires.at c.requires.sorted
     target c.requires.falling c.place_decides.ensures c.never_rises.ensures c.requires.referred
     spot None
-    (none_fits c.spines_are_along.ensures says target d spot.place spot.term e sides unfit) in
+    (none_fits says target d spot.place spot.term e sides unfit) in
     skipped_at (Gives says) (spots at.here.now) (rewritings_at target d) k spot
     (spot_listed at c.requires.at.spots k lt) c.loop-index.invariant first
 
