@@ -9,6 +9,7 @@ mod RuleNumbers
 mod LemmaGoals
 -- The entries of the list.
 mod OtherRules
+mod UnfitRules
 mod PermutedSteps
 mod ListedNodes
 mod LemmaClauses

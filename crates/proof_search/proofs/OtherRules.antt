@@ -48,7 +48,7 @@ module _ (above : Tree → Tree → Type 0) (at : At) (place : Place) (number : 
   fitting by_case (inr q) = never made _ q.1
 
 -- no instance of a left side is a variable
-not_variable : (sig : Sig) (left : Tree) (list : List Tree) (n : ℕ) → IsLeft sig left →
+pub not_variable : (sig : Sig) (left : Tree) (list : List Tree) (n : ℕ) → IsLeft sig left →
     instance list left ≡ var n → ⊥
 not_variable sig (var m) list n is e = is
 not_variable sig (app g us) list n is e = let q : app g (instances list us) ≡ var n = e in cc
@@ -87,6 +87,17 @@ module _ (above : Tree → Tree → Type 0) (at : At) (is : IsAt at) (entry : By
         NoneIs (Gives (SaysAt above at)) (Steps n)
     none_unfit n unfit = no_step n (λ f.
         unfit f.by_number (record {
+          terms = f.fits.terms;
+          long = f.fits.long;
+          is = instance_there f;
+        }))
+
+    -- where none fits
+    pub none_where_unfit :
+        ((n : ℕ) (by : RuleAt at.setting.now.spec.now n) → IsInstance by.rule there.term → ⊥) →
+        (ns : List ℕ) → NoneIs (Gives (SaysAt above at)) (rulings_by entry place ns)
+    none_where_unfit unfit ns = no_steps ns (λ n f.
+        unfit n f.by_number (record {
           terms = f.fits.terms;
           long = f.fits.long;
           is = instance_there f;

@@ -1,16 +1,19 @@
-ghost use Rattle.std.specs.Prelude.{◌≡◌, suc, IfOk, map};
+ghost use Rattle.std.specs.Prelude.{◌≡◌, ℕ, suc, IsTrue, IfOk, map};
 ghost use Rattle.std.specs.Option.{IfSome};
+ghost use Rattle.clause_core.specs.RuleInstances.{RuleAt, IsInstance};
 ghost use Rattle.routine_proof.specs.Entries.{rules};
+ghost use Rattle.proof_search.specs.Settings.{IsSetting};
 ghost use Rattle.proof_search.specs.Taking.{IsAt, IsThere, IsFound, place_of};
 ghost use Rattle.proof_search.specs.Ruling.{ruling_step, rulings_by, rulings};
 
 use crate::at::{Asked, At, taken};
+use crate::setting::Setting;
 use clause_core::{Place, Step};
 use clause_places::places_are_there;
 use path_order::TermOrder;
 use routine_proof::Move;
 use std::alloc::Global;
-use term_core::{Node, OutOfMemory, Seq};
+use term_core::{Node, OutOfMemory, Seq, Term};
 
 /// The entries of the list that rewrite the term at a place by rules.
 #[derive(Clone, Copy)]
@@ -43,12 +46,33 @@ pub(crate) fn first_ruling<O: TermOrder>(
 {
     places_are_there();
     for index in 0..at.spots.len() {
+        if !some_rule_fits(at.setting, at.spots.term(index)) {
+            continue;
+        }
         let found = ruling_at(alloc, order, at, entry, index)?;
         if found.is_some() {
             return Ok(found);
         }
     }
     Ok(None)
+}
+
+/// Whether the left side of a rule may become the term. Only rules of the symbol there are asked,
+/// since no other rule fits.
+fn some_rule_fits(setting: &Setting, term: &Term) -> bool
+    requires { IsSetting setting.now }
+    ensures { (n : ℕ) (by : RuleAt setting.now.spec.now n) →
+        IsInstance by.rule term.now → IsTrue result }
+{
+    let Node::App(sym, _) = &term.node else {
+        return false;
+    };
+    for place in setting.rules.rules_of(*sym) {
+        if setting.fitting(*place, term).is_some() {
+            return true;
+        }
+    }
+    false
 }
 
 /// The first of them at the place. Only rules of the symbol there are tried, since no other rule

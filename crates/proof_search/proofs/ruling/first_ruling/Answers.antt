@@ -1,6 +1,7 @@
-use Rattle.std.proofs.Common.{◌≡◌, ◌<◌, List, Option, None, true, false, sym, subst, arith, length}
+use Rattle.std.proofs.Common.{◌≡◌, ◌<◌, List, Option, None, true, false, sym, ◌∙◌, subst, arith, length}
 use Rattle.std.specs.Prelude.{is_some}
 use Rattle.clause_core.specs.declared.clauses.Clause.{Clause}
+use Rattle.clause_core.specs.RuleInstances.{IsInstance}
 use Rattle.clause_core.specs.declared.steps.Place.{Place}
 use Rattle.clause_places.specs.Spots.{Spot, spots, spot_of_index}
 use Rattle.spec_core.specs.declared.records.Spec.{Spec}
@@ -9,9 +10,11 @@ use Rattle.routine_proof.specs.Entries.{rules}
 use Rattle.routine_proof.specs.First.{IsFirst}
 use Rattle.proof_search.specs.declared.ruling.ByRule.{ByRule}
 use Rattle.proof_search.specs.Ruling.{rulings_by, rulings}
-use Rattle.proof_search.specs.Taking.{SaysAt}
+use Rattle.proof_search.specs.Taking.{SaysAt, place_of}
+use Rattle.proof_search.proofs.OtherRules.{none_where_unfit}
 use Rattle.proof_search.proofs.SpotsThere.{spot_listed, spot_there, spots_past}
-use Rattle.proof_search.proofs.Walking.{found_at, passed_at, none_found, each_mapped}
+use Rattle.proof_search.proofs.Tests.{not_true}
+use Rattle.proof_search.proofs.Walking.{found_at, passed_at, skipped_at, none_found, each_mapped}
 use Rattle.proof_search.proofs.ruling.first_ruling.Goals as goal
 
 by_spots : {R : Type 0} (is : Candidate → R → Type 0) (entry : ByRule) (spec : Spec) (c : Clause)
@@ -55,6 +58,25 @@ loop-index-preserved g c =
     passed_at (Gives says) (spots at.here.now)
     (λ (s : Spot). rulings_by c.args.entry s.place (rules spec)) k (spot_of_index at.spots k) found
     (spot_listed at c.requires.spots k lt) c.loop-index.invariant there c.in_ok-found.ensures
+
+pub loop-index-preserved-then-not-some_rule_fits :
+    goal.loop-index-preserved-then-not-some_rule_fits
+loop-index-preserved-then-not-some_rule_fits g c =
+    let at = c.args.at.now in
+    let above = g.O.TermOrder.above c.args.order.now in
+    let spec = at.setting.now.spec.now in
+    let k = c.loop-index.index in
+    let lt : k < length at.spots = omega (arith, c.loop-index-test.true, c.len-index-end.ensures) in
+    let there = spot_there at c.requires.spots k c.places_are_there.ensures lt in
+    let same = there.term ∙ sym c.term.ensures in
+    skipped_at (Gives (SaysAt above at)) (spots at.here.now)
+    (λ (s : Spot). rulings_by c.args.entry s.place (rules spec)) k (spot_of_index at.spots k)
+    (spot_listed at c.requires.spots k lt) c.loop-index.invariant
+    (none_where_unfit above at c.requires c.args.entry (place_of at k) there.place
+    (λ n by fits.
+    not_true c.some_rule_fits.result c.if-not-some_rule_fits.true
+    (c.some_rule_fits.ensures n by (subst (λ t. IsInstance by.rule t) same fits)))
+    (rules spec))
 
 pub returns : goal.returns
 returns g c =
