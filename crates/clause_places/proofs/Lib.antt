@@ -2,9 +2,9 @@
 pub mod NumbersThatFit
 pub mod PlacesThere
 pub mod AskedVariables
+pub mod ListedTerms
 -- What the calls of this crate need.
 mod Firsts
-mod ListedTerms
 mod WalkedPlaces
 mod LookedAt
 mod PatternReferences

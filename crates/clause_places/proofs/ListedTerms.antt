@@ -20,7 +20,7 @@ use Rattle.clause_places.specs.Counts.{counts_of}
 use Rattle.clause_places.specs.Listed.{subterms}
 use Rattle.clause_places.specs.declared.terms.Counts.{Counts}
 
-abbrev term_of : Spot → Tree
+abbrev pub term_of : Spot → Tree
 term_of s = s.term
 
 abbrev term_at : List ℕ × Tree → Tree
@@ -35,15 +35,19 @@ in_arguments n (some t ts) =
     ∙ (λ i. map-map term_at below (paths t) i ++ in_arguments (suc n) ts i)
 
 -- those of the arguments of a call, and the call
+pub subterms_at :
+    (f : ℕ) (ts : Trees) →
+    subterms (app f ts) ≡ flat_map subterms (list_of ts) ++ app f ts ∷ []
+subterms_at f ts =
+    map-append term_at (argument_paths 1 ts) (([], app f ts) ∷ [])
+    ∙ ap (λ us. us ++ app f ts ∷ []) (in_arguments 1 ts)
+
 subterms_of_call :
     (f : ℕ) (ts : List Tree) →
     subterms (app f (trees_of ts)) ≡ flat_map subterms ts ++ app f (trees_of ts) ∷ []
 subterms_of_call f ts =
-    let call : Tree = app f (trees_of ts) in
-    let arguments : map term_at (argument_paths 1 (trees_of ts)) ≡ flat_map subterms ts =
-    in_arguments 1 (trees_of ts) ∙ ap (λ us. flat_map subterms us) (list_of-trees_of ts) in
-    map-append term_at (argument_paths 1 (trees_of ts)) (([], call) ∷ [])
-    ∙ ap (λ us. us ++ call ∷ []) arguments
+    subterms_at f (trees_of ts)
+    ∙ ap (λ us. flat_map subterms us ++ app f (trees_of ts) ∷ []) (list_of-trees_of ts)
 
 pub call_added :
     {T E : Type 0} (r : Result T E) (t : Tree) (f : ℕ) (ts us old made new : List Tree) →
@@ -122,7 +126,7 @@ in_equations conclusion n (e ∷ es) =
     ∙ (λ i. first i ++ (second i ++ others i))
 
 -- by the sides of a clause
-by_sides : (c : Clause) → map term_of (spots c) ≡ flat_map subterms (sides c)
+pub by_sides : (c : Clause) → map term_of (spots c) ≡ flat_map subterms (sides c)
 by_sides c =
     let first = in_equations false 1 c.premises in
     let second = in_equations true 1 c.conclusions in

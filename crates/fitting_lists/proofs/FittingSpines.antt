@@ -1,11 +1,11 @@
 -- Spines of a pattern and of the term that it becomes, and a walk along last arguments.
 use Rattle.std.proofs.Common.{◌≡◌, ℕ, zero, suc, Some, ◌+◌, ◌-◌, ◌^◌, ◌<◌, ◌≤◌, ◌==◌, List, [], ◌∷◌, Bool, true, false, cond, inl, inr, refl, ap, sym, ◌∙◌, min, length, get_or, arith}
 use Rattle.std.specs.Prelude.{◌⊎◌}
+use Rattle.std.proofs.lemmas.Bool.Decides.{nat_tests}
 use Rattle.term_core.specs.Tree.{Tree, Trees, var, app, none, some, trees_of, instance, instances}
-use Rattle.fitting_lists.specs.declared.spines.Spine.{Spine}
 use Rattle.fitting_lists.specs.declared.spines.SpineEnd.{SpineEnd}
 use Rattle.fitting_lists.specs.declared.spines.SpineEnd.TheVariants.{Variable, Symbol}
-use Rattle.fitting_lists.specs.Spines.{numbered, Run, one_more, run, last_run, spine_from, spine_of, EndsWithin, MayBecome, IsAlong}
+use Rattle.fitting_lists.specs.Spines.{numbered, Run, one_more, run, last_run, spine_from, spine_of, MayBecome, missing_in}
 
 -- what is so of the runs of a pattern and of the term that it becomes
 abbrev Within : Run → Run → Type 0
@@ -46,14 +46,31 @@ spines_fit list (app f ts) =
     spines_at f (one_more (last_run f ts)) (one_more (last_run f (instances list ts)))
     (more_within (last_run f ts) (last_run f (instances list ts)) (last_within list f ts))
 
-ends_along : (p t : Spine) → EndsWithin p t → p.length ≤ t.length
-ends_along p t (inl h) = h.1
-ends_along p t (inr h) = omega (arith, h.0)
+-- a term that begins with the symbol
+pub same_symbol :
+    (f g : ℕ) (ts : Trees) → (g == f) ≡ true → run f (app g ts) ≡ one_more (last_run f ts)
+same_symbol f g ts e =
+    ap (λ b. cond b (one_more (last_run f ts)) (0, Symbol (numbered g))) e
 
--- such spines are along the term
-pub fit_along : (p : Spine) (t : Tree) → MayBecome p (spine_of t) → IsAlong p t
-fit_along p t (inl empty) = inl empty
-fit_along p t (inr h) = inr (h.0, ends_along p (spine_of t) h.1)
+same_number : (f : ℕ) → (f == f) ≡ true
+same_number f = grind (arith, nat_tests)
+
+within_less : (p t : Run) → Within p t → p.0 ≤ t.0
+within_less p t (inl h) = h.1
+within_less p t (inr e) =
+    let q : p.0 ≡ t.0 = ap (λ (r : Run). r.0) e in
+    omega (arith, q)
+
+-- no symbol of the pattern's spine is missing there
+pub none_missing :
+    (list : List Tree) (p : Tree) → missing_in (spine_of p) (instance list p) ≡ 0
+none_missing list (var n) = refl
+none_missing list (app f ts) =
+    let below : (last_run f ts).0 ≤ (last_run f (instances list ts)).0 =
+    within_less (last_run f ts) (last_run f (instances list ts)) (last_within list f ts) in
+    let whole : (run f (app f (instances list ts))).0 ≡ suc (last_run f (instances list ts)).0 =
+    ap (λ (r : Run). r.0) (same_symbol f f (instances list ts) (same_number f)) in
+    omega (arith, below, whole)
 
 -- the run of the last of some terms
 pub last_is :
@@ -78,12 +95,7 @@ all_counted f k r end lt e =
     ap (λ n. record { root = Some (numbered f); length = n; end = end }) long
     ∙ ap (λ (q : Run). spine_from f (counted k q)) (sym e)
 
--- a term that begins with the symbol, and one that begins with another
-pub same_symbol :
-    (f g : ℕ) (ts : Trees) → (g == f) ≡ true → run f (app g ts) ≡ one_more (last_run f ts)
-same_symbol f g ts e =
-    ap (λ b. cond b (one_more (last_run f ts)) (0, Symbol (numbered g))) e
-
+-- a term that begins with another symbol
 pub other_symbol :
     (f g : ℕ) (ts : Trees) → (g == f) ≡ false →
     run f (app g ts) ≡ (0, Symbol (numbered g))

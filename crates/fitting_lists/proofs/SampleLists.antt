@@ -6,7 +6,7 @@ use Rattle.clause_core.specs.ClauseExamples.{equals}
 use Rattle.fitting_lists.specs.Fitting.{both_sides, rewriting}
 use Rattle.fitting_lists.specs.Answering.{IsOnlyAnswer}
 use Rattle.fitting_lists.specs.Examples.{commutes, sums, sums_to, sum_to, succ_twice, two_units}
-use Rattle.fitting_lists.specs.Spines.{spine_of, MayBecome, IsAlong}
+use Rattle.fitting_lists.specs.Spines.{spine_of, MayBecome, missing_in}
 use Rattle.fitting_lists.proofs.Determined.{one_list}
 use Rattle.fitting_lists.proofs.VariableTests.{all_occur}
 
@@ -66,9 +66,8 @@ shorter_spine (inr (same, inl (e, le))) = absurd (cc)
 shorter_spine (inr (same, inr (long, e))) =
     let q : ◌≡◌ {A = ℕ} 1 2 = long in absurd (omega arith)
 
-pub spine_along : IsAlong (spine_of (succ_twice (var 0))) (succ_twice zero_term)
-spine_along = inr (refl, (let le : 2 ≤ 2 = omega arith in le))
+pub none_missing : missing_in (spine_of (succ_twice (var 0))) (succ_twice zero_term) ≡ 0
+none_missing = refl
 
-pub shorter_term : IsAlong (spine_of (succ_twice (var 0))) (succ_term zero_term) → ⊥
-shorter_term (inl e) = let q : ◌≡◌ {A = ℕ} 2 0 = e in absurd (omega arith)
-shorter_term (inr (same, le)) = let q : 2 ≤ 1 = le in absurd (omega arith)
+pub one_missing : missing_in (spine_of (succ_twice (var 0))) (succ_term zero_term) ≡ 1
+one_missing = refl

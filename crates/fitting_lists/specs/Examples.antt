@@ -13,7 +13,7 @@ use Rattle.fitting_lists.specs.Answering.{IsOnlyAnswer}
 use Rattle.fitting_lists.specs.declared.spines.Spine.{Spine}
 use Rattle.fitting_lists.specs.declared.spines.SpineEnd.{SpineEnd}
 use Rattle.fitting_lists.specs.declared.spines.SpineEnd.TheVariants.{Variable, NoArguments, Symbol}
-use Rattle.fitting_lists.specs.Spines.{numbered, spine_of, MayBecome, IsAlong}
+use Rattle.fitting_lists.specs.Spines.{numbered, spine_of, MayBecome, missing_in}
 
 -- plus(s, t) = plus(t, s)
 abbrev pub commutes : Tree → Tree → Equation
@@ -123,6 +123,6 @@ pub record WorkedExamples : Type 0 where
   pub spine_fits : MayBecome (spine_of (succ_term (var 0))) (spine_of (succ_twice zero_term))
   pub shorter_spine :
       MayBecome (spine_of (succ_term zero_term)) (spine_of (succ_twice zero_term)) → ⊥
-  -- succ(succ(x)) stands along succ(succ(zero)), and not along succ(zero)
-  pub spine_along : IsAlong (spine_of (succ_twice (var 0))) (succ_twice zero_term)
-  pub shorter_term : IsAlong (spine_of (succ_twice (var 0))) (succ_term zero_term) → ⊥
+  -- no succ of succ(succ(x)) is missing in succ(succ(zero)), and one in succ(zero)
+  pub none_missing : missing_in (spine_of (succ_twice (var 0))) (succ_twice zero_term) ≡ 0
+  pub one_missing : missing_in (spine_of (succ_twice (var 0))) (succ_term zero_term) ≡ 1

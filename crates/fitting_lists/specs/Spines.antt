@@ -1,6 +1,6 @@
 -- Spines of terms: the symbol at the root, how often it stands from there on along last arguments,
 -- and what ends this. Where a pattern becomes a term, their spines fit.
-use Rattle.std.specs.Prelude.{◌≡◌, ℕ, suc, ◌-◌, ◌^◌, ◌≤◌, ◌==◌, ◌⊎◌, Some, None, min, if◌then◌else◌}
+use Rattle.std.specs.Prelude.{◌≡◌, ℕ, suc, ◌-◌, ◌^◌, ◌≤◌, ◌==◌, ◌⊎◌, Option, Some, None, min, if◌then◌else◌}
 use Rattle.term_core.specs.Tree.{Tree, Trees, var, app, none, some}
 use Rattle.term_core.specs.declared.ids.SymId.{SymId}
 use Rattle.fitting_lists.specs.declared.spines.Spine.{Spine}
@@ -53,8 +53,11 @@ EndsWithin p t =
 abbrev pub MayBecome : Spine → Spine → Type 0
 MayBecome p t = (p.length ≡ 0) ⊎ ((p.root ≡ t.root) × EndsWithin p t)
 
--- the symbol at the root of a pattern with this spine stands at least as often along the last
--- arguments of the term
-abbrev pub IsAlong : Spine → Tree → Type 0
-IsAlong p t =
-    (p.length ≡ 0) ⊎ ((p.root ≡ (spine_of t).root) × (p.length ≤ (spine_of t).length))
+-- how often the symbol at the root of a spine stands along the term
+abbrev pub stands : Option SymId → Tree → ℕ
+stands None t = 0
+stands (Some f) t = (run f.0 t).0
+
+-- how often it would have to stand more for a pattern with this spine to become the term
+abbrev pub missing_in : Spine → Tree → ℕ
+missing_in p t = p.length - stands p.root t

@@ -1,7 +1,7 @@
 ghost use Rattle.std.specs.Prelude.{◌≡◌, List};
 ghost use Rattle.term_core.specs.Tree.{Tree, instance};
 ghost use Rattle.fitting_lists.specs.Examples.{WorkedExamples};
-ghost use Rattle.fitting_lists.specs.Spines.{spine_of, MayBecome, IsAlong};
+ghost use Rattle.fitting_lists.specs.Spines.{spine_of, MayBecome, missing_in};
 
 /// The definitions say of a few clauses what one works out by hand.
 pub fn worked_examples()
@@ -14,8 +14,9 @@ pub fn spines_may_become()
         instance list p ≡ t → MayBecome (spine_of p) (spine_of t) }
 {}
 
-/// Where some list makes a pattern a term, the symbol at the pattern's root stands as often along
+/// Where some list makes a pattern a term, none of the symbols along the pattern is missing along
 /// the term.
-pub fn spines_are_along()
-    ensures { (list : List Tree) (p t : Tree) → instance list p ≡ t → IsAlong (spine_of p) t }
+pub fn nothing_is_missing()
+    ensures { (list : List Tree) (p t : Tree) →
+        instance list p ≡ t → missing_in (spine_of p) t ≡ 0 }
 {}

@@ -8,11 +8,12 @@
 //! [`leading`] and [`has_all_variables`] are exact against these, and that a [`Matcher`] finds the
 //! only list, as references into the terms, or that there is none (`specs/Answering.antt`): it is
 //! used again from try to try, so that tries allocate nothing. [`copies`] copies what it found, and
-//! [`fitting_terms`] is one try with the copies. [`may_become`] goes by symbols alone: where they
-//! differ, there is no list. A [`Spine`] keeps what stands along a term's last arguments, by which
-//! most of what cannot fit is told without a walk (`specs/Spines.antt`). That each question has at
-//! most one answer stands in `proofs/Determined.antt`, and that sorted clauses meet the premise of
-//! these calls in `proofs/Variables.antt`.
+//! [`fitting_terms`] is one try with the copies. [`may_become`] goes by symbols alone, and
+//! [`heads_agree`] by those near the roots: where they differ, there is no list. A [`Spine`] keeps
+//! what stands along a term's last arguments, by which most of what cannot fit is told without a
+//! walk (`specs/Spines.antt`). That each question has at most one answer stands in
+//! `proofs/Determined.antt`, and that sorted clauses meet the premise of these calls in
+//! `proofs/Variables.antt`.
 #![tactic(auto)]
 
 mod along;
@@ -28,7 +29,7 @@ mod spines;
 mod term_lists;
 
 pub use becoming::{heads_agree, may_become};
-pub use laws::{spines_are_along, spines_may_become, worked_examples};
+pub use laws::{nothing_is_missing, spines_may_become, worked_examples};
 pub use leading_equations::{LeadingPlace, leading};
 pub use matcher::Matcher;
 pub use occurring::has_all_variables;

@@ -1,7 +1,7 @@
-ghost use Rattle.std.specs.Prelude.{◌≡◌, ◌↔◌, ◌<◌, ◌≤◌, IsTrue, IfOk, MatchResult};
+ghost use Rattle.std.specs.Prelude.{◌≡◌, ◌↔◌, ◌<◌, ◌-◌, IsTrue, IfOk, MatchResult};
 ghost use Rattle.term_core.specs.Tree.{app, trees_of};
 ghost use Rattle.term_core.specs.Measure.{list_weight};
-ghost use Rattle.fitting_lists.specs.Spines.{one_more, last_run, spine_of, EndsWithin, MayBecome, IsAlong};
+ghost use Rattle.fitting_lists.specs.Spines.{one_more, last_run, spine_of, EndsWithin, MayBecome, missing_in};
 
 use term_core::{Node, SymId, Term};
 
@@ -48,20 +48,20 @@ impl Spine {
         self.root == other.root && self.ends_within(other)
     }
 
-    /// Whether the root's symbol stands at least as often from the term's root on along last
-    /// arguments. Where it doesn't, no pattern with this spine becomes the term. The walk is no
-    /// longer than the spine.
-    pub fn is_along(self, term: &Term) -> bool
-        ensures { IsTrue result ↔ IsAlong self term.now }
+    /// How often the root's symbol would have to stand more from the term's root on along last
+    /// arguments for a pattern with this spine to become the term. The walk is no longer than the
+    /// spine.
+    pub fn missing(self, term: &Term) -> u32
+        ensures { result ≡ missing_in self term.now }
     {
-        if self.length == 0 {
-            return true;
-        }
         match &term.node {
-            Node::Var(_) => false,
+            Node::Var(_) => self.length,
             Node::App(symbol, arguments) => {
-                self.root == Some(*symbol)
-                    && stands_along(*symbol, arguments.as_slice(), self.length - 1)
+                if self.length > 0 && self.root == Some(*symbol) {
+                    missing_along(*symbol, arguments.as_slice(), self.length - 1)
+                } else {
+                    self.length
+                }
             }
         }
     }
@@ -100,9 +100,10 @@ fn spine_below(symbol: SymId, arguments: &[Term]) -> Spine
     }
 }
 
-/// Whether the symbol stands at least so often along last arguments, from the last of the terms on.
-fn stands_along(symbol: SymId, terms: &[Term], times: u32) -> bool
-    ensures { IsTrue result ↔ (times ≤ (last_run symbol.0 (trees_of terms.now)).0) }
+/// How often the symbol would have to stand more to stand so often along last arguments, from the
+/// last of the terms on.
+fn missing_along(symbol: SymId, terms: &[Term], times: u32) -> u32
+    ensures { result ≡ times - (last_run symbol.0 (trees_of terms.now)).0 }
 {
     let mut left = times;
     let mut rest = terms;
@@ -112,10 +113,10 @@ fn stands_along(symbol: SymId, terms: &[Term], times: u32) -> bool
                 left -= 1;
                 rest = next;
             }
-            Err(_) => return false,
+            Err(_) => return left,
         }
     }
-    true
+    0
 }
 
 /// The arguments of the last of the terms, where it begins with the symbol, or what ends the spine.

@@ -18,6 +18,7 @@ mod LeadingPlaces
 mod LessSteps
 mod NeverRises
 mod FallingSteps
+mod GrowingRuns
 mod UnfitSides
 mod CoverSteps
 mod ListedEntries

@@ -1,8 +1,8 @@
 -- Going through a list of items, each with candidates of its own, for the first that has a result.
-use Rattle.std.proofs.Common.{◌≡◌, ℕ, zero, suc, ◌+◌, ◌<◌, ◌≤◌, List, ◌++◌, true, false, Some, None, Option, refl, ap, ◌∙◌, subst, arith, length, map, drop, get_or}
+use Rattle.std.proofs.Common.{◌≡◌, ℕ, zero, suc, ◌+◌, ◌<◌, ◌≤◌, List, ◌++◌, true, false, Some, None, Option, ◌⊎◌, inl, inr, refl, ap, sym, ◌∙◌, subst, arith, length, map, drop, get_or}
 use Rattle.std.specs.Prelude.{slice_get, is_some}
 use Rattle.std.specs.List.{range_with_len}
-use Rattle.std.proofs.lemmas.Option.{slice_get_read}
+use Rattle.std.proofs.lemmas.Option.{slice_get_read, slice_get_cases}
 use Rattle.std.proofs.lemmas.List.Folds.{flat_map-map}
 use Rattle.term_core.proofs.Items.{drop_here, drop_past}
 use Rattle.routine_proof.specs.Candidates.{each}
@@ -66,6 +66,32 @@ module _ {A B R : Type 0} (is : B → R → Type 0) (xs : List A) (f : A → Lis
   pub skipped_at : (k : ℕ) (x : A) → slice_get xs k ≡ Some x → Passed k → NoneIs is (f x) →
       Passed (k + 1)
   skipped_at k x e p none = passed_at k x None e p refl none
+
+  -- none is left to pass
+  past : (k : ℕ) → length xs ≤ k → Passed k → Passed (k + 1)
+  past k h p =
+      let e : drop k xs ≡ drop (k + 1) xs =
+      drop_past xs k h ∙ sym (drop_past xs (k + 1) (omega (arith, h))) in
+      record { left = subst (λ (l : List A). IsLeft is (each xs f) (each l f)) e p.left }
+
+  -- so many items without a result, or fewer at the end
+  pub skipped_all :
+      (k n : ℕ) → Passed k →
+      ((m : ℕ) (x : A) → k ≤ m → m < k + n → slice_get xs m ≡ Some x → NoneIs is (f x)) →
+      Passed (k + n)
+  skipped_all k zero p none = let e : k ≡ k + 0 = omega arith in subst Passed e p
+  skipped_all k (suc n) p none =
+      let q = skipped_all k n p (λ m x le lt at. none m x le (omega (arith, lt)) at) in
+      let e : k + n + 1 ≡ k + suc n = omega arith in
+      subst Passed e (by (slice_get_cases xs (k + n)).1 q)
+    where
+      by :
+          ((x : A) × (k + n < length xs) × (slice_get xs (k + n) ≡ Some x)
+          × (get_or xs (k + n) x ≡ x))
+          ⊎ ((length xs ≤ k + n) × (slice_get xs (k + n) ≡ None)) →
+          Passed (k + n) → Passed (k + n + 1)
+      by (inl h) q = skipped_at (k + n) h.0 h.2 q (none (k + n) h.0 (omega arith) (omega arith) h.2)
+      by (inr h) q = past (k + n) h.0 q
 
   pub none_found : (k : ℕ) → length xs ≤ k → Passed k → NoneIs is (each xs f)
   unfolding each

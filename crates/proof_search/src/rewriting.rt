@@ -1,12 +1,11 @@
-ghost use Rattle.std.specs.Prelude.{◌≡◌, List, IsTrue, IfOk};
-ghost use Rattle.term_core.specs.Tree.{Tree, instance};
+ghost use Rattle.std.specs.Prelude.{◌≡◌, ◌≤◌, Bool, true, IsTrue, IfOk};
 ghost use Rattle.term_core.specs.References.{terms_of};
 ghost use Rattle.clause_core.specs.Clauses.{ClauseIsSorted};
 ghost use Rattle.clause_core.specs.Places.{side as side_of};
-ghost use Rattle.fitting_lists.specs.Spines.{spine_of};
+ghost use Rattle.fitting_lists.specs.Spines.{spine_of, missing_in};
 ghost use Rattle.routine_proof.specs.Candidates.{all_less, each};
 ghost use Rattle.proof_search.specs.Chosen.{clause_of, lemma_uses_by};
-ghost use Rattle.proof_search.specs.FallingSides.{KeepsSides};
+ghost use Rattle.proof_search.specs.FallingSides.{KeepsSides, marked};
 ghost use Rattle.proof_search.specs.Taking.{IsAt, IsThere, IsTaken, IsFound, SaysAt, place_of, term_of};
 ghost use Rattle.proof_search.specs.Referring.{node, target_of, rewritings, falling_rewriting, falling_rewritings, rewriting_step as step_by};
 ghost use Rattle.proof_search.specs.Falling.{IsReferred, CanRewrite, AreSides, SideFits};
@@ -19,7 +18,7 @@ use crate::referring::Referral;
 use crate::side_spines::SideSpines;
 use clause_core::{Clause, tidying_laws};
 use clause_places::places_are_there;
-use fitting_lists::{Matcher, Spine, copies, heads_agree, spines_are_along};
+use fitting_lists::{Matcher, copies, heads_agree, nothing_is_missing};
 use path_order::TermOrder;
 use place_comparison::place_decides;
 use routine_proof::Move;
@@ -38,24 +37,33 @@ struct Rewriting<'a> {
 }
 
 impl<'a> Rewriting<'a> {
-    /// Whether a side that may fall may become the term.
-    fn may_fit(&self, term: &Term) -> bool
+    /// How often the symbol at the root of a side that may fall would have to stand more along the
+    /// term for the side to become it: the least such number.
+    fn missing(&self, term: &Term) -> u32
         requires { self.now.spines ≡ side_spines self.now.equation.now }
+        ensures { (left : Bool) → marked left self.now.sides ≡ true →
+            result ≤ missing_in (spine_of (side_of left self.now.equation.now)) term.now }
+    {
+        let left = if self.sides.left {
+            self.spines.left.missing(term)
+        } else {
+            u32::MAX
+        };
+        if self.sides.right && left > 0 {
+            left.min(self.spines.right.missing(term))
+        } else {
+            left
+        }
+    }
+
+    /// Whether a side that may fall may become the term, as far as the symbols at the roots of both
+    /// and of their arguments tell.
+    fn may_fit(&self, term: &Term) -> bool
         ensures { SideFits self.now.sides self.now.equation.now term.now → IsTrue result }
     {
-        (self.sides.left && may_become(&self.equation.left, self.spines.left, term))
-            || (self.sides.right && may_become(&self.equation.right, self.spines.right, term))
+        (self.sides.left && heads_agree(&self.equation.left, term))
+            || (self.sides.right && heads_agree(&self.equation.right, term))
     }
-}
-
-/// Whether the side, which has this spine, may become the term: as far as the spine tells, and the
-/// symbols at the roots of both and of their arguments.
-fn may_become(side: &Term, spine: Spine, term: &Term) -> bool
-    requires { spine ≡ spine_of side.now }
-    ensures { (list : List Tree) → instance list side.now ≡ term.now → IsTrue result }
-{
-    spines_are_along();
-    spine.is_along(term) && heads_agree(side, term)
 }
 
 /// The first step that rewrites by node 0 as a hypothesis.
@@ -119,7 +127,9 @@ pub(crate) fn first_lemma_use<O: TermOrder>(
     Ok(None)
 }
 
-/// The first step by an instance of the clause that rewrites a term here.
+/// The first step by an instance of the clause that rewrites a term here. Since the last argument of
+/// a call stands right before it, a symbol stands from one spot to the next at most once more: as
+/// many spots are passed over as symbols are missing at one.
 fn first_rewriting<'a, O: TermOrder>(
     alloc: Global,
     order: &O,
@@ -139,6 +149,7 @@ fn first_rewriting<'a, O: TermOrder>(
     places_are_there();
     place_decides(order);
     never_rises(order);
+    nothing_is_missing();
     let Some(equation) = only_conclusion(clause) else {
         return Ok(None);
     };
@@ -149,14 +160,23 @@ fn first_rewriting<'a, O: TermOrder>(
         sides,
         spines: SideSpines::of(equation),
     };
-    for index in 0..at.spots.len() {
-        if !rewriting.may_fit(at.spots.term(index)) {
+    let mut index = 0;
+    'spots: while index < at.spots.len() {
+        let term = at.spots.term(index);
+        let missing = rewriting.missing(term);
+        if missing > 0 {
+            index = index.saturating_add(missing as usize);
+            continue;
+        }
+        if !rewriting.may_fit(term) {
+            index += 1;
             continue;
         }
         let found = rewriting_at(alloc, order, at, matcher, &rewriting, index)?;
         if found.is_some() {
             return Ok(found);
         }
+        index += 1;
     }
     Ok(None)
 }

@@ -1,6 +1,6 @@
 -- Each example, computed.
 use Rattle.std.proofs.Common.{refl}
-use Rattle.fitting_lists.proofs.SampleLists.{fitting_list, no_fitting_list, rewriting_list, other_symbol, other_arguments, spine_fits, shorter_spine, spine_along, shorter_term}
+use Rattle.fitting_lists.proofs.SampleLists.{fitting_list, no_fitting_list, rewriting_list, other_symbol, other_arguments, spine_fits, shorter_spine, none_missing, one_missing}
 use Rattle.fitting_lists.proofs.laws.worked_examples.Goals as goal
 
 pub returns : goal.returns
@@ -27,6 +27,6 @@ returns c = record {
   no_arguments = refl;
   spine_fits = spine_fits;
   shorter_spine = shorter_spine;
-  spine_along = spine_along;
-  shorter_term = shorter_term;
+  none_missing = none_missing;
+  one_missing = one_missing;
 }

@@ -2,7 +2,7 @@
 use Rattle.std.proofs.Common.{◌≡◌, ◌≤◌, ◌+◌, ◌-◌}
 use Rattle.term_core.specs.Tree.{trees_of}
 use Rattle.fitting_lists.specs.Spines.{last_run}
-use Rattle.fitting_lists.proofs.spines.stands_along.Given as goal
+use Rattle.fitting_lists.proofs.spines.missing_along.Given as goal
 
 abbrev pub invariant-along : goal.invariant-along
 invariant-along l = record {
