@@ -131,7 +131,8 @@ module _ (n : ℕ) (t : Tree) (ts us : List Tree) (first : ts ≡ t ∷ us) (k :
       Passes (argument_paths n (trees_of ts)) k old new None
   found_in_argument below new there h =
       subst (λ vs. Passes (argument_paths n (trees_of vs)) k old new None) (sym first)
-      (passes_in_argument n old below new (paths t) (argument_paths (suc n) (trees_of us)) k there h)
+      (passes_in_argument n old below new (paths t) (argument_paths (suc n) (trees_of us)) k there
+      h)
 
   pub passes_arguments :
       (base new : List ℕ) (left : ℕ) (r : Option ℕ) → k ≡ length (paths t) + left → base ≡ old →

@@ -13,5 +13,6 @@ Finds ss k (Left left) = k ≡ length ss + left
 -- along paths: the path of the index stands from its end on behind the old numbers, or so far is
 -- the index behind the last path, and the old numbers stand as they were
 abbrev pub Passes : List (List ℕ × Tree) → ℕ → List ℕ → List ℕ → Option ℕ → Type 0
-Passes ps k old new None = (p : List ℕ × Tree) × (slice_get ps k ≡ Some p) × (new ≡ old ++ reverse p.0)
+Passes ps k old new None =
+    (p : List ℕ × Tree) × (slice_get ps k ≡ Some p) × (new ≡ old ++ reverse p.0)
 Passes ps k old new (Some left) = (k ≡ length ps + left) × (new ≡ old)

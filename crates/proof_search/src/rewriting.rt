@@ -127,9 +127,9 @@ pub(crate) fn first_lemma_use<O: TermOrder>(
     Ok(None)
 }
 
-/// The first step by an instance of the clause that rewrites a term here. Since the last argument of
-/// a call stands right before it, a symbol stands from one spot to the next at most once more: as
-/// many spots are passed over as symbols are missing at one.
+/// The first step by an instance of the clause that rewrites a term here. Since the last argument
+/// of a call stands right before it, a symbol stands from one spot to the next at most once more:
+/// as many spots are passed over as symbols are missing at one.
 fn first_rewriting<'a, O: TermOrder>(
     alloc: Global,
     order: &O,

@@ -72,5 +72,6 @@ pass_arguments-returns-in-Some t c =
     if_ok_map c.pass_arguments.result
     (Passes (argument_paths (n + 1) (trees_of others)) c.in-Some.left base new)
     (Passes (argument_paths n (trees_of ts)) k old new)
-    (λ r h. passes_arguments n u ts others first k old base new c.in-Some.left r passed.0 passed.1 h)
+    (λ r h.
+    passes_arguments n u ts others first k old base new c.in-Some.left r passed.0 passed.1 h)
     c.pass_arguments.ensures

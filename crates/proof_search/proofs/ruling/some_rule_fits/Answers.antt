@@ -24,6 +24,7 @@ returns c n by fits =
     let f = c.in-App.sym.0 in
     let ts = trees_of c.in-App.field-1 in
     let e : app f ts ≡ c.args.term.now = ap tree_of (sym c.in-App.is) ∙ c.term.view_is in
-    absurd (none_called spec c.args.term.now c.requires.fine f ts e c.rules_of-place-items.result.now
-    (c.rules_of-place-items.ensures ∙ c.requires.rules f) c.loop-place.place-index c.loop-place-test.false
-    c.loop-place.invariant n by fits)
+    let places = c.rules_of-place-items.result.now in
+    absurd (none_called spec c.args.term.now c.requires.fine f ts e places
+    (c.rules_of-place-items.ensures ∙ c.requires.rules f) c.loop-place.place-index
+    c.loop-place-test.false c.loop-place.invariant n by fits)
