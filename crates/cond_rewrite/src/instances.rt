@@ -27,9 +27,9 @@ pub(crate) fn small_instance(
     Ok(Some(theta.apply(alloc, term)?))
 }
 
-/// Whether the term is the pattern's instance, which isn't built.
+/// Whether the term is the pattern's instance, which isn't built: both are walked.
 #[cycle(is_instance)]
-pub(crate) fn is_instance(theta: &Subst, pattern: &Term, term: &Term) -> bool
+pub fn is_instance(theta: &Subst, pattern: &Term, term: &Term) -> bool
     ensures { IsTrue result ↔ (term.now ≡ apply theta.now.terms pattern.now) }
 {
     match (&pattern.node, &term.node) {

@@ -12,8 +12,8 @@ ghost use Rattle.inference_rules.specs.Nodes.{referred_to};
 use crate::making::{child_holding, reference};
 use crate::nodes::{Node, StepError};
 use crate::referring::{entries_here, instances_are_there, node_at, usable_goal};
-use crate::terms::is_instance_by;
 use clause_core::{Children, Clause, Place, Reference, Why, instance, of_goal};
+use cond_rewrite::is_instance;
 use path_order::TermOrder;
 use spec_core::{Equation, Spec};
 use std::alloc::Global;
@@ -167,7 +167,7 @@ fn usable_conclusion<'a>(
     let Some((equation, others)) = front(clause.conclusions.as_slice()) else {
         return Ok(None);
     };
-    if !others.is_empty() || !is_instance_by(theta, side(equation, left), term) {
+    if !others.is_empty() || !is_instance(theta, side(equation, left), term) {
         return Ok(None);
     }
     if !instances_are_there(alloc, here, clause, theta)? {

@@ -1,12 +1,11 @@
 ghost use Rattle.std.specs.Prelude.{◌≡◌, ◌↔◌, Some, IfOk, IsTrue, map};
 ghost use Rattle.term_core.specs.Tree.{Tree, trees_of};
 ghost use Rattle.spec_core.specs.Sorts.{Sorted, SortedAll};
-ghost use Rattle.substitutions.specs.Substitution.{apply};
 
 use spec_core::Signature;
 use std::alloc::Global;
 use substitutions::Subst;
-use term_core::{Node, OutOfMemory, Seq, SortId, Term};
+use term_core::{OutOfMemory, Seq, SortId, Term};
 
 /// Whether the terms have these sorts, one each.
 pub(crate) fn have_sorts(sig: &Signature, ctx: &[SortId], terms: &[Term], sorts: &[SortId]) -> bool
@@ -44,36 +43,4 @@ pub(crate) fn entries_of(alloc: Global, terms: &[Term]) -> Result<Subst, OutOfMe
     Ok(Subst {
         terms: Seq::from_vec(made),
     })
-}
-
-/// Whether the term is the instance of the other one, the pattern, under the substitution. The
-/// instance isn't built.
-#[cycle(is_instance_by)]
-pub(crate) fn is_instance_by(theta: &Subst, pattern: &Term, term: &Term) -> bool
-    ensures { IsTrue result ↔ (apply theta.now.terms pattern.now ≡ term.now) }
-{
-    match (&pattern.node, &term.node) {
-        (Node::Var(var), _) => match theta.get(*var) {
-            Some(image) => image.same(term),
-            None => pattern.same(term),
-        },
-        (Node::App(f, args), Node::App(g, terms)) => {
-            f == g && are_instances_by(theta, args.as_slice(), terms.as_slice())
-        }
-        _ => false,
-    }
-}
-
-/// The same of as many terms, in their order.
-#[cycle(is_instance_by)]
-fn are_instances_by(theta: &Subst, patterns: &[Term], terms: &[Term]) -> bool
-    ensures { IsTrue result ↔ (map (apply theta.now.terms) patterns.now ≡ terms.now) }
-{
-    match (patterns, terms) {
-        ([], []) => true,
-        ([pattern, patterns @ ..], [term, terms @ ..]) => {
-            is_instance_by(theta, pattern, term) && are_instances_by(theta, patterns, terms)
-        }
-        _ => false,
-    }
 }
