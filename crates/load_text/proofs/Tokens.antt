@@ -21,7 +21,6 @@ use Rattle.spec_text.proofs.WrittenLemmas.{written_tokens}
 use Rattle.spec_grammar.specs.declared.keys.Key.TheVariants.{Spike, One, Sort, Goal, Colon, Equals, Arrow}
 use Rattle.spec_grammar.specs.declared.limits.LimitKind.{LimitKind}
 use Rattle.spec_grammar.specs.declared.limits.LimitKind.TheVariants as limit
-use Rattle.spec_grammar.specs.declared.limits.TheConstants.{MAX_DEPTH}
 use Rattle.spec_grammar.specs.declared.raw.RawEq.{RawEq}
 use Rattle.spec_grammar.specs.declared.raw.RawGoal.{RawGoal}
 use Rattle.spec_grammar.specs.declared.raw.RawSpec.{RawSpec}
@@ -163,8 +162,8 @@ mutual
   others_good d n (some t ts) rest h r =
       (tt, refl, term_good d (term_mark d n) t _ h.0 h.1 (others_good d (n + 1) ts rest h.2 r))
 
-depth_mark : (d : ℕ) → d < 64 → over d MAX_DEPTH limit.Nesting ≡ None
-depth_mark d h = ap (λ (b : Bool). if b then Some limit.Nesting else None) (lt-leb MAX_DEPTH d h)
+depth_mark : (d : ℕ) → d < 64 → over d 64 limit.Nesting ≡ None
+depth_mark d h = ap (λ (b : Bool). if b then Some limit.Nesting else None) (lt-leb 64 d h)
 
 pair_fine : (d : ℕ) (name : List ℕ) (s t : RawTree) → d + 1 < 64 → is_plain name ≡ true →
     IsFine (d + 1) s → IsFine (d + 1) t → IsFine d (pair name s t)

@@ -8,7 +8,6 @@ use Rattle.spec_grammar.specs.declared.keys.Key.{Key}
 use Rattle.spec_grammar.specs.declared.keys.Key.TheVariants.{Comma, Bar, Equals, Colon, Arrow, RightPar}
 use Rattle.spec_grammar.specs.declared.limits.LimitKind.{LimitKind}
 use Rattle.spec_grammar.specs.declared.limits.LimitKind.TheVariants as limit
-use Rattle.spec_grammar.specs.declared.limits.TheConstants.{MAX_NAME_BYTES, MAX_SORTS, MAX_SORT_CONSTRUCTORS, MAX_CONSTRUCTORS, MAX_FUNCTIONS, MAX_ARGUMENTS, MAX_DEPTH, MAX_RULES, MAX_GUARDS, MAX_GOALS, MAX_VARIABLES, MAX_PREMISES, MAX_CONCLUSIONS}
 use Rattle.spec_grammar.specs.declared.raw.RawName.{RawName}
 use Rattle.spec_grammar.specs.declared.raw.RawNames.{RawNames}
 use Rattle.spec_grammar.specs.declared.raw.RawSort.{RawSort}
@@ -47,37 +46,37 @@ or_else_none : (m k : Option LimitKind) → or_else m k ≡ None → (m ≡ None
 or_else_none (Some why) k h = absurd (limit_none h)
 or_else_none None k h = (refl, h)
 
-name_test : (b : Bool) (n : ℕ) (m : Option LimitKind) → nat_le n MAX_NAME_BYTES ≡ b → cond {A = Option LimitKind} b m (Some limit.Name) ≡ None → (n ≤ MAX_NAME_BYTES) × (m ≡ None)
-name_test true n m e h = (leb-true n MAX_NAME_BYTES e, h)
+name_test : (b : Bool) (n : ℕ) (m : Option LimitKind) → nat_le n 64 ≡ b → cond {A = Option LimitKind} b m (Some limit.Name) ≡ None → (n ≤ 64) × (m ≡ None)
+name_test true n m e h = (leb-true n 64 e, h)
 name_test false n m e h = absurd (limit_none h)
 
-name_none : (name : List ℕ) (m : Option LimitKind) → name_mark name m ≡ None → (length name ≤ MAX_NAME_BYTES) × (m ≡ None)
-name_none name m h = name_test (nat_le (length name) MAX_NAME_BYTES) (length name) m refl h
+name_none : (name : List ℕ) (m : Option LimitKind) → name_mark name m ≡ None → (length name ≤ 64) × (m ≡ None)
+name_none name m h = name_test (nat_le (length name) 64) (length name) m refl h
 
 -- a constructor that passes no limit
-pub constructor_none : (k t : ℕ) → constructor_mark k t ≡ None → (k < MAX_SORT_CONSTRUCTORS) × (t < MAX_CONSTRUCTORS)
-constructor_none k t h = let both = or_else_none (over k MAX_SORT_CONSTRUCTORS limit.Constructors) (over t MAX_CONSTRUCTORS limit.Constructors) h in (over_none k MAX_SORT_CONSTRUCTORS limit.Constructors both.0, over_none t MAX_CONSTRUCTORS limit.Constructors both.1)
+pub constructor_none : (k t : ℕ) → constructor_mark k t ≡ None → (k < 64) × (t < 500)
+constructor_none k t h = let both = or_else_none (over k 64 limit.Constructors) (over t 500 limit.Constructors) h in (over_none k 64 limit.Constructors both.0, over_none t 500 limit.Constructors both.1)
 
-term_none : (d n : ℕ) → term_mark d n ≡ None → (n < MAX_ARGUMENTS) × (d < MAX_DEPTH)
-term_none d n h = let both = or_else_none (arity_mark n) (over d MAX_DEPTH limit.Nesting) h in (over_none n MAX_ARGUMENTS limit.Arity both.0, over_none d MAX_DEPTH limit.Nesting both.1)
+term_none : (d n : ℕ) → term_mark d n ≡ None → (n < 8) × (d < 64)
+term_none d n h = let both = or_else_none (arity_mark n) (over d 64 limit.Nesting) h in (over_none n 8 limit.Arity both.0, over_none d 64 limit.Nesting both.1)
 
 -- Each part of a text: its limits are kept, and what stands behind it has no mark. A term with d words above it has less
--- than MAX_DEPTH of them if it has no mark of its own.
+-- than 64 of them if it has no mark of its own.
 mutual
-  term_kept : (d : ℕ) (m : Option LimitKind) (t : RawTree) (v : List Marked) → (m ≡ None → d < MAX_DEPTH) → HasNoMark (term_text d m t v) → (m ≡ None) × (d + raw_depth t ≤ MAX_DEPTH) × WordsKeepLimits t × HasNoMark v
+  term_kept : (d : ℕ) (m : Option LimitKind) (t : RawTree) (v : List Marked) → (m ≡ None → d < 64) → HasNoMark (term_text d m t v) → (m ≡ None) × (d + raw_depth t ≤ 64) × WordsKeepLimits t × HasNoMark v
   term_kept d m (word b a ts) v above h =
       let name = name_none b m h.0 in
       let args = args_kept d ts v (above name.1) h.1 in
       (name.1, omega (arith, args.0), (name.0, args.1, args.2), args.3)
 
-  args_kept : (d : ℕ) (ts : RawTrees) (v : List Marked) → d < MAX_DEPTH → HasNoMark (args_text d ts v) → (d + 1 + raw_depths ts ≤ MAX_DEPTH) × (raw_count ts ≤ MAX_ARGUMENTS) × AllWordsKeepLimits ts × HasNoMark v
+  args_kept : (d : ℕ) (ts : RawTrees) (v : List Marked) → d < 64 → HasNoMark (args_text d ts v) → (d + 1 + raw_depths ts ≤ 64) × (raw_count ts ≤ 8) × AllWordsKeepLimits ts × HasNoMark v
   args_kept d none v le h = (omega arith, omega arith, tt, h)
   args_kept d (some t ts) v le h =
       let first = term_kept (d + 1) (term_mark (d + 1) 0) t (more_text (d + 1) 1 ts (sign RightPar ∷ v)) (λ e. (term_none (d + 1) 0 e).1) h.1 in
       let others = more_kept (d + 1) 1 ts (sign RightPar ∷ v) (omega arith) (omega arith) first.3 in
       (omega (arith, first.1, others.0), others.1, (first.2, others.2), others.3.1)
 
-  more_kept : (d n : ℕ) (ts : RawTrees) (v : List Marked) → d ≤ MAX_DEPTH → n ≤ MAX_ARGUMENTS → HasNoMark (more_text d n ts v) → (d + raw_depths ts ≤ MAX_DEPTH) × (n + raw_count ts ≤ MAX_ARGUMENTS) × AllWordsKeepLimits ts × HasNoMark v
+  more_kept : (d n : ℕ) (ts : RawTrees) (v : List Marked) → d ≤ 64 → n ≤ 8 → HasNoMark (more_text d n ts v) → (d + raw_depths ts ≤ 64) × (n + raw_count ts ≤ 8) × AllWordsKeepLimits ts × HasNoMark v
   more_kept d n none v le few h = (omega arith, omega arith, tt, h)
   more_kept d n (some t ts) v le few h =
       let first = term_kept d (term_mark d n) t (more_text d (n + 1) ts v) (λ e. (term_none d n e).1) h.1 in
@@ -97,15 +96,15 @@ sides_kept m l r v h =
     (left.0, (left.1, right.1), right.2)
 
 -- names
-more_names_kept : (n : ℕ) (xs : List RawName) (v : List Marked) → n ≤ MAX_ARGUMENTS → HasNoMark (more_names_text n xs v) → (n + length xs ≤ MAX_ARGUMENTS) × AllByRecursion NameKeepsLimits xs × HasNoMark v
+more_names_kept : (n : ℕ) (xs : List RawName) (v : List Marked) → n ≤ 8 → HasNoMark (more_names_text n xs v) → (n + length xs ≤ 8) × AllByRecursion NameKeepsLimits xs × HasNoMark v
 more_names_kept n [] v le h = (omega arith, tt, h)
 more_names_kept n (x ∷ xs) v le h =
     let name = name_none x.name (arity_mark n) h.1.0 in
-    let below = over_none n MAX_ARGUMENTS limit.Arity name.1 in
+    let below = over_none n 8 limit.Arity name.1 in
     let others = more_names_kept (n + 1) xs v (omega (arith, below)) h.1.1 in
     (omega (arith, others.0), (name.0, others.1), others.2)
 
-names_kept : (xs : List RawName) (v : List Marked) → HasNoMark (names_text xs v) → (length xs ≤ MAX_ARGUMENTS) × AllByRecursion NameKeepsLimits xs × HasNoMark v
+names_kept : (xs : List RawName) (v : List Marked) → HasNoMark (names_text xs v) → (length xs ≤ 8) × AllByRecursion NameKeepsLimits xs × HasNoMark v
 names_kept [] v h = (omega arith, tt, h)
 names_kept (x ∷ xs) v h =
     let name = name_none x.name (arity_mark 0) h.1.0 in
@@ -119,7 +118,7 @@ con_kept m c v h =
     (name.1, record { name = name.0; few_arguments = args.0; arguments = args.1 }, args.2)
 
 -- sorts
-constructors_kept : (k t : ℕ) (cs : List RawNames) (v : List Marked) → k ≤ MAX_SORT_CONSTRUCTORS → t ≤ MAX_CONSTRUCTORS → HasNoMark (constructors_text k t cs v) → (k + length cs ≤ MAX_SORT_CONSTRUCTORS) × (t + length cs ≤ MAX_CONSTRUCTORS) × AllByRecursion NamesKeepLimits cs × HasNoMark v
+constructors_kept : (k t : ℕ) (cs : List RawNames) (v : List Marked) → k ≤ 64 → t ≤ 500 → HasNoMark (constructors_text k t cs v) → (k + length cs ≤ 64) × (t + length cs ≤ 500) × AllByRecursion NamesKeepLimits cs × HasNoMark v
 constructors_kept k t [] v le few h = (omega arith, omega arith, tt, h)
 constructors_kept k t (c ∷ cs) v le few h =
     let first = con_kept (constructor_mark k t) c (constructors_text (k + 1) (t + 1) cs v) h.1 in
@@ -130,11 +129,11 @@ constructors_kept k t (c ∷ cs) v le few h =
 abbrev in_all : List RawSort → ℕ
 in_all ss = sum_by (λ (s : RawSort). length s.constructors) ss
 
-sorts_kept : (n t : ℕ) (ss : List RawSort) (text v : List Marked) → n ≤ MAX_SORTS → t ≤ MAX_CONSTRUCTORS → AreSorts n t ss text v → HasNoMark text → (n + length ss ≤ MAX_SORTS) × (t + in_all ss ≤ MAX_CONSTRUCTORS) × AllByRecursion SortKeepsLimits ss × HasNoMark v
+sorts_kept : (n t : ℕ) (ss : List RawSort) (text v : List Marked) → n ≤ 200 → t ≤ 500 → AreSorts n t ss text v → HasNoMark text → (n + length ss ≤ 200) × (t + in_all ss ≤ 500) × AllByRecursion SortKeepsLimits ss × HasNoMark v
 sorts_kept n t [] text v le few are h = (omega arith, omega arith, tt, subst HasNoMark are h)
 sorts_kept n t (s ∷ ss) text v le few (first, others, after, cs, is, are) h =
     let marks = subst HasNoMark is h in
-    let below = over_none n MAX_SORTS limit.Sorts marks.0 in
+    let below = over_none n 200 limit.Sorts marks.0 in
     let name = name_none s.head.name None marks.1.0 in
     let con = con_kept (constructor_mark 0 t) first (constructors_text 1 (t + 1) others after) marks.1.1.1 in
     let room = (constructor_none 0 t con.0).1 in
@@ -146,27 +145,27 @@ sorts_kept n t (s ∷ ss) text v le few (first, others, after, cs, is, are) h =
     (omega (arith, rest.0), omega (arith, rest.1, number, sum), (sort, rest.2), rest.3)
 
 -- functions and rules
-funs_kept : (n : ℕ) (fs : List RawFun) (v : List Marked) → n ≤ MAX_FUNCTIONS → HasNoMark (funs_text n fs v) → (n + length fs ≤ MAX_FUNCTIONS) × AllByRecursion FunctionKeepsLimits fs × HasNoMark v
+funs_kept : (n : ℕ) (fs : List RawFun) (v : List Marked) → n ≤ 500 → HasNoMark (funs_text n fs v) → (n + length fs ≤ 500) × AllByRecursion FunctionKeepsLimits fs × HasNoMark v
 funs_kept n [] v le h = (omega arith, tt, h)
 funs_kept n (f ∷ fs) v le h =
-    let below = over_none n MAX_FUNCTIONS limit.Functions h.0 in
+    let below = over_none n 500 limit.Functions h.0 in
     let head = con_kept None f.head (sign Colon ∷ name_text None f.result (funs_text (n + 1) fs v)) h.1 in
     let result = name_none f.result.name None head.2.1.0 in
     let rest = funs_kept (n + 1) fs v (omega (arith, below)) head.2.1.1 in
     (omega (arith, rest.0), (record { head = head.1; result = result.0 }, rest.1), rest.2)
 
-guards_kept : (n : ℕ) (gs : List RawGuard) (v : List Marked) → n ≤ MAX_GUARDS → HasNoMark (guards_text n gs v) → (n + length gs ≤ MAX_GUARDS) × AllByRecursion (λ (g : RawGuard). TermKeepsLimits g.test) gs × HasNoMark v
+guards_kept : (n : ℕ) (gs : List RawGuard) (v : List Marked) → n ≤ 8 → HasNoMark (guards_text n gs v) → (n + length gs ≤ 8) × AllByRecursion (λ (g : RawGuard). TermKeepsLimits g.test) gs × HasNoMark v
 guards_kept n [] v le h = (omega arith, tt, h)
 guards_kept n (g ∷ gs) v le h =
-    let below = over_none n MAX_GUARDS limit.Guards h.0 in
+    let below = over_none n 8 limit.Guards h.0 in
     let test = root_kept None g.test (guards_text (n + 1) gs v) h.1 in
     let rest = guards_kept (n + 1) gs v (omega (arith, below)) test.2 in
     (omega (arith, rest.0), (test.1, rest.1), rest.2)
 
-rules_kept : (n : ℕ) (rs : List RawRule) (v : List Marked) → n ≤ MAX_RULES → HasNoMark (rules_text n rs v) → (n + length rs ≤ MAX_RULES) × AllByRecursion RuleKeepsLimits rs × HasNoMark v
+rules_kept : (n : ℕ) (rs : List RawRule) (v : List Marked) → n ≤ 1000 → HasNoMark (rules_text n rs v) → (n + length rs ≤ 1000) × AllByRecursion RuleKeepsLimits rs × HasNoMark v
 rules_kept n [] v le h = (omega arith, tt, h)
 rules_kept n (r ∷ rs) v le h =
-    let below = over_none n MAX_RULES limit.Rules h.0 in
+    let below = over_none n 1000 limit.Rules h.0 in
     let sides = sides_kept None r.left r.right (guards_text 0 r.guards (rules_text (n + 1) rs v)) h.1 in
     let guards = guards_kept 0 r.guards (rules_text (n + 1) rs v) (omega arith) sides.2 in
     let rest = rules_kept (n + 1) rs v (omega (arith, below)) guards.2 in
@@ -192,15 +191,15 @@ equations_kept whole text key most why one empty first ends goes_on (e ∷ es) v
     let rest = behind_kept text key most why ends goes_on 1 es v one sides.2 in
     (omega (arith, rest.0), (sides.1, rest.1), rest.2)
 
-premises_kept : (es : List RawEq) (v : List Marked) → HasNoMark (premises_text es v) → (length es ≤ MAX_PREMISES) × AllByRecursion EquationKeepsLimits es × HasNoMark v
-premises_kept es v h = equations_kept premises_text commas_text Comma MAX_PREMISES limit.Premises (omega arith) (λ v. refl) (λ e es v. refl) (λ n v. refl) (λ n e es v. refl) es v h
+premises_kept : (es : List RawEq) (v : List Marked) → HasNoMark (premises_text es v) → (length es ≤ 8) × AllByRecursion EquationKeepsLimits es × HasNoMark v
+premises_kept es v h = equations_kept premises_text commas_text Comma 8 limit.Premises (omega arith) (λ v. refl) (λ e es v. refl) (λ n v. refl) (λ n e es v. refl) es v h
 
-conclusions_kept : (es : List RawEq) (v : List Marked) → HasNoMark (conclusions_text es v) → (length es ≤ MAX_CONCLUSIONS) × AllByRecursion EquationKeepsLimits es × HasNoMark v
-conclusions_kept es v h = equations_kept conclusions_text bars_text Bar MAX_CONCLUSIONS limit.Conclusions (omega arith) (λ v. refl) (λ e es v. refl) (λ n v. refl) (λ n e es v. refl) es v h
+conclusions_kept : (es : List RawEq) (v : List Marked) → HasNoMark (conclusions_text es v) → (length es ≤ 4) × AllByRecursion EquationKeepsLimits es × HasNoMark v
+conclusions_kept es v h = equations_kept conclusions_text bars_text Bar 4 limit.Conclusions (omega arith) (λ v. refl) (λ e es v. refl) (λ n v. refl) (λ n e es v. refl) es v h
 
 -- the premises and the conclusions of a goal
 abbrev ClauseKept : List RawEq → List RawEq → List Marked → Type 0
-ClauseKept ps cs v = (length ps ≤ MAX_PREMISES) × AllByRecursion EquationKeepsLimits ps × (length cs ≤ MAX_CONCLUSIONS) × AllByRecursion EquationKeepsLimits cs × HasNoMark v
+ClauseKept ps cs v = (length ps ≤ 8) × AllByRecursion EquationKeepsLimits ps × (length cs ≤ 4) × AllByRecursion EquationKeepsLimits cs × HasNoMark v
 
 clause_kept : (ps cs : List RawEq) (text v : List Marked) → IsClause ps cs text v → HasNoMark text → ClauseKept ps cs v
 clause_kept ps cs text v (inl is) h =
@@ -219,26 +218,26 @@ bind_kept m b v h =
     let sort = name_none b.sort.name None h.1.1.0 in
     (name.1, (name.0, sort.0), h.1.1.1)
 
-more_binds_kept : (n : ℕ) (bs : List RawBind) (v : List Marked) → n ≤ MAX_VARIABLES → HasNoMark (more_binds_text n bs v) → (n + length bs ≤ MAX_VARIABLES) × AllByRecursion BindKeepsLimits bs × HasNoMark v
+more_binds_kept : (n : ℕ) (bs : List RawBind) (v : List Marked) → n ≤ 16 → HasNoMark (more_binds_text n bs v) → (n + length bs ≤ 16) × AllByRecursion BindKeepsLimits bs × HasNoMark v
 more_binds_kept n [] v le h = (omega arith, tt, h)
 more_binds_kept n (b ∷ bs) v le h =
     let bind = bind_kept (variable_mark n) b (more_binds_text (n + 1) bs v) h.1 in
-    let below = over_none n MAX_VARIABLES limit.Variables bind.0 in
+    let below = over_none n 16 limit.Variables bind.0 in
     let rest = more_binds_kept (n + 1) bs v (omega (arith, below)) bind.2 in
     (omega (arith, rest.0), (bind.1, rest.1), rest.2)
 
-binds_kept : (bs : List RawBind) (v : List Marked) → HasNoMark (binds_text bs v) → (length bs ≤ MAX_VARIABLES) × AllByRecursion BindKeepsLimits bs × HasNoMark v
+binds_kept : (bs : List RawBind) (v : List Marked) → HasNoMark (binds_text bs v) → (length bs ≤ 16) × AllByRecursion BindKeepsLimits bs × HasNoMark v
 binds_kept [] v h = (omega arith, tt, h)
 binds_kept (b ∷ bs) v h =
     let bind = bind_kept (variable_mark 0) b (more_binds_text 1 bs (sign RightPar ∷ v)) h.1 in
     let rest = more_binds_kept 1 bs (sign RightPar ∷ v) (omega arith) bind.2 in
     (omega (arith, rest.0), (bind.1, rest.1), rest.2.1)
 
-goals_kept : (n : ℕ) (gs : List RawGoal) (text v : List Marked) → n ≤ MAX_GOALS → AreGoals n gs text v → HasNoMark text → (n + length gs ≤ MAX_GOALS) × AllByRecursion GoalKeepsLimits gs
+goals_kept : (n : ℕ) (gs : List RawGoal) (text v : List Marked) → n ≤ 200 → AreGoals n gs text v → HasNoMark text → (n + length gs ≤ 200) × AllByRecursion GoalKeepsLimits gs
 goals_kept n [] text v le are h = (omega arith, tt)
 goals_kept n (g ∷ gs) text v le (clause, after, is, are_clause, are) h =
     let marks = subst HasNoMark is h in
-    let below = over_none n MAX_GOALS limit.Goals marks.0 in
+    let below = over_none n 200 limit.Goals marks.0 in
     let name = name_none g.head.name None marks.1.0 in
     let binds = binds_kept g.binds (sign Colon ∷ clause) marks.1.1 in
     let equations = clause_kept g.premises g.conclusions clause after are_clause binds.2.1 in

@@ -12,7 +12,6 @@ use Rattle.spec_grammar.specs.declared.raw.RawBind.{RawBind}
 use Rattle.spec_grammar.specs.declared.raw.RawGoal.{RawGoal}
 use Rattle.spec_grammar.specs.declared.raw.RawSpec.{RawSpec}
 use Rattle.spec_grammar.specs.RawTree.{RawTree, RawTrees, word, none, some}
-use Rattle.spec_grammar.specs.declared.limits.TheConstants.{MAX_NAME_BYTES, MAX_SORTS, MAX_SORT_CONSTRUCTORS, MAX_CONSTRUCTORS, MAX_FUNCTIONS, MAX_ARGUMENTS, MAX_DEPTH, MAX_RULES, MAX_GUARDS, MAX_GOALS, MAX_VARIABLES, MAX_PREMISES, MAX_CONCLUSIONS}
 
 -- the depth of a term, 1 for a word alone, and that of the deepest of several terms
 abbrev mutual
@@ -32,7 +31,7 @@ raw_count (some t ts) = 1 + raw_count ts
 abbrev mutual
   pub WordsKeepLimits : RawTree → Type 0
   WordsKeepLimits (word name at ts) =
-      (length name ≤ MAX_NAME_BYTES) × (raw_count ts ≤ MAX_ARGUMENTS) × AllWordsKeepLimits ts
+      (length name ≤ 64) × (raw_count ts ≤ 8) × AllWordsKeepLimits ts
 
   pub AllWordsKeepLimits : RawTrees → Type 0
   AllWordsKeepLimits none = Unit {0}
@@ -40,23 +39,23 @@ abbrev mutual
 
 -- a term whose depth and words keep the limits
 pub record TermKeepsLimits (t : RawTree) : Type 0 where
-  pub depth : raw_depth t ≤ MAX_DEPTH
+  pub depth : raw_depth t ≤ 64
   pub words : WordsKeepLimits t
 
 -- a name that isn't too long
 abbrev pub NameKeepsLimits : RawName → Type 0
-NameKeepsLimits n = length n.name ≤ MAX_NAME_BYTES
+NameKeepsLimits n = length n.name ≤ 64
 
 -- a name with few enough argument sorts
 pub record NamesKeepLimits (c : RawNames) : Type 0 where
-  pub name : length c.name ≤ MAX_NAME_BYTES
-  pub few_arguments : length c.args ≤ MAX_ARGUMENTS
+  pub name : length c.name ≤ 64
+  pub few_arguments : length c.args ≤ 8
   pub arguments : AllByRecursion NameKeepsLimits c.args
 
 -- a sort of few enough constructors
 pub record SortKeepsLimits (s : RawSort) : Type 0 where
   pub name : NameKeepsLimits s.head
-  pub few_constructors : length s.constructors ≤ MAX_SORT_CONSTRUCTORS
+  pub few_constructors : length s.constructors ≤ 64
   pub constructors : AllByRecursion NamesKeepLimits s.constructors
 
 -- a function, whose head has few enough argument sorts
@@ -68,7 +67,7 @@ pub record FunctionKeepsLimits (f : RawFun) : Type 0 where
 pub record RuleKeepsLimits (r : RawRule) : Type 0 where
   pub left : TermKeepsLimits r.left
   pub right : TermKeepsLimits r.right
-  pub few_guards : length r.guards ≤ MAX_GUARDS
+  pub few_guards : length r.guards ≤ 8
   pub guards : AllByRecursion (λ (g : RawGuard). TermKeepsLimits g.test) r.guards
 
 -- an equation whose sides both keep the limits
@@ -82,22 +81,22 @@ BindKeepsLimits b = NameKeepsLimits b.name × NameKeepsLimits b.sort
 -- a goal of few enough bindings, premises and conclusions
 pub record GoalKeepsLimits (g : RawGoal) : Type 0 where
   pub name : NameKeepsLimits g.head
-  pub few_binds : length g.binds ≤ MAX_VARIABLES
+  pub few_binds : length g.binds ≤ 16
   pub binds : AllByRecursion BindKeepsLimits g.binds
-  pub few_premises : length g.premises ≤ MAX_PREMISES
+  pub few_premises : length g.premises ≤ 8
   pub premises : AllByRecursion EquationKeepsLimits g.premises
-  pub few_conclusions : length g.conclusions ≤ MAX_CONCLUSIONS
+  pub few_conclusions : length g.conclusions ≤ 4
   pub conclusions : AllByRecursion EquationKeepsLimits g.conclusions
 
 -- few enough sorts, constructors in all, functions, rules and goals, each of which keeps its limits
 pub record KeepsLimits (raw : RawSpec) : Type 0 where
-  pub few_sorts : length raw.sorts ≤ MAX_SORTS
+  pub few_sorts : length raw.sorts ≤ 200
   pub few_constructors :
-      sum_by (λ (s : RawSort). length s.constructors) raw.sorts ≤ MAX_CONSTRUCTORS
+      sum_by (λ (s : RawSort). length s.constructors) raw.sorts ≤ 500
   pub sorts : AllByRecursion SortKeepsLimits raw.sorts
-  pub few_functions : length raw.funs ≤ MAX_FUNCTIONS
+  pub few_functions : length raw.funs ≤ 500
   pub functions : AllByRecursion FunctionKeepsLimits raw.funs
-  pub few_rules : length raw.rules ≤ MAX_RULES
+  pub few_rules : length raw.rules ≤ 1000
   pub rules : AllByRecursion RuleKeepsLimits raw.rules
-  pub few_goals : length raw.goals ≤ MAX_GOALS
+  pub few_goals : length raw.goals ≤ 200
   pub goals : AllByRecursion GoalKeepsLimits raw.goals

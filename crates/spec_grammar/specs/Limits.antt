@@ -2,7 +2,6 @@
 use Rattle.std.specs.Prelude.{ℕ, List, Option, Some, None, nat_le, length, codes, if◌then◌else◌}
 use Rattle.spec_grammar.specs.declared.limits.LimitKind.{LimitKind}
 use Rattle.spec_grammar.specs.declared.limits.LimitKind.TheVariants as limit
-use Rattle.spec_grammar.specs.declared.limits.TheConstants.{MAX_NAME_BYTES, MAX_SORTS, MAX_SORT_CONSTRUCTORS, MAX_CONSTRUCTORS, MAX_FUNCTIONS, MAX_ARGUMENTS, MAX_DEPTH, MAX_RULES, MAX_GUARDS, MAX_GOALS, MAX_VARIABLES, MAX_PREMISES, MAX_CONCLUSIONS}
 
 -- the item of this number, from 0, of at most so many
 abbrev pub over : ℕ → ℕ → LimitKind → Option LimitKind
@@ -15,44 +14,43 @@ or_else None other = other
 
 -- a name, in a place that may pass a limit itself
 abbrev pub name_mark : List ℕ → Option LimitKind → Option LimitKind
-name_mark name mark = if nat_le (length name) MAX_NAME_BYTES then mark else Some limit.Name
+name_mark name mark = if nat_le (length name) 64 then mark else Some limit.Name
 
 abbrev pub sort_mark : ℕ → Option LimitKind
-sort_mark n = over n MAX_SORTS limit.Sorts
+sort_mark n = over n 200 limit.Sorts
 
 -- k constructors of the sort stand before this one, and n in all
 abbrev pub constructor_mark : ℕ → ℕ → Option LimitKind
 constructor_mark k n =
-    or_else (over k MAX_SORT_CONSTRUCTORS limit.Constructors)
-    (over n MAX_CONSTRUCTORS limit.Constructors)
+    or_else (over k 64 limit.Constructors) (over n 500 limit.Constructors)
 
 abbrev pub fun_mark : ℕ → Option LimitKind
-fun_mark n = over n MAX_FUNCTIONS limit.Functions
+fun_mark n = over n 500 limit.Functions
 
 abbrev pub arity_mark : ℕ → Option LimitKind
-arity_mark n = over n MAX_ARGUMENTS limit.Arity
+arity_mark n = over n 8 limit.Arity
 
 -- the n-th argument of a word, with d words above it
 abbrev pub term_mark : ℕ → ℕ → Option LimitKind
-term_mark d n = or_else (arity_mark n) (over d MAX_DEPTH limit.Nesting)
+term_mark d n = or_else (arity_mark n) (over d 64 limit.Nesting)
 
 abbrev pub rule_mark : ℕ → Option LimitKind
-rule_mark n = over n MAX_RULES limit.Rules
+rule_mark n = over n 1000 limit.Rules
 
 abbrev pub guard_mark : ℕ → Option LimitKind
-guard_mark n = over n MAX_GUARDS limit.Guards
+guard_mark n = over n 8 limit.Guards
 
 abbrev pub goal_mark : ℕ → Option LimitKind
-goal_mark n = over n MAX_GOALS limit.Goals
+goal_mark n = over n 200 limit.Goals
 
 abbrev pub variable_mark : ℕ → Option LimitKind
-variable_mark n = over n MAX_VARIABLES limit.Variables
+variable_mark n = over n 16 limit.Variables
 
 abbrev pub premise_mark : ℕ → Option LimitKind
-premise_mark n = over n MAX_PREMISES limit.Premises
+premise_mark n = over n 8 limit.Premises
 
 abbrev pub conclusion_mark : ℕ → Option LimitKind
-conclusion_mark n = over n MAX_CONCLUSIONS limit.Conclusions
+conclusion_mark n = over n 4 limit.Conclusions
 
 -- the word for a limit
 abbrev pub limit_word : LimitKind → List ℕ

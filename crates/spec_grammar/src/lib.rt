@@ -3,10 +3,11 @@
 //! It stands on spec_text, whose tokens the grammar speaks of. A raw specification is a text's
 //! declarations in their order, with each name as it stands there and its place. The folder
 //! `specs/` has the grammar with its limits as relations on whole token lists, what a fault of a
-//! text is, and a stack of grammar symbols that a reader goes along. The limits' numbers are the
-//! constants beside [`LimitKind`], and stand nowhere else. The layers above use what a text derives,
-//! that it derives one raw specification at most, which keeps the limits, and that it has one fault
-//! at most, and none where it derives one.
+//! text is, and a stack of grammar symbols that a reader goes along. The definitions have the
+//! limits' numbers themselves; the constants beside [`LimitKind`] are for code, which is proved
+//! against the definitions. The layers above use what a text derives, that it derives one raw
+//! specification at most, which keeps the limits, and that it has one fault at most, and none where
+//! it derives one.
 #![tactic(auto)]
 
 mod keys;

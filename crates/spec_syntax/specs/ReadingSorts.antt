@@ -1,7 +1,6 @@
 -- What a function returned that reads sorts, beside the stack of grammar symbols.
 use Rattle.std.specs.Prelude.{◌≡◌, ℕ, ◌+◌, ◌<◌, ◌≤◌, List, [], ◌∷◌, ◌++◌, Option, Some, None, Result, Ok, Err, length}
 use Rattle.spec_grammar.specs.declared.keys.Key.TheVariants.{Sort, Equals, Bar}
-use Rattle.spec_grammar.specs.declared.limits.TheConstants.{MAX_CONSTRUCTORS}
 use Rattle.spec_grammar.specs.declared.raw.RawNames.{RawNames}
 use Rattle.spec_grammar.specs.declared.raw.RawSort.{RawSort}
 use Rattle.spec_grammar.specs.Items.{Item, Sign}
@@ -28,7 +27,7 @@ ReadsConstructor k t made rest items (Ok (Some x)) =
     (clean items ≡ sign Bar ∷ con_text (constructor_mark k t) (made x) (clean (rest x)))
     × ((n : ℕ) (st : List Symbol) → 0 < k
     → run (sorts n k t ∷ st) items ≡ run (sorts n (k + 1) (t + 1) ∷ st) (rest x))
-    × (length (rest x) < length items) × (t < MAX_CONSTRUCTORS)
+    × (length (rest x) < length items) × (t < 500)
 ReadsConstructor k t made rest items (Ok None) = Lacks Bar items
 ReadsConstructor k t made rest items (Err stop) =
     (n : ℕ) → 0 < k → Stops (sorts n k t ∷ []) items stop
@@ -41,7 +40,7 @@ ReadsConstructors t made rest items (Ok x) =
     (0 < k) × (clean items ≡ begun_text t (made x) (clean (rest x)))
     × ((n : ℕ) (st : List Symbol)
     → run (first_constructor n t ++ st) items ≡ run (sorts n k (t + k) ∷ st) (rest x))
-    × (length (rest x) ≤ length items) × (t + k ≤ MAX_CONSTRUCTORS) × Lacks Bar (rest x)
+    × (length (rest x) ≤ length items) × (t + k ≤ 500) × Lacks Bar (rest x)
 ReadsConstructors t made rest items (Err stop) = (n : ℕ) → Stops (first_constructor n t) items stop
 
 -- a sort behind its first word
@@ -58,7 +57,7 @@ ReadsSort t made rest items (Ok x) =
     (0 < k) × (clean items ≡ sort_text t (made x) (clean (rest x)))
     × ((n : ℕ) (st : List Symbol)
     → run (sort_symbols n t ++ st) items ≡ run (sorts n k (t + k) ∷ st) (rest x))
-    × (length (rest x) ≤ length items) × (t + k ≤ MAX_CONSTRUCTORS) × Lacks Bar (rest x)
+    × (length (rest x) ≤ length items) × (t + k ≤ 500) × Lacks Bar (rest x)
 ReadsSort t made rest items (Err stop) = (n : ℕ) → Stops (sort_symbols n t) items stop
 
 -- one more sort, whatever was read of the last one
@@ -69,7 +68,7 @@ ReadsNextSort n t made rest items (Ok (Some x)) =
     (0 < k) × (clean items ≡ (Sign Sort, sort_mark n) ∷ sort_text t (made x) (clean (rest x)))
     × ((j : ℕ) (st : List Symbol)
     → run (sorts n j t ∷ st) items ≡ run (sorts (n + 1) k (t + k) ∷ st) (rest x))
-    × (length (rest x) < length items) × (t + k ≤ MAX_CONSTRUCTORS) × Lacks Bar (rest x)
+    × (length (rest x) < length items) × (t + k ≤ 500) × Lacks Bar (rest x)
 ReadsNextSort n t made rest items (Ok None) = Lacks Sort items
 ReadsNextSort n t made rest items (Err stop) = (j : ℕ) → Stops (sorts n j t ∷ []) items stop
 

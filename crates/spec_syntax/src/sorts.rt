@@ -50,7 +50,7 @@ impl<'a> Source<'a> {
         n: usize,
         total: usize,
     ) -> Result<Option<(RawSort, &'t [Token])>, Stop>
-        requires { total ≤ MAX_CONSTRUCTORS }
+        requires { total ≤ 500 }
         ensures { ReadsNextSort n total (λ x. x.0) (λ x. items_of self.now.bytes.now x.1.now)
             (items_of self.now.bytes.now tokens.now) result }
     {
@@ -64,7 +64,7 @@ impl<'a> Source<'a> {
 
     /// A sort behind its first word, with `total` constructors before it.
     fn sort<'t>(&self, tokens: &'t [Token], total: usize) -> Result<(RawSort, &'t [Token]), Stop>
-        requires { total ≤ MAX_CONSTRUCTORS }
+        requires { total ≤ 500 }
         ensures { ReadsSort total (λ x. x.0) (λ x. items_of self.now.bytes.now x.1.now)
             (items_of self.now.bytes.now tokens.now) result }
     {
@@ -80,7 +80,7 @@ impl<'a> Source<'a> {
         tokens: &'t [Token],
         total: usize,
     ) -> Result<(Seq<RawNames>, &'t [Token]), Stop>
-        requires { total ≤ MAX_CONSTRUCTORS }
+        requires { total ≤ 500 }
         ensures { ReadsConstructors total (λ x. x.0) (λ x. items_of self.now.bytes.now x.1.now)
             (items_of self.now.bytes.now tokens.now) result }
     {
@@ -102,7 +102,7 @@ impl<'a> Source<'a> {
         k: usize,
         total: usize,
     ) -> Result<Option<(RawNames, &'t [Token])>, Stop>
-        requires { k + total ≤ MAX_CONSTRUCTORS }
+        requires { k + total ≤ 500 }
         ensures { ReadsConstructor k (total + k) (λ x. x.0)
             (λ x. items_of self.now.bytes.now x.1.now) (items_of self.now.bytes.now tokens.now)
             result }

@@ -31,7 +31,7 @@ impl<'a> Source<'a> {
         depth: usize,
         over: Option<LimitKind>,
     ) -> Result<(RawTerm, &'t [Token]), Stop>
-        requires { over ≡ None → depth < MAX_DEPTH }
+        requires { over ≡ None → depth < 64 }
         ensures { Reads (λ x. term_text depth over x.0) (λ x. items_of self.now.bytes.now x.1.now)
             (term_then depth over []) (items_of self.now.bytes.now tokens.now) result }
     {
@@ -44,7 +44,7 @@ impl<'a> Source<'a> {
     #[cycle(term)]
     #[tactic(auto, unfolding(spec_grammar::specs::Symbols::run))]
     fn args<'t>(&self, tokens: &'t [Token], depth: usize) -> Result<(RawTerms, &'t [Token]), Stop>
-        requires { depth < MAX_DEPTH }
+        requires { depth < 64 }
         ensures { Reads (λ x. args_text depth (raw_trees x.0))
             (λ x. items_of self.now.bytes.now x.1.now) (args_symbol depth ∷ [])
             (items_of self.now.bytes.now tokens.now) result }
@@ -72,7 +72,7 @@ impl<'a> Source<'a> {
         depth: usize,
         n: usize,
     ) -> Result<Option<(RawTerm, &'t [Token])>, Stop>
-        requires { depth ≤ MAX_DEPTH }
+        requires { depth ≤ 64 }
         ensures { ReadsNext (λ x v. sign Comma ∷ term_text depth (term_mark depth n) x.0 v)
             (λ x. items_of self.now.bytes.now x.1.now) (more_symbol depth n)
             (more_symbol depth (n + 1)) (items_of self.now.bytes.now tokens.now) result }

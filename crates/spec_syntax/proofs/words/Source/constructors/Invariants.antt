@@ -1,4 +1,3 @@
-use Rattle.spec_grammar.specs.declared.limits.TheConstants.{MAX_CONSTRUCTORS}
 use Rattle.std.proofs.Common.{◌≡◌, ◌+◌, ◌<◌, ◌≤◌, ℕ, List, ◌∷◌, ◌++◌, length}
 use Rattle.spec_grammar.specs.Derives.{clean}
 use Rattle.spec_grammar.specs.Items.{items_of}
@@ -9,7 +8,7 @@ use Rattle.spec_syntax.proofs.words.Source.constructors.Given as goal
 abbrev pub invariant-loop-made : goal.invariant-loop-made
 invariant-loop-made l = record {
   some : 0 < length l.made;
-  few : l.total + length l.made ≤ MAX_CONSTRUCTORS;
+  few : l.total + length l.made ≤ 500;
   text : clean (items_of l.self.bytes.now l.fn.tokens) ≡ begun_text l.total l.made (clean (items_of l.self.bytes.now l.rest));
   same : (n : ℕ) (st : List Symbol) → run (first_constructor n l.total ++ st) (items_of l.self.bytes.now l.fn.tokens) ≡ run (sorts n (length l.made) (l.total + length l.made) ∷ st) (items_of l.self.bytes.now l.rest);
   less : length (items_of l.self.bytes.now l.rest) ≤ length (items_of l.self.bytes.now l.fn.tokens);

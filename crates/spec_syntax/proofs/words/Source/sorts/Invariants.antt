@@ -1,4 +1,3 @@
-use Rattle.spec_grammar.specs.declared.limits.TheConstants.{MAX_CONSTRUCTORS}
 use Rattle.std.proofs.Common.{◌≡◌, ◌≤◌, ◌⊎◌, ℕ, List, ◌∷◌, length}
 use Rattle.spec_grammar.specs.declared.keys.Key.TheVariants.{Bar}
 use Rattle.spec_grammar.specs.Derives.{clean}
@@ -11,7 +10,7 @@ use Rattle.spec_syntax.proofs.words.Source.sorts.Given as goal
 
 abbrev pub invariant-loop-made : goal.invariant-loop-made
 invariant-loop-made l = record {
-  few : l.total ≤ MAX_CONSTRUCTORS;
+  few : l.total ≤ 500;
   total : l.total ≡ counted l.made;
   text : AreSorts 0 0 l.made (clean (items_of l.self.bytes.now l.fn.tokens)) (clean (items_of l.self.bytes.now l.rest));
   last : (j : ℕ) × ((st : List Symbol) → run (sorts 0 0 0 ∷ st) (items_of l.self.bytes.now l.fn.tokens) ≡ run (sorts (length l.made) j l.total ∷ st) (items_of l.self.bytes.now l.rest)) × ((j ≡ 0) ⊎ Lacks Bar (items_of l.self.bytes.now l.rest));
