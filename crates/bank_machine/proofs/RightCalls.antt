@@ -52,6 +52,22 @@ says_also old mid new place one f ps known before lt e is g qs other (i, two, at
       | inr apart ↦ inl (before g qs other (i, two, sym (set_other mid.calls.items place i one apart) ∙ there, k))
     ]
 
+-- nothing is known any more of what stood in a place
+pub says_less : (old mid new : KeptCalls) (place : ℕ) (one : KeptCall) → SaysNoMore old mid → place < length mid.calls.items → new.calls.items ≡ set mid.calls.items place one → one.known ≡ None → SaysNoMore old new
+says_less old mid new place one before lt e none g qs other (i, two, at, k) =
+    let there : slice_get (set mid.calls.items place one) i ≡ Some two = subst (λ xs. slice_get xs i ≡ Some two) e at in
+    elim (same_or_not i place) [
+      | inl same ↦
+          let q : one ≡ two = some_same (slice_get (set mid.calls.items place one) place) one two (set_same mid.calls.items place one lt) (subst (λ j. slice_get (set mid.calls.items place one) j ≡ Some two) same there) in
+          let v : None ≡ Some other = sym none ∙ ap (λ (c : KeptCall). c.known) q ∙ k.value in
+          absurd (let w : None ≡ Some other = v in cc)
+      | inr apart ↦ before g qs other (i, two, sym (set_other mid.calls.items place i one apart) ∙ there, k)
+    ]
+
+-- nothing is known but what was known before
+pub says_before : (old new : KeptCalls) (f : ℕ) (ps : List ℕ) (known : Known) → SaysNoMore old new → SaysAlso old new f ps known
+says_before old new f ps known before g qs other says = inl (before g qs other says)
+
 -- what is right
 
 module _ (spec : Spec) where

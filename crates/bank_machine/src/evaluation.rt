@@ -41,7 +41,7 @@ impl<'a> Machine<'a> {
             → CanRun self.now bank.old side values.now term terms sort
             → IsBankEval self.now.spec bank.new (instance terms term) budget found) }
         ensures adds { AddsCells bank.old bank.new }
-        ensures kept { IfOk result (λ _. AreRight self.now.spec bank.new kept.new) }
+        ensures kept { AreRight self.now.spec bank.new kept.new }
         ensures few { IfOk result (λ _. length bank.new
             ≤ length bank.old + most_added self.now budget) }
     {
@@ -68,7 +68,7 @@ impl<'a> Machine<'a> {
             → Works self.now bank.old (shown stack) s sort
             → Pays self.now budget (shown stack) s → Ran self.now.spec bank.new s budget found) }
         ensures adds { AddsCells bank.old bank.new }
-        ensures kept { IfOk result (λ _. AreRight self.now.spec bank.new kept.new) }
+        ensures kept { AreRight self.now.spec bank.new kept.new }
         ensures few { IfOk result (λ _. length bank.new
             ≤ length bank.old + fuel self.now (shown stack) budget) }
     {

@@ -1,4 +1,4 @@
-ghost use Rattle.std.specs.Prelude.{◌≡◌, ◌↔◌, List, IfOk, IfSome, IsTrue};
+ghost use Rattle.std.specs.Prelude.{◌≡◌, ◌↔◌, List, None, IfOk, OnOk, OnErr, IfSome, IsTrue};
 ghost use Rattle.spec_core.specs.declared.records.Spec.{Spec};
 ghost use Rattle.value_bank.specs.Cells.{Cell};
 ghost use Rattle.bank_machine.specs.KeptCalls.{Says, SaysNoMore, SaysAlso, IsKept, HaveNoValues, AreRight};
@@ -34,10 +34,13 @@ pub(crate) struct KeptCall {
 }
 
 impl KeptCall {
-    /// Another call takes the place of this one.
+    /// Another call takes the place of this one. Where its arguments find no room, nothing is known
+    /// of what stands there.
     fn replace(&mut self, sym: u32, args: &[u32], known: Known) -> Result<(), OutOfMemory>
-        ensures { IfOk result (λ _. IsKept self.new sym args.now known) }
+        ensures kept { OnOk result (IsKept self.new sym args.now known) }
+        ensures cleared { OnErr result (self.new.known ≡ None) }
     {
+        self.known = None;
         self.sym = sym;
         self.args.clear();
         self.args.extend_from_slice(args)?;
@@ -97,9 +100,10 @@ impl KeptCalls {
         }
     }
 
-    /// Keeps what is known of a call, in place of another one.
+    /// Keeps what is known of a call, in place of another one. After want of memory too, the table
+    /// says nothing else than before and what is known of this call.
     pub(crate) fn keep(&mut self, sym: u32, args: &[u32], known: Known) -> Result<(), OutOfMemory>
-        ensures { IfOk result (λ _. SaysAlso self.old self.new sym args.now known) }
+        ensures { SaysAlso self.old self.new sym args.now known }
     {
         self.begin()?;
         let place = place_of(sym, args);
@@ -112,7 +116,7 @@ impl KeptCalls {
 
     /// Makes room, unless there is some.
     fn begin(&mut self) -> Result<(), OutOfMemory>
-        ensures { IfOk result (λ _. SaysNoMore self.old self.new) }
+        ensures { SaysNoMore self.old self.new }
     {
         if self.calls.is_empty() {
             self.calls = no_calls(self.alloc)?;

@@ -60,7 +60,7 @@ impl<'a> Machine<'a> {
             × IsRight self.now.spec bank.now f (gathered stack.now.places.items stack.now.base ss)
             known }
         requires kept { AreRight self.now.spec bank.now kept.old }
-        ensures { IfOk result (λ _. AreRight self.now.spec bank.now kept.new) }
+        ensures { AreRight self.now.spec bank.now kept.new }
     {
         if !kept.wants(known.cost) {
             return Ok(());

@@ -33,7 +33,7 @@ impl<'a> Machine<'a> {
             (shown stack.new)) }
         ensures adds { AddsCells bank.old bank.new }
         ensures few { length bank.new ≤ suc (length bank.old) }
-        ensures kept { IfOk result (λ _. AreRight self.now.spec bank.new kept.new) }
+        ensures kept { AreRight self.now.spec bank.new kept.new }
     {
         let (kind, slots) = self.code.at(stack.next);
         match kind {
@@ -190,7 +190,7 @@ impl<'a> Machine<'a> {
         requires works { IsUnderWay self.now bank.now left (shown stack.old) }
         ensures turn { IfOk result (IsTurn self.now bank.now bank.now left (shown stack.old)
             (shown stack.new)) }
-        ensures kept { IfOk result (λ _. AreRight self.now.spec bank.now kept.new) }
+        ensures kept { AreRight self.now.spec bank.now kept.new }
     {
         let place = stack.slot(slot);
         match stack.give(place)? {

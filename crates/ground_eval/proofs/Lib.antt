@@ -4,6 +4,7 @@ pub mod GoalSides
 pub mod Lists
 pub mod Walks
 pub mod Same
+mod LentBanks
 mod SharedSides
 mod CodeLengths
 mod FewCells

@@ -12,9 +12,8 @@ use Rattle.value_bank.specs.Cells.{Cell}
 use Rattle.value_bank.specs.Answers.{IsAnswer, IsLarge}
 use Rattle.value_bank.specs.declared.bank.ValueId.{ValueId}
 use Rattle.value_bank.proofs.Terms.{one_term_at}
-use Rattle.rule_code.specs.Programs.{Program, IsSide}
 use Rattle.bank_machine.specs.declared.answers.BankEval.TheVariants as found
-use Rattle.bank_machine.specs.Runs.{CanRun, IsBankEval}
+use Rattle.bank_machine.specs.Runs.{IsBankEval}
 use Rattle.ground_eval.specs.declared.answers.Eval.{Eval}
 use Rattle.ground_eval.specs.declared.answers.Eval.TheVariants.{Value, Large, Spent}
 use Rattle.ground_eval.specs.Evals.{IsEval, IsOnly}
@@ -26,12 +25,6 @@ eval_only spec fine t s b (Large n) p h = λ a w x m g.
     let d = determined spec fine a w g s p h.1 in
     (subst (λ y. 10000 < tree_size y) (sym d.0) h.3, d.1)
 eval_only spec fine t s b Spent p h = tt
-
--- a term without variables can run
-pub ground_runs : (p : Program) (cells : List Cell) (side : ℕ) (ids : List ValueId) (t : Tree) (s : SortId) → ids ≡ [] → IsSide p side 0 t → Sorted p.spec.sig [] t s → CanRun p cells side ids t [] s
-ground_runs p cells side ids t s e code sorted =
-    let none : CanRun p cells side [] t [] s = record { code = code; stand = tt; built = tt; sorted = subst (λ x. Sorted p.spec.sig [] x s) (sym (instance_none t)) sorted } in
-    subst (λ xs. CanRun p cells side xs t [] s) (sym e) none
 
 module _ (spec : Spec) (cells : List Cell) (t : Tree) (budget : ℕ) (id : ValueId) (n : ℕ) (h : IsBankEval spec cells (instance [] t) budget (found.Value id n)) where
   -- the value is read from the bank

@@ -1,20 +1,16 @@
 -- What runs of the machine say of the sides of equations.
 use Rattle.std.proofs.Common.{◌≡◌, ◌⊎◌, ◌↔◌, ℕ, zero, suc, ◌+◌, ◌<◌, List, [], ◌∷◌, ◌++◌, Some, None, Bool, true, false, inl, inr, refl, ap, sym, ◌∙◌, subst, arith, length, length-append, map, take}
 use Rattle.std.specs.Prelude.{slice_get, IsTrue}
-use Rattle.std.specs.List.{AllByRecursion}
 use Rattle.std.proofs.lemmas.List.{length-map, map-append}
 use Rattle.std.proofs.lemmas.Option.{slice_get_within}
 use Rattle.term_core.proofs.Items.{all_at}
-use Rattle.term_core.specs.Tree.{Tree, Trees, var, app, none, some, instance, trees_of}
+use Rattle.term_core.specs.Tree.{Tree, instance, trees_of}
 use Rattle.term_core.specs.declared.ids.SortId.{SortId}
 use Rattle.spec_core.specs.declared.records.Equation.{Equation}
 use Rattle.spec_core.specs.declared.records.Spec.{Spec}
 use Rattle.spec_core.specs.Gives.{Gives}
-use Rattle.spec_core.specs.Sorts.{IsBuilt, AreBuilt}
-use Rattle.spec_core.specs.Sig.{Sig}
 use Rattle.spec_core.specs.WellSorted.{EquationsAreSorted, GoalIsSorted, sorts_of}
 use Rattle.value_bank.specs.Cells.{Cell, IsTerm, AreTerms, AddsCells}
-use Rattle.value_bank.specs.Ground.{IsGround, AreGround}
 use Rattle.rule_code.proofs.Homes.{get_either}
 use Rattle.rule_code.proofs.Joined.{joined}
 use Rattle.ground_eval.proofs.Lists.{take_here}
@@ -173,22 +169,6 @@ value_stands old new ids after values i id v at adds h here is =
     let places : map (λ (x : ValueId). x.0) after ≡ map (λ (x : ValueId). x.0) ids ++ id.0 ∷ [] = ap (λ z. map (λ (x : ValueId). x.0) z) is ∙ map-append (λ (x : ValueId). x.0) ids (id ∷ []) in
     let kept = stand_kept old new ids (take i values) adds h in
     subst (λ vs. StandAt new after vs) (sym (take_here values i v at)) (subst (λ ps. AreTerms new ps (trees_of (take i values ++ v ∷ []))) (sym places) (joined new (map (λ (x : ValueId). x.0) ids) (id.0 ∷ []) (take i values) (v ∷ []) kept (here, tt)))
-
-mutual
-  built_ground : (sig : Sig) (t : Tree) → IsBuilt sig t → IsGround t
-  built_ground sig (var n) h = absurd h
-  built_ground sig (app f ts) h = all_ground sig ts h.1
-
-  all_ground : (sig : Sig) (ts : Trees) → AreBuilt sig ts → AreGround ts
-  all_ground sig none h = tt
-  all_ground sig (some t ts) h = (built_ground sig t h.0, all_ground sig ts h.1)
-
--- values have no variables
-pub values_ground : (spec : Spec) (ss : List SortId) (vs : List Tree) → AreValuesOf spec ss vs → AllByRecursion IsGround vs
-values_ground spec [] [] h = tt
-values_ground spec [] (v ∷ vs) h = absurd h
-values_ground spec (s ∷ ss) [] h = absurd h
-values_ground spec (s ∷ ss) (v ∷ vs) h = (built_ground spec.sig v h.0.1, values_ground spec ss vs h.1)
 
 pub sorts_count : (vars : List VarInfo) → length (sorts_of vars) ≡ length vars
 sorts_count vars = length-map vars _

@@ -42,7 +42,7 @@ pub(crate) fn compare_premises(
         → CanCompareAll machine.now bank.old premises.now values.now es terms
         → PremisesAre machine.now.spec terms budget es r) }
     ensures adds { AddsCells bank.old bank.new }
-    ensures kept { IfOk result (λ _. AreRight machine.now.spec bank.new kept.new) }
+    ensures kept { AreRight machine.now.spec bank.new kept.new }
     ensures few { IfOk result (λ _. length bank.new
         ≤ length bank.old + most_compared machine.now (length premises.now) budget) }
 {
@@ -74,7 +74,7 @@ pub(crate) fn compare_conclusions(
         → CanCompareAll machine.now bank.old conclusions.now values.now es terms
         → ConclusionsAre machine.now.spec terms budget es r) }
     ensures adds { AddsCells bank.old bank.new }
-    ensures kept { IfOk result (λ _. AreRight machine.now.spec bank.new kept.new) }
+    ensures kept { AreRight machine.now.spec bank.new kept.new }
     ensures few { IfOk result (λ _. length bank.new
         ≤ length bank.old + most_compared machine.now (length conclusions.now) budget) }
 {
@@ -106,7 +106,7 @@ fn compare_sides(
         → CanCompare machine.now bank.old sides values.now e terms
         → SidesAre machine.now.spec terms budget e r) }
     ensures adds { AddsCells bank.old bank.new }
-    ensures kept { IfOk result (λ _. AreRight machine.now.spec bank.new kept.new) }
+    ensures kept { AreRight machine.now.spec bank.new kept.new }
     ensures few { IfOk result (λ _. length bank.new
         ≤ length bank.old + 2 * most_added machine.now budget) }
 {

@@ -9,8 +9,9 @@ ghost use Rattle.spec_core.specs.Verdict.{IsVerdict};
 ghost use Rattle.ground_eval.specs.Evals.{IsEval, IsOnly};
 
 use crate::answers::Eval;
-use crate::prepared::{compile_goal, place_values, whole_verdict};
-use bank_machine::{BankEval, KeptCalls, Machine};
+use crate::over_bank::{Evaluate, verdict_in};
+use crate::prepared::place_values;
+use bank_machine::BankEval;
 use spec_core::{Goal, Spec, Verdict};
 use std::alloc::Global;
 use term_core::{OutOfMemory, Term};
@@ -23,11 +24,8 @@ pub fn eval(alloc: Global, spec: &Spec, term: &Term, budget: u32) -> Result<Eval
     ensures found { IfOk result (IsEval spec.now term.now budget) }
     ensures only { IfOk result (IsOnly spec.now term.now) }
 {
-    let machine = Machine::new(alloc, spec)?;
-    let (prepared, side) = machine.with_term(alloc, term, 0)?;
     let mut bank = Bank::new(alloc)?;
-    let mut kept = KeptCalls::new(alloc);
-    match prepared.run(alloc, &mut bank, &mut kept, side, &[], budget)? {
+    match bank.run(alloc, spec, term, &[], budget)? {
         BankEval::Spent => Ok(Eval::Spent),
         BankEval::Value { id, steps } => match bank.term(alloc, id) {
             Ok(value) => Ok(Eval::Value { value, steps }),
@@ -54,19 +52,7 @@ pub fn verdict(
         → IsVerdict spec.now values.now budget goal.now r) }
     ensures fails { IfOk result (λ r. r ≡ Verdict.Fails → GoalFails spec.now values.now goal.now) }
 {
-    let machine = Machine::new(alloc, spec)?;
-    let (machine, premises, conclusions) = compile_goal(alloc, machine, goal)?;
     let mut bank = Bank::new(alloc)?;
     let ids = place_values(alloc, &mut bank, values)?;
-    let mut kept = KeptCalls::new(alloc);
-    whole_verdict(
-        alloc,
-        &machine,
-        &mut bank,
-        &mut kept,
-        &premises,
-        &conclusions,
-        &ids,
-        budget,
-    )
+    verdict_in(alloc, &mut bank, spec, goal, &ids, budget)
 }

@@ -54,8 +54,7 @@ impl ConstantMarks {
     /// has, is answered as memory that isn't there.
     fn grow(&mut self, bank: &Bank, constants: Constants) -> Result<(), OutOfMemory>
         requires { AreMarks constants.from constants.to bank.now self.old.marks.items }
-        ensures right { IfOk result (λ _. AreMarks constants.from constants.to bank.now
-            self.new.marks.items) }
+        ensures right { AreMarks constants.from constants.to bank.now self.new.marks.items }
         ensures whole { IfOk result (λ _. length bank.now ≤ length self.new.marks.items) }
     {
         while self.marks.len() < bank.len() {
@@ -108,8 +107,7 @@ pub(crate) fn compare_values(
     ensures are { IfOk result (λ r. (v : Tree) (w : Tree) → IsTerm bank.now left.0 v
         → IsTerm bank.now right.0 w
         → ValuesAre constants.from constants.to v w r) }
-    ensures marks { IfOk result (λ _. AreMarks constants.from constants.to bank.now
-        marks.new.marks.items) }
+    ensures marks { AreMarks constants.from constants.to bank.now marks.new.marks.items }
 {
     if bank.same(left, right) {
         return Ok(OpenSides::Same);

@@ -39,9 +39,8 @@ pub(crate) fn compare_open_premises(
         → CanOpenAll s machine.now bank.old premises.now values.now es
         → PremisesOpen s budget es r) }
     ensures adds { AddsCells bank.old bank.new }
-    ensures kept { IfOk result (λ _. AreRight machine.now.spec bank.new kept.new) }
-    ensures marks { IfOk result (λ _. AreMarks constants.from constants.to bank.new
-        marks.new.marks.items) }
+    ensures kept { AreRight machine.now.spec bank.new kept.new }
+    ensures marks { AreMarks constants.from constants.to bank.new marks.new.marks.items }
     ensures few { IfOk result (λ _. length bank.new
         ≤ length bank.old + most_compared machine.now (length premises.now) budget) }
 {
@@ -79,9 +78,8 @@ pub(crate) fn compare_open_conclusions(
         → CanOpenAll s machine.now bank.old conclusions.now values.now es
         → ConclusionsOpen s budget es r) }
     ensures adds { AddsCells bank.old bank.new }
-    ensures kept { IfOk result (λ _. AreRight machine.now.spec bank.new kept.new) }
-    ensures marks { IfOk result (λ _. AreMarks constants.from constants.to bank.new
-        marks.new.marks.items) }
+    ensures kept { AreRight machine.now.spec bank.new kept.new }
+    ensures marks { AreMarks constants.from constants.to bank.new marks.new.marks.items }
     ensures few { IfOk result (λ _. length bank.new
         ≤ length bank.old + most_compared machine.now (length conclusions.now) budget) }
 {
@@ -125,9 +123,8 @@ fn compare_open_sides(
     ensures sides { IfOk result (λ r. (s : Setting) (e : Equation) → IsSet s machine.now constants
         → CanOpen s machine.now bank.old sides values.now e → SidesOpen s budget e r) }
     ensures adds { AddsCells bank.old bank.new }
-    ensures kept { IfOk result (λ _. AreRight machine.now.spec bank.new kept.new) }
-    ensures marks { IfOk result (λ _. AreMarks constants.from constants.to bank.new
-        marks.new.marks.items) }
+    ensures kept { AreRight machine.now.spec bank.new kept.new }
+    ensures marks { AreMarks constants.from constants.to bank.new marks.new.marks.items }
     ensures few { IfOk result (λ _. length bank.new
         ≤ length bank.old + 2 * most_added machine.now budget) }
 {

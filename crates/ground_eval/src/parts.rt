@@ -117,8 +117,8 @@ impl<'a> PartialGoal<'a> {
             → AreFirstValues self.now.spec self.now.goal terms
             → IsPart self.now.spec self.now.goal terms budget part) }
         ensures adds { AddsCells bank.old bank.new }
-        ensures kept { IfOk result (λ _. AreRight self.now.extended bank.new kept.new) }
-        ensures marks { IfOk result (λ _. AreMarksOf self.now bank.new marks.new) }
+        ensures kept { AreRight self.now.extended bank.new kept.new }
+        ensures marks { AreMarksOf self.now bank.new marks.new }
         ensures few { IfOk result (λ _. length bank.new
             ≤ length bank.old + most_looked self.now budget) }
     {
@@ -166,8 +166,8 @@ impl<'a> PartialGoal<'a> {
             → AreEntriesAt self.now bank.old entries.now terms
             → SayOfAll self.now.spec self.now.goal budget terms r) }
         ensures adds { AddsCells bank.old bank.new }
-        ensures kept { IfOk result (λ _. AreRight self.now.extended bank.new kept.new) }
-        ensures marks { IfOk result (λ _. AreMarksOf self.now bank.new marks.new) }
+        ensures kept { AreRight self.now.extended bank.new kept.new }
+        ensures marks { AreMarksOf self.now bank.new marks.new }
         ensures few { IfOk result (λ _. 2 + length bank.new ≤ length bank.old
             + most_over self.now (length self.now.goal.vars - length entries.now) budget) }
     {
@@ -214,8 +214,8 @@ impl<'a> PartialGoal<'a> {
             → AreEntriesAt self.now bank.old entries.now terms
             → SayOfAll self.now.spec self.now.goal budget terms r) }
         ensures adds { AddsCells bank.old bank.new }
-        ensures kept { IfOk result (λ _. AreRight self.now.extended bank.new kept.new) }
-        ensures marks { IfOk result (λ _. AreMarksOf self.now bank.new marks.new) }
+        ensures kept { AreRight self.now.extended bank.new kept.new }
+        ensures marks { AreMarksOf self.now bank.new marks.new }
         ensures few { IfOk result (λ _. length bank.new
             ≤ length bank.old + most_evaluated self.now budget) }
     {
@@ -284,9 +284,8 @@ fn open_verdict(
         → CanOpenAll s machine.now bank.old conclusions.now values.now goal.conclusions
         → GoalOpens s budget goal r) }
     ensures adds { AddsCells bank.old bank.new }
-    ensures kept { IfOk result (λ _. AreRight machine.now.spec bank.new kept.new) }
-    ensures marks { IfOk result (λ _. AreMarks constants.from constants.to bank.new
-        marks.new.marks.items) }
+    ensures kept { AreRight machine.now.spec bank.new kept.new }
+    ensures marks { AreMarks constants.from constants.to bank.new marks.new.marks.items }
     ensures few { IfOk result (λ _. length bank.new ≤ length bank.old
         + most_compared machine.now (length premises.now + length conclusions.now) budget) }
 {

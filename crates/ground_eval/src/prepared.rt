@@ -70,8 +70,8 @@ fn compile_sides<'a>(
     Ok((machine, pairs))
 }
 
-/// Puts the values into the bank.
-pub(crate) fn place_values(
+/// Puts the values into the bank, and answers their places.
+pub fn place_values(
     alloc: Global,
     bank: &mut Bank,
     values: &[Term],
@@ -109,7 +109,7 @@ pub(crate) fn whole_verdict(
         → CanCompareAll machine.now bank.old conclusions.now values.now goal.conclusions terms
         → IsDecided machine.now.spec terms budget goal verdict) }
     ensures adds { AddsCells bank.old bank.new }
-    ensures kept { IfOk result (λ _. AreRight machine.now.spec bank.new kept.new) }
+    ensures kept { AreRight machine.now.spec bank.new kept.new }
     ensures few { IfOk result (λ _. length bank.new ≤ length bank.old
         + most_compared machine.now (length premises.now + length conclusions.now) budget) }
 {

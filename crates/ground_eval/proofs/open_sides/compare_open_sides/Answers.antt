@@ -79,3 +79,9 @@ returns-in-Value-2-clause-sides c =
 
 pub returns-in-Value-2-clause-few : goal.returns-in-Value-2-clause-few
 returns-in-Value-2-clause-few c = if_ok_map c.compare_values.result _ _ (λ answer h. omega (arith, c.in_ok-run.ensures.few, c.in_ok-run-in-Value.ensures.few)) c.compare_values.ensures.are
+
+pub returns-in_err-run-clause-marks : goal.returns-in_err-run-clause-marks
+returns-in_err-run-clause-marks c = marks_kept c.args.constants.from c.args.constants.to c.args.bank.now c.run.new.bank c.args.marks.now.marks.items c.run.ensures.adds c.requires.marks
+
+pub returns-in_err-run-in-Value-clause-marks : goal.returns-in_err-run-in-Value-clause-marks
+returns-in_err-run-in-Value-clause-marks c = marks_kept c.args.constants.from c.args.constants.to c.args.bank.now c.run-in-Value.new.bank c.args.marks.now.marks.items (adds_both c.args.bank.now c.run.new.bank c.run-in-Value.new.bank c.run.ensures.adds c.run-in-Value.ensures.adds) c.requires.marks

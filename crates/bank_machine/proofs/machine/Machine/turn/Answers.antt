@@ -34,13 +34,7 @@ pub returns-in-Build-clause-turn : goal.returns-in-Build-clause-turn
 returns-in-Build-clause-turn c = if_ok_map c.build.result _ _ (λ turn h. h c.args.left) c.build.ensures.turn
 
 pub returns-in-Build-clause-kept : goal.returns-in-Build-clause-kept
-returns-in-Build-clause-kept c = if_ok_map c.build.result _ _ (λ turn h. right_kept c.args.self.now.spec c.args.bank.now c.build.new.bank c.args.kept.now c.build.ensures.adds c.requires.kept) c.build.ensures.turn
-
-pub returns-in-Call-clause-kept : goal.returns-in-Call-clause-kept
-returns-in-Call-clause-kept c = if_ok_map c.call.result _ _ (λ turn h. c.requires.kept) c.call.ensures
-
-pub returns-in-Last-clause-kept : goal.returns-in-Last-clause-kept
-returns-in-Last-clause-kept c = if_ok_map c.call_last.result _ _ (λ turn h. c.requires.kept) c.call_last.ensures
+returns-in-Build-clause-kept c = right_kept c.args.self.now.spec c.args.bank.now c.build.new.bank c.args.kept.now c.build.ensures.adds c.requires.kept
 
 pub returns-in-Decide-clause-turn : goal.returns-in-Decide-clause-turn
 returns-in-Decide-clause-turn c = c.decide.ensures c.args.left

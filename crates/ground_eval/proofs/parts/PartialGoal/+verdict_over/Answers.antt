@@ -235,3 +235,21 @@ returns-clause-few t c =
     let longer : length c.deref-2.result.now ≡ suc (length ids) = ap (λ (xs : List ValueId). length xs) c.deref-2.ensures.value ∙ c.in_ok-with_true.ensures.longer in
     let longer-2 : length c.deref-in-Some.result.now ≡ suc (length ids) = ap (λ (xs : List ValueId). length xs) c.deref-in-Some.ensures.value ∙ c.in_ok-with_false-in-Some.ensures.longer in
     few_two z c.args.budget (length z.goal.vars - length ids) (length z.goal.vars - length c.deref-2.result.now) (length z.goal.vars - length c.deref-in-Some.result.now) (length c.args.bank.now) (length c.add_symbol-2.new.bank) (length c.verdict_over-2.new.bank) (length c.add_symbol-in-Some.new.bank) (length c.verdict_over-in-Some.new.bank) (omega (arith, lt, longer)) (omega (arith, lt, longer-2)) c.in_ok-with_true.ensures.few c.in_ok-verdict_over.ensures.few c.in_ok-with_false-in-Some.ensures.few c.in_ok-verdict_over-in-Some.ensures.few
+
+pub returns-in_err-more-clause-kept : goal.returns-in_err-more-clause-kept
+returns-in_err-more-clause-kept t c = right_still c.args.self.now.extended c.args.bank.now c.add_symbol.new.bank c.args.kept.now c.add_symbol.ensures.adds c.requires.kept
+
+pub returns-in_err-more-clause-marks : goal.returns-in_err-more-clause-marks
+returns-in_err-more-clause-marks t c = marks_kept c.args.self.now.spec.sig.constructors c.args.self.now.extended.sig.constructors c.args.bank.now c.add_symbol.new.bank c.args.marks.now.marks.items c.add_symbol.ensures.adds c.requires.marks
+
+pub returns-in_err-with_true-clause-kept : goal.returns-in_err-with_true-clause-kept
+returns-in_err-with_true-clause-kept t c = right_still c.args.self.now.extended c.args.bank.now c.add_symbol-2.new.bank c.args.kept.now c.add_symbol-2.ensures.adds c.requires.kept
+
+pub returns-in_err-with_true-clause-marks : goal.returns-in_err-with_true-clause-marks
+returns-in_err-with_true-clause-marks t c = marks_kept c.args.self.now.spec.sig.constructors c.args.self.now.extended.sig.constructors c.args.bank.now c.add_symbol-2.new.bank c.args.marks.now.marks.items c.add_symbol-2.ensures.adds c.requires.marks
+
+pub returns-in_err-with_false-in-Some-clause-kept : goal.returns-in_err-with_false-in-Some-clause-kept
+returns-in_err-with_false-in-Some-clause-kept t c = right_still c.args.self.now.extended c.verdict_over-2.new.bank c.add_symbol-in-Some.new.bank c.verdict_over-2.new.kept c.add_symbol-in-Some.ensures.adds c.in_ok-verdict_over.ensures.kept
+
+pub returns-in_err-with_false-in-Some-clause-marks : goal.returns-in_err-with_false-in-Some-clause-marks
+returns-in_err-with_false-in-Some-clause-marks t c = marks_kept c.args.self.now.spec.sig.constructors c.args.self.now.extended.sig.constructors c.verdict_over-2.new.bank c.add_symbol-in-Some.new.bank c.verdict_over-2.new.marks.marks.items c.add_symbol-in-Some.ensures.adds c.in_ok-verdict_over.ensures.marks

@@ -53,6 +53,10 @@ pub returns-then-fixed-count-clause-marks : goal.returns-then-fixed-count-clause
 returns-then-fixed-count-clause-marks c =
     marks_kept c.args.self.now.spec.sig.constructors c.args.self.now.extended.sig.constructors c.args.bank.now c.whole_verdict.new.bank c.args.marks.now.marks.items c.in_ok-verdict.ensures.adds c.requires.marks
 
+pub returns-in_err-verdict-clause-marks : goal.returns-in_err-verdict-clause-marks
+returns-in_err-verdict-clause-marks c =
+    marks_kept c.args.self.now.spec.sig.constructors c.args.self.now.extended.sig.constructors c.args.bank.now c.whole_verdict.new.bank c.args.marks.now.marks.items c.whole_verdict.ensures.adds c.requires.marks
+
 pub verdict_over-requires-clause-entries : goal.verdict_over-requires-clause-entries
 verdict_over-requires-clause-entries c =
     let q = c.requires.values in
