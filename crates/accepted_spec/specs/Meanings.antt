@@ -23,6 +23,10 @@ pub record IsAcceptedAs (bytes : List ℕ) (raw : RawSpec) (spec : Spec) : Type 
   pub stands : StandsFor raw spec
   pub admitted : IsAdmitted Above spec
 
+-- the text is that of a specification which the path ordering admits
+abbrev pub IsAccepted : List ℕ → Type 0
+IsAccepted bytes = (raw : RawSpec) × (spec : Spec) × IsAcceptedAs bytes raw spec
+
 -- the text derives a raw term that stands over the signature for this one, without variables
 abbrev pub TermTextStandsFor : Sig → List ℕ → Tree → Type 0
 TermTextStandsFor sig bytes t =

@@ -1,7 +1,6 @@
 ghost use Rattle.std.specs.Prelude.{◌≡◌, ◌≤◌, IfOk, IfErr, [], length};
 ghost use Rattle.term_core.specs.declared.ids.SortId.{SortId};
 ghost use Rattle.spec_core.specs.Sorts.{Sorted};
-ghost use Rattle.spec_grammar.specs.declared.limits.TheConstants.{MAX_FILE_BYTES};
 ghost use Rattle.spec_core.specs.WellSorted.{IsWellSorted};
 ghost use Rattle.path_order.specs.Above.{Above};
 ghost use Rattle.clause_core.specs.Admitted.{IsAdmitted};
@@ -39,7 +38,7 @@ impl Accepted {
 
 /// The admitted specification that the bytes of a file stand for, or the line of their first fault.
 pub fn specification(alloc: Global, bytes: &[u8]) -> Result<Accepted, Refusal>
-    requires { length bytes.now ≤ MAX_FILE_BYTES }
+    requires { length bytes.now ≤ 1048576 }
     ensures accepted { IfOk result (λ a. IsAcceptedAs bytes.now a.raw a.admitted.spec) }
     ensures refused { IfErr result (Tells (IsRefusalOf bytes.now)) }
 {

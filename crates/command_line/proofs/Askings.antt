@@ -1,5 +1,6 @@
 -- What the matches of a command say of the words, and what a refusal says.
-use Rattle.std.proofs.Common.{◌≡◌, ◌∙◌, ℕ, not, true, List, [], ◌∷◌, sym, subst, refl, codes, Some, slice_get}
+use Rattle.std.proofs.Common.{◌≡◌, ◌∙◌, ◌⊎◌, inl, inr, ℕ, not, true, List, [], ◌∷◌, sym, subst, refl, codes, Some, slice_get}
+use Rattle.std.specs.List.{AllByRecursion}
 use Rattle.std.specs.Str.{bytes_eq}
 use Rattle.clap.specs.Words.{App, Row, Text}
 use Rattle.command_line.specs.Apps.{refute_app, prove_app, eval_app, check_app, replay_app, load_app}
@@ -11,7 +12,7 @@ use Rattle.command_line.specs.declared.ranges.NumberRange.{NumberRange}
 use Rattle.command_line.specs.declared.ranges.TheConstants.{DEPTHS, TRIES, STEPS, GOALS, USUAL_DEPTH, USUAL_TRIES, USUAL_STEPS}
 use Rattle.command_line.specs.Apps.{depth_rule, tries_rule, steps_rule}
 use Rattle.command_line.proofs.OwnNames.{differs}
-use Rattle.command_line.specs.Tasks.{Task, refuting, proving, evaluating, checking, replaying, app_for, Say, IsNamed, Asks, AsksToLoad, AskNothing}
+use Rattle.command_line.specs.Tasks.{Task, refuting, proving, evaluating, checking, replaying, app_for, commands, Say, IsNamed, AreRefusedBy, Asks, AsksToLoad, AskNothing}
 
 -- words have one first word at most
 pub one_name : (words : List Text) (name other : Text) → IsNamed name words → IsNamed other words → name ≡ other
@@ -64,16 +65,55 @@ load_asked app words rows goals is named matches goals_are =
       goals_are = subst (λ (r : List Row). HasNumber r (codes "N") GOALS goals) are.are goals_are;
     }
 
+-- each of the commands is this one, or has another name
+abbrev pub IsAloneAmong : App → List App → Type 0
+IsAloneAmong is_app apps = AllByRecursion (λ (app : App). (app ≡ is_app) ⊎ (not (bytes_eq is_app.top.name app.top.name) ≡ true)) apps
+
+refused_among : (is_app : App) (words : List Text) → IsNamed is_app.top.name words → (Takes is_app words → ⊥)
+    → (apps : List App) → IsAloneAmong is_app apps → AllByRecursion (AreRefusedBy words) apps
+refused_among is_app words named refused [] alone = tt
+refused_among is_app words named refused (app ∷ apps) (inl same, alone) =
+    ((λ _ taken. refused (subst (λ (a : App). Takes a words) same taken)), refused_among is_app words named refused apps alone)
+refused_among is_app words named refused (app ∷ apps) (inr apart, alone) = (
+  (λ named_too _. differs is_app.top.name app.top.name apart (one_name words _ _ named named_too)),
+  refused_among is_app words named refused apps alone,
+)
+
 -- words that a command refuses ask for nothing, where no other command has its name
 pub nothing_asked : (app is_app : App) (words : List Text) → app ≡ is_app → IsNamed is_app.top.name words
-    → ((task : Task) → (app_for task).top.name ≡ is_app.top.name → app_for task ≡ is_app)
-    → (Takes app words → ⊥) → not (bytes_eq is_app.top.name (codes "load")) ≡ true → AskNothing words
-nothing_asked app is_app words is named alone refused other = record {
-  no_task = λ file task asks.
-      refused (subst (λ (a : App). Takes a words) (alone task (one_name words _ _ asks.named named) ∙ sym is) asks.taken);
-  no_load = λ goals asks.
-      differs is_app.top.name (codes "load") other (one_name words _ _ named asks.named);
-}
+    → IsAloneAmong is_app commands → (Takes app words → ⊥) → AskNothing words
+nothing_asked app is_app words is named alone refused =
+    let refuses : Takes is_app words → ⊥ = λ taken. refused (subst (λ (a : App). Takes a words) (sym is) taken) in
+    record { refused = refused_among is_app words named refuses commands alone }
+
+pub check_alone : IsAloneAmong check_app commands
+check_alone = (inl refl, (inr refl, (inr refl, (inr refl, (inr refl, (inr refl, tt))))))
+
+pub eval_alone : IsAloneAmong eval_app commands
+eval_alone = (inr refl, (inl refl, (inr refl, (inr refl, (inr refl, (inr refl, tt))))))
+
+pub prove_alone : IsAloneAmong prove_app commands
+prove_alone = (inr refl, (inr refl, (inl refl, (inr refl, (inr refl, (inr refl, tt))))))
+
+pub refute_alone : IsAloneAmong refute_app commands
+refute_alone = (inr refl, (inr refl, (inr refl, (inl refl, (inr refl, (inr refl, tt))))))
+
+pub replay_alone : IsAloneAmong replay_app commands
+replay_alone = (inr refl, (inr refl, (inr refl, (inr refl, (inl refl, (inr refl, tt))))))
+
+pub load_alone : IsAloneAmong load_app commands
+load_alone = (inr refl, (inr refl, (inr refl, (inr refl, (inr refl, (inl refl, tt))))))
+
+-- words that ask for nothing ask for no task, and for no goals
+pub asks_no_task : (words : List Text) (file : Text) (task : Task) → AskNothing words → Asks words file task → ⊥
+asks_no_task words file (refuting bounds) nothing asks = nothing.refused.1.1.1.0 asks.named asks.taken
+asks_no_task words file (proving bounds) nothing asks = nothing.refused.1.1.0 asks.named asks.taken
+asks_no_task words file (evaluating term steps) nothing asks = nothing.refused.1.0 asks.named asks.taken
+asks_no_task words file (checking print) nothing asks = nothing.refused.0 asks.named asks.taken
+asks_no_task words file (replaying report) nothing asks = nothing.refused.1.1.1.1.0 asks.named asks.taken
+
+pub asks_no_load : (words : List Text) (goals : ℕ) → AskNothing words → AsksToLoad words goals → ⊥
+asks_no_load words goals nothing asks = nothing.refused.1.1.1.1.1.0 asks.named asks.taken
 
 -- no task's command has the name of the one that generates goals
 pub no_task_loads : (task : Task) → (app_for task).top.name ≡ codes "load" → ⊥
@@ -82,48 +122,3 @@ no_task_loads (proving bounds) same = differs (codes "prove") (codes "load") ref
 no_task_loads (evaluating term steps) same = differs (codes "eval") (codes "load") refl same
 no_task_loads (checking print) same = differs (codes "check") (codes "load") refl same
 no_task_loads (replaying report) same = differs (codes "replay") (codes "load") refl same
-
-pub no_load_asked : (app : App) (words : List Text) → app ≡ load_app → IsNamed (codes "load") words → (Takes app words → ⊥) → AskNothing words
-no_load_asked app words is named refused = record {
-  no_task = λ file task asks. no_task_loads task (one_name words _ _ asks.named named);
-  no_load = λ goals asks. refused (subst (λ (a : App). Takes a words) (sym is) asks.taken);
-}
-
--- a task whose command has a command's name is read by it
-pub refute_alone : (task : Task) → (app_for task).top.name ≡ codes "refute" → app_for task ≡ refute_app
-refute_alone (refuting bounds) same = refl
-refute_alone task same = absurd (differs (app_for task).top.name (codes "refute") refl same)
-
-pub prove_alone : (task : Task) → (app_for task).top.name ≡ codes "prove" → app_for task ≡ prove_app
-prove_alone (proving bounds) same = refl
-prove_alone task same = absurd (differs (app_for task).top.name (codes "prove") refl same)
-
-pub eval_alone : (task : Task) → (app_for task).top.name ≡ codes "eval" → app_for task ≡ eval_app
-eval_alone (evaluating term steps) same = refl
-eval_alone task same = absurd (differs (app_for task).top.name (codes "eval") refl same)
-
-pub check_alone : (task : Task) → (app_for task).top.name ≡ codes "check" → app_for task ≡ check_app
-check_alone (checking print) same = refl
-check_alone task same = absurd (differs (app_for task).top.name (codes "check") refl same)
-
-pub replay_alone : (task : Task) → (app_for task).top.name ≡ codes "replay" → app_for task ≡ replay_app
-replay_alone (replaying report) same = refl
-replay_alone task same = absurd (differs (app_for task).top.name (codes "replay") refl same)
-
-pub refute_flat : IsFlat refute_app
-refute_flat = record { simple = refl; ready = refl; free = refl; leaf = refl; negates = refl; names = refl }
-
-pub prove_flat : IsFlat prove_app
-prove_flat = record { simple = refl; ready = refl; free = refl; leaf = refl; negates = refl; names = refl }
-
-pub eval_flat : IsFlat eval_app
-eval_flat = record { simple = refl; ready = refl; free = refl; leaf = refl; negates = refl; names = refl }
-
-pub check_flat : IsFlat check_app
-check_flat = record { simple = refl; ready = refl; free = refl; leaf = refl; negates = refl; names = refl }
-
-pub replay_flat : IsFlat replay_app
-replay_flat = record { simple = refl; ready = refl; free = refl; leaf = refl; negates = refl; names = refl }
-
-pub load_flat : IsFlat load_app
-load_flat = record { simple = refl; ready = refl; free = refl; leaf = refl; negates = refl; names = refl }

@@ -1,64 +1,72 @@
 -- The worked examples, by computing.
-use Rattle.std.proofs.Common.{◌≡◌, ◌≤◌, ℕ, Bool, true, false, List, [], ◌∷◌, Some, refl, sym, arith, codes}
+use Rattle.std.proofs.Common.{◌≡◌, ◌≤◌, ℕ, Bool, true, false, not, List, [], ◌∷◌, Some, refl, sym, arith, codes}
+use Rattle.std.specs.List.{AllByRecursion}
 use Rattle.std.specs.Prelude.{◌↔◌, IsTrue}
 use Rattle.std.specs.Str.{bytes_eq}
 use Rattle.std.specs.Str.Parse.{IsNumeral, digits_value, without_leading_plus}
-use Rattle.clap.specs.Words.{Row, Text, Kinds, fault_of, first_of, matches_of, one_of}
+use Rattle.clap.specs.Words.{App, Row, Text, Kinds, fault_of, first_of, matches_of, one_of}
 use Rattle.clap.specs.Walk.{is_empty}
 use Rattle.clap.proofs.OnLiterals.{clap_on_literals}
 use Rattle.command_line.specs.declared.ranges.NumberRange.{NumberRange}
 use Rattle.command_line.specs.declared.ranges.TheConstants.{DEPTHS, TRIES, STEPS, PLAIN, NODES, GOALS}
 use Rattle.command_line.specs.Apps.{refute_app, prove_app, eval_app, check_app, replay_app, load_app}
 use Rattle.command_line.specs.Matches.{HasNumber, IsGiven}
-use Rattle.command_line.specs.Tasks.{Task, app_for, refuting, proving, evaluating, checking, replaying, Asks, AsksToLoad, AskNothing, AreBounds, AreProofBounds}
+use Rattle.command_line.specs.Tasks.{commands, AreRefusedBy, refuting, proving, evaluating, checking, replaying, Asks, AsksToLoad, AskNothing, AreBounds, AreProofBounds}
 use Rattle.command_line.specs.Usual.{usual_search, usual_bounds}
-use Rattle.command_line.specs.Examples.{Asking, Refused, refute, prove, eval, check, replay, load, given, given_proof}
+use Rattle.command_line.specs.Examples.{Asking, Refused, refute, prove, eval, check, replay, load, given, given_proof, least_words, least_numbers, greatest_words, greatest_numbers}
 use Rattle.command_line.proofs.OwnNames.{differs}
 use Rattle.command_line.proofs.ReadLemmas.{text_compared}
-use Rattle.command_line.proofs.Askings.{nothing_asked, refute_alone, prove_alone, eval_alone, check_alone, replay_alone, no_load_asked}
+use Rattle.command_line.proofs.Askings.{nothing_asked, refute_alone, prove_alone, eval_alone, check_alone, replay_alone, load_alone}
 
 faulty : (ks : Kinds) → is_empty ks ≡ false → ks ≡ [] → ⊥
 faulty [] some none = cc
 faulty (k ∷ ks) some none = cc
 
 no_refute : (words : List Text) → is_empty (fault_of refute_app (codes "refute" ∷ words)) ≡ false → AskNothing (codes "refute" ∷ words)
-no_refute words fault = nothing_asked refute_app refute_app (codes "refute" ∷ words) refl refl refute_alone (faulty _ fault) refl
+no_refute words fault = nothing_asked refute_app refute_app (codes "refute" ∷ words) refl refl refute_alone (faulty _ fault)
 
 no_prove : (words : List Text) → is_empty (fault_of prove_app (codes "prove" ∷ words)) ≡ false → AskNothing (codes "prove" ∷ words)
-no_prove words fault = nothing_asked prove_app prove_app (codes "prove" ∷ words) refl refl prove_alone (faulty _ fault) refl
+no_prove words fault = nothing_asked prove_app prove_app (codes "prove" ∷ words) refl refl prove_alone (faulty _ fault)
 
 no_eval : (words : List Text) → is_empty (fault_of eval_app (codes "eval" ∷ words)) ≡ false → AskNothing (codes "eval" ∷ words)
-no_eval words fault = nothing_asked eval_app eval_app (codes "eval" ∷ words) refl refl eval_alone (faulty _ fault) refl
+no_eval words fault = nothing_asked eval_app eval_app (codes "eval" ∷ words) refl refl eval_alone (faulty _ fault)
 
 no_check : (words : List Text) → is_empty (fault_of check_app (codes "check" ∷ words)) ≡ false → AskNothing (codes "check" ∷ words)
-no_check words fault = nothing_asked check_app check_app (codes "check" ∷ words) refl refl check_alone (faulty _ fault) refl
+no_check words fault = nothing_asked check_app check_app (codes "check" ∷ words) refl refl check_alone (faulty _ fault)
 
 no_replay : (words : List Text) → is_empty (fault_of replay_app (codes "replay" ∷ words)) ≡ false → AskNothing (codes "replay" ∷ words)
-no_replay words fault = nothing_asked replay_app replay_app (codes "replay" ∷ words) refl refl replay_alone (faulty _ fault) refl
+no_replay words fault = nothing_asked replay_app replay_app (codes "replay" ∷ words) refl refl replay_alone (faulty _ fault)
 
 no_load : (words : List Text) → is_empty (fault_of load_app (codes "load" ∷ words)) ≡ false → AskNothing (codes "load" ∷ words)
-no_load words fault = no_load_asked load_app (codes "load" ∷ words) refl refl (faulty _ fault)
+no_load words fault = nothing_asked load_app load_app (codes "load" ∷ words) refl refl load_alone (faulty _ fault)
 
-no_command_task : (file : List ℕ) (task : Task) → Asks (codes "help" ∷ codes "a" ∷ []) file task → ⊥
-no_command_task file (refuting bounds) asks = differs (codes "help") (codes "refute") refl asks.named
-no_command_task file task asks = differs (codes "help") (app_for task).top.name refl asks.named
+-- the words begin with a word that names none of the commands
+abbrev AreNoName : Text → List App → Type 0
+AreNoName word apps = AllByRecursion (λ (app : App). not (bytes_eq word app.top.name) ≡ true) apps
+
+unnamed : (word : Text) (words : List Text) (apps : List App) → AreNoName word apps → AllByRecursion (AreRefusedBy (word ∷ words)) apps
+unnamed word words [] apart = tt
+unnamed word words (app ∷ apps) apart =
+    ((λ named _. differs word app.top.name apart.0 named), unnamed word words apps apart.1)
+
+no_words : (apps : List App) → AllByRecursion (AreRefusedBy []) apps
+no_words [] = tt
+no_words (app ∷ apps) = ((λ named _. named), no_words apps)
 
 no_command : AskNothing (codes "help" ∷ codes "a" ∷ [])
-no_command = record {
-  no_task = no_command_task;
-  no_load = λ goals asks. differs (codes "help") (codes "load") refl asks.named;
-}
+no_command = record { refused = unnamed (codes "help") (codes "a" ∷ []) commands (refl, (refl, (refl, (refl, (refl, (refl, tt)))))) }
 
 pub refused : Refused
 unfolding clap_on_literals
 refused = record {
-  no_words = record { no_task = λ file task asks. asks.named; no_load = λ goals asks. asks.named };
+  no_words = record { refused = no_words commands };
   no_command = no_command;
   no_file = no_refute _ refl;
   two_files = no_refute _ refl;
   help = no_refute _ refl;
   too_deep = no_refute _ refl;
   no_tries = no_refute _ refl;
+  too_many_tries = no_refute _ refl;
   twice = no_refute _ refl;
   no_number = no_refute _ refl;
   below_zero = no_refute _ refl;
@@ -66,6 +74,7 @@ refused = record {
   too_many_nodes = no_prove _ refl;
   option_of_prove = no_refute _ refl;
   another_option = no_eval _ refl;
+  no_steps = no_eval _ refl;
   too_many_steps = no_eval _ refl;
   no_term = no_eval _ refl;
   flag_with_text = no_check _ refl;
@@ -150,6 +159,38 @@ proof_numbers =
     let rows = prove_rows (codes "a" ∷ codes "--nodes=0" ∷ codes "--plain" ∷ codes "1000" ∷ []) in
     record { named = refl; taken = refl; file_is = refl; task_is = given_proof_bounds rows (has_usual_search rows refl refl refl) refl refl }
 
+least_bounds : (rows : List Row) → one_of (codes "depth") rows ≡ Some (codes "0") → one_of (codes "tries") rows ≡ Some (codes "1") → one_of (codes "steps") rows ≡ Some (codes "1")
+    → one_of (codes "plain") rows ≡ Some (codes "0") → one_of (codes "nodes") rows ≡ Some (codes "0") → AreProofBounds rows least_numbers
+least_bounds rows depth tries steps plain nodes = record {
+  search = record {
+    depth = number rows (codes "depth") DEPTHS 0 (codes "0") depth (omega arith, (omega arith, tt)) refl (omega arith) (omega arith);
+    tries = number rows (codes "tries") TRIES 1 (codes "1") tries (omega arith, (omega arith, tt)) refl (omega arith) (omega arith);
+    steps = number rows (codes "steps") STEPS 1 (codes "1") steps (omega arith, (omega arith, tt)) refl (omega arith) (omega arith);
+  };
+  plain = number rows (codes "plain") PLAIN 0 (codes "0") plain (omega arith, (omega arith, tt)) refl (omega arith) (omega arith);
+  nodes = number rows (codes "nodes") NODES 0 (codes "0") nodes (omega arith, (omega arith, tt)) refl (omega arith) (omega arith);
+}
+
+greatest_bounds : (rows : List Row) → one_of (codes "depth") rows ≡ Some (codes "8") → one_of (codes "tries") rows ≡ Some (codes "1000000") → one_of (codes "steps") rows ≡ Some (codes "100000")
+    → one_of (codes "plain") rows ≡ Some (codes "1000") → one_of (codes "nodes") rows ≡ Some (codes "10000") → AreProofBounds rows greatest_numbers
+greatest_bounds rows depth tries steps plain nodes = record {
+  search = record {
+    depth = number rows (codes "depth") DEPTHS 8 (codes "8") depth (omega arith, (omega arith, tt)) refl (omega arith) (omega arith);
+    tries = number rows (codes "tries") TRIES 1000000 (codes "1000000") tries (omega arith, (omega arith, (omega arith, (omega arith, (omega arith, (omega arith, (omega arith, (omega arith, tt)))))))) refl (omega arith) (omega arith);
+    steps = number rows (codes "steps") STEPS 100000 (codes "100000") steps (omega arith, (omega arith, (omega arith, (omega arith, (omega arith, (omega arith, (omega arith, tt))))))) refl (omega arith) (omega arith);
+  };
+  plain = number rows (codes "plain") PLAIN 1000 (codes "1000") plain (omega arith, (omega arith, (omega arith, (omega arith, (omega arith, tt))))) refl (omega arith) (omega arith);
+  nodes = number rows (codes "nodes") NODES 10000 (codes "10000") nodes (omega arith, (omega arith, (omega arith, (omega arith, (omega arith, (omega arith, tt)))))) refl (omega arith) (omega arith);
+}
+
+least : Asks (prove least_words) (codes "a") (proving least_numbers)
+unfolding clap_on_literals
+least = record { named = refl; taken = refl; file_is = refl; task_is = least_bounds (prove_rows least_words) refl refl refl refl refl }
+
+greatest : Asks (prove greatest_words) (codes "a") (proving greatest_numbers)
+unfolding clap_on_literals
+greatest = record { named = refl; taken = refl; file_is = refl; task_is = greatest_bounds (prove_rows greatest_words) refl refl refl refl refl }
+
 one_dash : Asks (eval (codes "-" ∷ codes "x" ∷ [])) (codes "-") (evaluating (codes "x") 1000)
 unfolding clap_on_literals
 one_dash = record { named = refl; taken = refl; file_is = refl; task_is = (refl, usual_steps (matches_of eval_app (eval (codes "-" ∷ codes "x" ∷ []))) refl) }
@@ -183,6 +224,16 @@ loaded = record {
       (omega arith, (omega arith, (omega arith, (omega arith, (omega arith, tt))))) refl (omega arith) (omega arith);
 }
 
+one_goal : AsksToLoad (load (codes "1" ∷ [])) 1
+unfolding clap_on_literals
+one_goal = record {
+  named = refl;
+  taken = refl;
+  goals_are =
+      number (matches_of load_app (load (codes "1" ∷ []))) (codes "N") GOALS 1 (codes "1") refl
+      (omega arith, (omega arith, tt)) refl (omega arith) (omega arith);
+}
+
 pub asking : Asking
 asking = record {
   plain = plain;
@@ -190,10 +241,13 @@ asking = record {
   behind_dashes = behind_dashes;
   proved = proved;
   proof_numbers = proof_numbers;
+  least = least;
+  greatest = greatest;
   one_dash = one_dash;
   empty = empty;
   printed = printed;
   unprinted = unprinted;
   replayed = replayed;
   loaded = loaded;
+  one_goal = one_goal;
 }

@@ -1,8 +1,7 @@
 -- The simple command of each command word, as `clap` sees it.
 use Rattle.std.specs.Prelude.{List, [], ◌∷◌, codes}
 use Rattle.clap.specs.Words.{App, Rule, new_app, with_rule}
-use Rattle.command_line.specs.declared.ranges.TheConstants.{DEPTHS, TRIES, STEPS, PLAIN, NODES, GOALS}
-use Rattle.command_line.specs.declared.ranges.TheConstants.{USUAL_DEPTH, USUAL_TRIES, USUAL_STEPS, USUAL_PLAIN, USUAL_NODES}
+use Rattle.command_line.specs.Ranges.{depth_range, tries_range, steps_range, plain_range, nodes_range, goals_range}
 use Rattle.command_line.specs.Rules.{word_rule, numeral_rule, number_rule, flag_rule}
 
 -- a command with these arguments
@@ -11,19 +10,19 @@ with_rules app [] = app
 with_rules app (rule ∷ rules) = with_rules (with_rule app rule) rules
 
 abbrev pub depth_rule : Rule
-depth_rule = number_rule (codes "depth") DEPTHS USUAL_DEPTH.now
+depth_rule = number_rule (codes "depth") depth_range (codes "3")
 
 abbrev pub tries_rule : Rule
-tries_rule = number_rule (codes "tries") TRIES USUAL_TRIES.now
+tries_rule = number_rule (codes "tries") tries_range (codes "10000")
 
 abbrev pub steps_rule : Rule
-steps_rule = number_rule (codes "steps") STEPS USUAL_STEPS.now
+steps_rule = number_rule (codes "steps") steps_range (codes "1000")
 
 abbrev pub plain_rule : Rule
-plain_rule = number_rule (codes "plain") PLAIN USUAL_PLAIN.now
+plain_rule = number_rule (codes "plain") plain_range (codes "500")
 
 abbrev pub nodes_rule : Rule
-nodes_rule = number_rule (codes "nodes") NODES USUAL_NODES.now
+nodes_rule = number_rule (codes "nodes") nodes_range (codes "2000")
 
 -- `refute FILE [--depth D] [--tries T] [--steps B]`
 abbrev pub refute_app : App
@@ -52,4 +51,4 @@ replay_app = with_rules (new_app (codes "replay"))
 
 -- `load N`
 abbrev pub load_app : App
-load_app = with_rules (new_app (codes "load")) (numeral_rule (codes "N") GOALS ∷ [])
+load_app = with_rules (new_app (codes "load")) (numeral_rule (codes "N") goals_range ∷ [])

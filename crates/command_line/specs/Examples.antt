@@ -30,6 +30,26 @@ given = record { depth = 0; tries = 7; steps = 2000 }
 abbrev pub given_proof : ProofBounds
 given_proof = record { search = usual_search; plain = 1000; nodes = 0 }
 
+-- every option with its least number, and with its greatest
+abbrev pub least_words : List Text
+least_words = codes "a" ∷ codes "--depth=0" ∷ codes "--tries=1" ∷ codes "--steps=1"
+    ∷ codes "--plain=0" ∷ codes "--nodes=0" ∷ []
+
+abbrev pub least_numbers : ProofBounds
+least_numbers =
+    record { search = record { depth = 0; tries = 1; steps = 1 }; plain = 0; nodes = 0 }
+
+abbrev pub greatest_words : List Text
+greatest_words = codes "a" ∷ codes "--depth=8" ∷ codes "--tries=1000000" ∷ codes "--steps=100000"
+    ∷ codes "--plain=1000" ∷ codes "--nodes=10000" ∷ []
+
+abbrev pub greatest_numbers : ProofBounds
+greatest_numbers = record {
+  search = record { depth = 8; tries = 1000000; steps = 100000 };
+  plain = 1000;
+  nodes = 10000;
+}
+
 -- words that ask for a task
 pub record Asking : Type 0 where
   -- the usual numbers where no word gives one
@@ -45,6 +65,9 @@ pub record Asking : Type 0 where
   pub proof_numbers : Asks (prove (codes "a" ∷ codes "--nodes=0" ∷ codes "--plain" ∷ codes "1000"
       ∷ []))
       (codes "a") (proving given_proof)
+  -- each option takes the numbers from the least to the greatest
+  pub least : Asks (prove least_words) (codes "a") (proving least_numbers)
+  pub greatest : Asks (prove greatest_words) (codes "a") (proving greatest_numbers)
   -- `-` is a positional word
   pub one_dash : Asks (eval (codes "-" ∷ codes "x" ∷ [])) (codes "-") (evaluating (codes "x") 1000)
   -- the empty word is one too, and `help` is no question
@@ -55,6 +78,7 @@ pub record Asking : Type 0 where
   pub replayed : Asks (replay (codes "a" ∷ codes "b" ∷ [])) (codes "a") (replaying (codes "b"))
   -- a plus and leading zeros, up to the greatest number
   pub loaded : AsksToLoad (load (codes "+0200" ∷ [])) 200
+  pub one_goal : AsksToLoad (load (codes "1" ∷ [])) 1
 
 -- words that ask for nothing
 pub record Refused : Type 0 where
@@ -65,6 +89,7 @@ pub record Refused : Type 0 where
   pub help : AskNothing (refute (codes "a" ∷ codes "--help" ∷ []))
   pub too_deep : AskNothing (refute (codes "a" ∷ codes "--depth" ∷ codes "9" ∷ []))
   pub no_tries : AskNothing (refute (codes "a" ∷ codes "--tries" ∷ codes "0" ∷ []))
+  pub too_many_tries : AskNothing (refute (codes "a" ∷ codes "--tries" ∷ codes "1000001" ∷ []))
   pub twice : AskNothing (refute (codes "a" ∷ codes "--depth=2" ∷ codes "--depth=2" ∷ []))
   pub no_number : AskNothing (refute (codes "a" ∷ codes "--depth=" ∷ []))
   pub below_zero : AskNothing (refute (codes "a" ∷ codes "--depth=-0" ∷ []))
@@ -72,6 +97,7 @@ pub record Refused : Type 0 where
   pub too_many_nodes : AskNothing (prove (codes "a" ∷ codes "--nodes" ∷ codes "10001" ∷ []))
   pub option_of_prove : AskNothing (refute (codes "a" ∷ codes "--nodes" ∷ codes "0" ∷ []))
   pub another_option : AskNothing (eval (codes "a" ∷ codes "x" ∷ codes "--depth" ∷ codes "2" ∷ []))
+  pub no_steps : AskNothing (eval (codes "a" ∷ codes "x" ∷ codes "--steps" ∷ codes "0" ∷ []))
   pub too_many_steps : AskNothing (eval
       (codes "a" ∷ codes "x" ∷ codes "--steps" ∷ codes "100001" ∷ []))
   pub no_term : AskNothing (eval (codes "a" ∷ []))

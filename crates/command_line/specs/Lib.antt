@@ -1,4 +1,5 @@
 -- What words ask for, in the order in which to read it.
+pub mod Ranges
 pub mod Rules
 pub mod Apps
 pub mod Usual

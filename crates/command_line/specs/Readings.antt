@@ -3,7 +3,7 @@ use Rattle.std.specs.Prelude.{◌≡◌, ◌≤◌, ℕ, List, Some, codes, is_s
 use Rattle.std.specs.Str.Parse.{IsNumeral, digits_value, without_leading_plus}
 use Rattle.clap.specs.Words.{App, Row, Text, first_of, matches_of, one_of}
 use Rattle.command_line.specs.declared.ranges.NumberRange.{NumberRange}
-use Rattle.command_line.specs.declared.ranges.TheConstants.{DEPTHS, TRIES, STEPS}
+use Rattle.command_line.specs.Ranges.{depth_range, tries_range, steps_range}
 use Rattle.command_line.specs.Rules.{number_rule, numeral_rule, word_rule}
 use Rattle.command_line.specs.Matches.{Takes}
 
@@ -21,9 +21,9 @@ pub record HasSomeNumber (rows : List Row) (name : Text) (range : NumberRange) :
 
 -- the matches have the three numbers of a search for counterexamples
 pub record HasSomeBounds (rows : List Row) : Type 0 where
-  pub depth : HasSomeNumber rows (codes "depth") DEPTHS
-  pub tries : HasSomeNumber rows (codes "tries") TRIES
-  pub steps : HasSomeNumber rows (codes "steps") STEPS
+  pub depth : HasSomeNumber rows (codes "depth") depth_range
+  pub tries : HasSomeNumber rows (codes "tries") tries_range
+  pub steps : HasSomeNumber rows (codes "steps") steps_range
 
 -- the matches are those of the command in words without a fault, and all its arguments are there
 pub record AreMatches (app : App) (words : List Text) (rows : List Row) : Type 0 where

@@ -1,5 +1,4 @@
-ghost use Rattle.std.specs.Prelude.{◌≤◌, IfOk};
-ghost use Rattle.spec_core.specs.WellSorted.{IsWellSorted, GoalIsSorted};
+ghost use Rattle.std.specs.Prelude.{◌≡◌, ◌≤◌, ℕ, Some, IfOk, slice_get};
 ghost use Rattle.plain_blocks.specs.Plain.{IsPlainAnswer};
 
 use crate::laws::{one_block, plain_blocks};
@@ -7,7 +6,8 @@ use crate::making::block_on;
 use clause_core::Block;
 use path_order::TermOrder;
 use plain_proof::first_plain;
-use spec_core::{Goal, Spec};
+use spec_admit::Admitted;
+use spec_core::Goal;
 use std::alloc::Global;
 use term_core::OutOfMemory;
 
@@ -15,16 +15,16 @@ use term_core::OutOfMemory;
 /// has one of at most this length.
 pub fn plain<O: TermOrder>(
     alloc: Global,
-    spec: &Spec,
-    order: &O,
+    admitted: &Admitted<O>,
     goal: &Goal,
     length: u32,
 ) -> Result<Option<Block>, OutOfMemory>
-    requires fine { IsWellSorted spec.now }
-    requires sorted { GoalIsSorted spec.now.sig goal.now }
+    requires listed { (k : ℕ) × (slice_get admitted.now.spec.goals k ≡ Some goal.now) }
     requires short { length ≤ 1000 }
-    ensures { IfOk result (IsPlainAnswer (O.above order.now) spec.now goal.now length) }
+    ensures { IfOk result (IsPlainAnswer (O.above admitted.now.order) admitted.now.spec goal.now
+        length) }
 {
+    let Admitted { spec, order } = admitted;
     plain_blocks(order);
     one_block(order);
     match first_plain(alloc, spec, goal, length)? {

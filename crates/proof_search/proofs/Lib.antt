@@ -34,3 +34,4 @@ mod StepsInRange
 mod StartProofs
 mod FewStarts
 mod FirstProofs
+mod AcceptedProofs

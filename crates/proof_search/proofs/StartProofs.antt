@@ -36,7 +36,8 @@ use Rattle.proof_search.specs.declared.building.Building.{Building}
 use Rattle.proof_search.specs.declared.proving.Tried.{Tried}
 use Rattle.proof_search.specs.declared.proving.Tried.TheVariants.{Proof, Not as NoProof}
 use Rattle.proof_search.specs.declared.starting.Built.TheVariants.{Not as NotBuilt}
-use Rattle.proof_search.specs.Proving.{proved_by, IsShortBlock, IsTried}
+use Rattle.proof_search.specs.Guided.{proved_by}
+use Rattle.proof_search.specs.Proving.{IsShortBlock, IsTried}
 use Rattle.proof_search.specs.Starting.{BeginsWith, IsBlock, IsDone}
 use Rattle.block_links.proofs.LinksAlone.{allowed_by_links, links_allowed, whole_links}
 use Rattle.proof_search.proofs.StepsInRange.{claim_in_range}

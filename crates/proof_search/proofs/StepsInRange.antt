@@ -23,7 +23,7 @@ use Rattle.clause_core.specs.Steps.{row_of}
 use Rattle.acceptance.specs.Blocks.{clauses_of, StepsMake}
 use Rattle.proof_script.specs.Ranges.{LineIsInRange, ClaimIsInRange}
 use Rattle.proof_script.specs.Steps.{step_line}
-use Rattle.proof_search.specs.Proving.{proved_by}
+use Rattle.proof_search.specs.Guided.{proved_by}
 
 symbol_in_range :
     (table : List (List ℕ × SymInfo)) (f : ℕ) (i : SymInfo) →

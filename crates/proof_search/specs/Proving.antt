@@ -6,8 +6,6 @@ use Rattle.term_core.specs.declared.ids.VarId.{VarId}
 use Rattle.spec_core.specs.declared.records.Goal.{Goal}
 use Rattle.spec_core.specs.declared.records.Spec.{Spec}
 use Rattle.clause_core.specs.declared.clauses.Clause.{Clause}
-use Rattle.clause_core.specs.declared.reports.Claim.{Claim}
-use Rattle.clause_core.specs.declared.reports.Outcome.TheVariants.{Proved}
 use Rattle.clause_core.specs.declared.steps.Block.{Block as BlockOf}
 use Rattle.clause_core.specs.declared.steps.Step.{Step}
 use Rattle.clause_core.specs.declared.steps.Step.TheVariants.{Cover}
@@ -18,10 +16,6 @@ use Rattle.routine_proof.specs.Routine.{Start, IsProof, claim_bytes}
 use Rattle.proof_search.specs.declared.proving.Tried.{Tried}
 use Rattle.proof_search.specs.declared.proving.Tried.TheVariants.{Proof, Not}
 use Rattle.proof_search.specs.Starting.{BeginsWith}
-
--- the claim that the block proves the goal
-abbrev pub proved_by : Goal → BlockOf → Claim
-proved_by goal block = record { goal = goal.name; outcome = Proved block }
 
 -- the block, where its claim has at most 300,000 bytes, or its first step
 abbrev pub IsShortBlock : Spec → Goal → BlockOf → Tried → Type 0

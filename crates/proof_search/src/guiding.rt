@@ -1,8 +1,9 @@
-ghost use Rattle.std.specs.Prelude.{◌≡◌, ◌↔◌, IsTrue, IfOk};
+ghost use Rattle.std.specs.Prelude.{◌≡◌, ◌<◌, ◌↔◌, Some, IsTrue, IfOk, length, slice_get};
 ghost use Rattle.std.specs.Option.{IfSome};
+ghost use Rattle.spec_core.specs.declared.records.Goal.{Goal as GoalOf};
 ghost use Rattle.spec_core.specs.WellSorted.{IsWellSorted, GoalIsSorted};
 ghost use Rattle.routine_proof.specs.Routine.{IsFirstProof};
-ghost use Rattle.proof_search.specs.Guided.{steps_in};
+ghost use Rattle.proof_search.specs.Guided.{steps_in, IsAcceptedAfter};
 ghost use Rattle.proof_search.specs.Proving.{IsCoverOf};
 
 use crate::answers::Guided;
@@ -11,14 +12,39 @@ use crate::setting::Setting;
 use crate::starting::Start;
 use clause_core::{Clause, Step, of_goal, within};
 use path_order::TermOrder;
+use routine_proof::proves_behind_claims;
+use spec_admit::Admitted;
 use spec_core::{Goal, Spec};
 use std::alloc::Global;
 use term_core::{OutOfMemory, Term, VarId};
 use test_sets::test_set;
 
-/// The first routine proof of the goal with at most `nodes` nodes, over the goals of these numbers
-/// as lemmas.
+/// The first routine proof of the goal of this number with at most `nodes` nodes, over the goals of
+/// the other numbers as lemmas. A number that no goal has is no lemma.
 pub fn guided<O: TermOrder>(
+    alloc: Global,
+    admitted: &Admitted<O>,
+    goal: u32,
+    lemmas: &[u32],
+    nodes: u32,
+) -> Result<Guided, OutOfMemory>
+    requires in_range { goal < length admitted.now.spec.goals }
+    ensures first { IfOk result (λ found. (it : GoalOf) →
+        slice_get admitted.now.spec.goals goal ≡ Some it →
+        IsFirstProof (O.above admitted.now.order) admitted.now.spec lemmas.now it nodes
+        (steps_in found)) }
+    ensures accepted { IfOk result (λ found. (it : GoalOf) →
+        slice_get admitted.now.spec.goals goal ≡ Some it →
+        IsAcceptedAfter (O.above admitted.now.order) admitted.now.spec lemmas.now it found) }
+{
+    let Admitted { spec, order } = admitted;
+    proves_behind_claims(order);
+    let goals = spec.goals.as_slice();
+    first_proof(alloc, spec, order, &goals[goal as usize], lemmas, nodes)
+}
+
+/// The same of a goal itself.
+fn first_proof<O: TermOrder>(
     alloc: Global,
     spec: &Spec,
     order: &O,

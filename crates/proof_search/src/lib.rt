@@ -2,10 +2,12 @@
 //! the first that is a proof. Where the block without a split begins with the cover of a variable,
 //! the split at this variable is the same start, and is passed over.
 //!
-//! It stands on routine_proof, which says what routine blocks and proofs are, on inference_rules,
-//! whose `children` takes steps, on acceptance, which says when steps prove a clause, and on
-//! proof_script for the length of a claim's text. The layers above use [`guided`]: it answers the
-//! first routine proof of a goal over some lemmas, or that there is none.
+//! It stands on spec_admit, whose `Admitted` is a specification with the order that admits it, on
+//! routine_proof, which says what routine blocks and proofs are, on inference_rules, whose
+//! `children` takes steps, on acceptance, which says when steps prove a clause, and on proof_script
+//! for the length of a claim's text. The layers above use [`guided`]: it answers the first routine
+//! proof of a goal over some lemmas, or that there is none. The claim that a block which it finds
+//! proves the goal is accepted after claims that prove the lemmas.
 //!
 //! `choosing` finds the step that a node takes: it goes through the entries of the list in their
 //! order, of which each kind has a file. What cannot fit is passed over before the table of steps

@@ -4,7 +4,8 @@ ghost use Rattle.clause_core.specs.Limits.{IsWithin};
 ghost use Rattle.clause_core.specs.Tidied.{goal_clause};
 ghost use Rattle.proof_script.specs.Ranges.{ClaimIsInRange};
 ghost use Rattle.proof_search.specs.FallingSides.{LemmasFall};
-ghost use Rattle.proof_search.specs.Proving.{IsShortBlock, IsTried, proved_by};
+ghost use Rattle.proof_search.specs.Guided.{proved_by};
+ghost use Rattle.proof_search.specs.Proving.{IsShortBlock, IsTried};
 ghost use Rattle.proof_search.specs.Settings.{IsSetting};
 ghost use Rattle.proof_search.specs.Starting.{start_of};
 

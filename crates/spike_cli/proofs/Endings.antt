@@ -15,7 +15,7 @@ use Rattle.clause_core.specs.declared.reports.Claim.{Claim}
 use Rattle.spike_cli.specs.Claims.{IsStatusOfClaims}
 use Rattle.command_line.specs.Tasks.{Task, checking, refuting, proving, evaluating, replaying, Asks, AsksToLoad}
 use Rattle.spike_cli.specs.Evaluations.{IsEvaluation, valued, spent, refused}
-use Rattle.spike_cli.specs.Reads.{AreBytesOf}
+use Rattle.spike_cli.specs.Reads.{AreBytesOf, most_file_bytes}
 use Rattle.spike_cli.specs.Replays.{IsFileReplay, IsReplay, accepted as accepted_report, no_report, refused as refused_report, replayed, too_long_report}
 use Rattle.spike_cli.specs.Parts.{AppendsPartOf}
 use Rattle.accepted_spec.specs.Meanings.{IsAcceptedAs}
@@ -24,7 +24,6 @@ use Rattle.accepted_spec.specs.Tellings.{Tells, IsLineOf}
 use Rattle.accepted_spec.specs.declared.refusals.Refusal.{Refusal}
 use Rattle.accepted_spec.specs.declared.refusals.Refusal.TheVariants.{Line, OutOfMemory as NoMemory}
 use Rattle.spike_cli.specs.Runs.{IsEnd, MayWriteOn, MayWriteFor, refusal, on_spec, Ended, RefusedBytes, ReadsFile, MayWrite, for_file, for_load, Means}
-use Rattle.spec_grammar.specs.declared.limits.TheConstants.{MAX_FILE_BYTES}
 use Rattle.spike_cli.specs.Stops.{Finishes, FinishesReading, Refuses, MeansFor, status_ended, status_of, status_of_stop}
 use Rattle.spike_cli.specs.Loads.{IsLoad}
 use Rattle.io_core.proofs.Counts.{Rose-after}
@@ -135,7 +134,7 @@ module _ (words : List (List ℕ)) (held : List ℕ → Option (List ℕ)) (read
   line_means s result line may done wrote ok err failed e = line_ends (Means words held reads reads' old new writes writes') (MayWrite words held) old new writes writes' (λ r p. (r, p)) (λ p. p) s result line may done wrote ok err failed e
 
   -- what was done on the bytes of the file that the words name
-  module _ (task : Task) (file bytes : List ℕ) (asks : Asks words file task) (read : AreBytesOf (held file) MAX_FILE_BYTES bytes) (middle : ℕ) (before : reads ≤ middle) where
+  module _ (task : Task) (file bytes : List ℕ) (asks : Asks words file task) (read : AreBytesOf (held file) most_file_bytes bytes) (middle : ℕ) (before : reads ≤ middle) where
     with_file : (Holds : Task → List ℕ → Type 0) → Holds task bytes → ReadsFile words held Holds
     with_file Holds h = record { file = file; task = task; asked = asks; bytes = bytes; read = read; holds = h }
 

@@ -4,7 +4,7 @@ use Rattle.std.specs.Prelude.{Option, None}
 use Rattle.spec_core.specs.declared.records.Spec.{Spec}
 use Rattle.spec_core.specs.WellSorted.{IsWellSorted}
 use Rattle.search_claims.specs.Claims.{report_of}
-use Rattle.spike_cli.specs.declared.replaying.TheConstants.{MAX_REPORT_BYTES}
+use Rattle.spike_cli.specs.Reads.{most_report_bytes}
 use Rattle.spike_cli.specs.declared.statuses.Status.{Status}
 use Rattle.spike_cli.specs.declared.statuses.Status.TheVariants.{Done}
 use Rattle.spike_cli.specs.FinishedReports.{FinishedReportsAreAccepted}
@@ -12,7 +12,7 @@ use Rattle.spike_cli.specs.Outcomes.{OneReplay}
 use Rattle.spike_cli.specs.Replays.{IsReplay, IsFileReplay, accepted, replayed, too_long_report}
 use Rattle.reply_lines.specs.Lines.{yes_line}
 
-module _ (one : OneReplay) (spec : Spec) (fine : IsWellSorted spec) (bytes line : List ℕ) (yes : IsReplay spec bytes line Done) (short : length bytes ≤ MAX_REPORT_BYTES) where
+module _ (one : OneReplay) (spec : Spec) (fine : IsWellSorted spec) (bytes line : List ℕ) (yes : IsReplay spec bytes line Done) (short : length bytes ≤ most_report_bytes) where
   only_yes : (held : Option (List ℕ)) → held ≡ Some bytes → (text : List ℕ) (s : Status) → IsFileReplay spec held text s → (text ≡ line) × (s ≡ Done)
   only_yes None e text s r = absurd (let q : None ≡ Some bytes = e in cc)
   only_yes (Some told) e text s (replayed read are is) =
@@ -23,7 +23,7 @@ module _ (one : OneReplay) (spec : Spec) (fine : IsWellSorted spec) (bytes line 
   only_yes (Some told) e text s (too_long_report long) =
       let q : Some told ≡ Some bytes = e in
       let k : told ≡ bytes = cc in
-      let far : MAX_REPORT_BYTES < length bytes = subst (λ w. MAX_REPORT_BYTES < length w) k long in
+      let far : most_report_bytes < length bytes = subst (λ w. most_report_bytes < length w) k long in
       absurd (omega (arith, far, short))
 
 pub finished_accepted : OneReplay → FinishedReportsAreAccepted

@@ -12,6 +12,9 @@ pub mod OneText
 pub mod OneEnding
 pub mod OneReplay
 pub mod FinishedReports
+pub mod RunsTwice
+pub mod OneReportClaims
+pub mod OneReport
 pub mod Readings
 pub mod LoadLengths
 pub mod LoadedGoals

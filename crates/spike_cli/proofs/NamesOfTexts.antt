@@ -8,7 +8,6 @@ use Rattle.spec_grammar.specs.declared.keys.Key.{Key}
 use Rattle.spec_grammar.specs.declared.keys.Key.TheVariants.{Equals, Colon, Arrow, RightPar, Spike, Sort, Fun, Rule, Goal, If, Unless, Stray}
 use Rattle.spec_grammar.specs.declared.limits.LimitKind.{LimitKind}
 use Rattle.spec_grammar.specs.declared.limits.LimitKind.TheVariants as limit
-use Rattle.spec_grammar.specs.declared.limits.TheConstants.{MAX_NAME_BYTES}
 use Rattle.spec_grammar.specs.declared.raw.RawName.{RawName}
 use Rattle.spec_grammar.specs.declared.raw.RawNames.{RawNames}
 use Rattle.spec_grammar.specs.declared.raw.RawSort.{RawSort}
@@ -62,12 +61,12 @@ reserved_by_keys name = refl
 free_name : (name : List ℕ) → reserved name ≡ None → list_any (bytes_eq name) reserved_words ≡ false
 free_name name e = not_keyed (bytes_eq name) keys (sym (reserved_by_keys name) ∙ e)
 
-short_by : (b : Bool) (n : ℕ) (m : Option LimitKind) → nat_le n MAX_NAME_BYTES ≡ b → cond {A = Option LimitKind} b m (Some limit.Name) ≡ None → n ≤ MAX_NAME_BYTES
-short_by true n m e h = leb-true n MAX_NAME_BYTES e
+short_by : (b : Bool) (n : ℕ) (m : Option LimitKind) → nat_le n 64 ≡ b → cond {A = Option LimitKind} b m (Some limit.Name) ≡ None → n ≤ 64
+short_by true n m e h = leb-true n 64 e
 short_by false n m e h = absurd (let q : Some limit.Name ≡ None = h in cc)
 
 word_stands : (name : List ℕ) (at : ℕ) (m : Option LimitKind) → IsGood (Word name at) → name_mark name m ≡ None → IsReportName name
-word_stands name at m good unmarked = report_name name (short_by (nat_le (length name) MAX_NAME_BYTES) (length name) m refl unmarked) (free_name name good.2) (good.0, good.1)
+word_stands name at m good unmarked = report_name name (short_by (nat_le (length name) 64) (length name) m refl unmarked) (free_name name good.2) (good.0, good.1)
 
 -- each word of a term may stand in a report
 abbrev mutual

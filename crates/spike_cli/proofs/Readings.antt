@@ -1,7 +1,6 @@
 -- What is said of a command that reads another file, and of the names that were asked for.
-use Rattle.std.proofs.Common.{◌≡◌, ◌≢◌, ◌⊎◌, ◌∙◌, ℕ, List, [], ◌∷◌, ◌++◌, Option, ap, sym, subst, inl, inr, length, append_assoc}
-use Rattle.std.specs.Prelude.{Result, Ok, Err, IsErrAnd}
-use Rattle.std.proofs.Math.Seq.{take-length}
+use Rattle.std.proofs.Common.{◌≡◌, ◌≢◌, ◌⊎◌, ◌∙◌, ℕ, List, [], ◌∷◌, ◌++◌, ◌≤◌, Option, ap, sym, subst, inl, inr, length, append_assoc, append-nil}
+use Rattle.std.specs.Prelude.{Result, Ok, Err, IsErrAnd, IfSome}
 use Rattle.io_core.specs.Asked.{AddsName}
 use Rattle.io_core.specs.Count.{Rose}
 use Rattle.io_core.specs.Piece.{AppendedPrefix}
@@ -10,17 +9,17 @@ use Rattle.io_core.specs.declared.faults.ReadError.TheVariants as read
 use Rattle.io_core.specs.declared.faults.WriteError.{WriteError}
 use Rattle.io_core.specs.declared.faults.WriteError.TheVariants as write
 use Rattle.spec_core.specs.declared.records.Spec.{Spec}
-use Rattle.command_line.specs.Tasks.{Task, Asks}
-use Rattle.spike_cli.specs.declared.replaying.TheConstants.{MAX_REPORT_BYTES}
+use Rattle.command_line.specs.Tasks.{Task, replaying, Asks}
+use Rattle.spike_cli.specs.Reads.{most_file_bytes, most_report_bytes, AreBytesOf, IsLonger}
+use Rattle.accepted_spec.specs.Meanings.{IsAccepted}
 use Rattle.spike_cli.specs.declared.statuses.Status.{Status}
 use Rattle.spike_cli.specs.declared.statuses.Status.TheVariants.{Refused}
 use Rattle.spike_cli.specs.declared.stops.Stop.{Stop}
 use Rattle.spike_cli.specs.declared.stops.Stop.TheVariants.{ReadFault, WriteFault, OutOfMemory}
 use Rattle.spike_cli.specs.Parts.{AppendsPartOf}
-use Rattle.spike_cli.specs.Reads.{AreBytesOf, IsLonger}
 use Rattle.spike_cli.specs.Replays.{IsFileReplay, IsFileReplayText, IsReplay, IsReplayText, replayed, too_long_report, too_long_report_line}
-use Rattle.spike_cli.specs.Runs.{AskedPrefix, files_of, further_files}
-use Rattle.spike_cli.specs.Stops.{AsksFor, Finishes, FinishesReading, stop_of}
+use Rattle.spike_cli.specs.Runs.{AreAsked, no_file, one_file, file_and_report, AsksFiles}
+use Rattle.spike_cli.specs.Stops.{AsksForOn, further_files, Finishes, FinishesReading, stop_of}
 use Rattle.spike_cli.proofs.Pieces.{part_of, piece_stopped, at_error}
 
 module _ (old new : Option (List ℕ)) (writes writes' reads reads' : ℕ) where
@@ -32,7 +31,7 @@ module _ (old new : Option (List ℕ)) (writes writes' reads reads' : ℕ) where
   reads_nothing IsWhole IsPart (Err OutOfMemory) h = h
 
   -- what was written for the bytes of a report is what is written for its file
-  module _ (spec : Spec) (held : Option (List ℕ)) (bytes : List ℕ) (told : AreBytesOf held MAX_REPORT_BYTES bytes) where
+  module _ (spec : Spec) (held : Option (List ℕ)) (bytes : List ℕ) (told : AreBytesOf held most_report_bytes bytes) where
     part : AppendsPartOf (IsReplayText spec bytes) old new → AppendsPartOf (IsFileReplayText spec held) old new
     part p = part_of (IsReplayText spec bytes) (IsFileReplayText spec held) old new (λ t is. (is.0, replayed bytes told is.1)) p
 
@@ -43,7 +42,7 @@ module _ (old new : Option (List ℕ)) (writes writes' reads reads' : ℕ) where
     replays_bytes (Err OutOfMemory) h = part h
 
   -- the line of a report that is too long was to be written
-  pub too_long_stopped : (spec : Spec) (held : Option (List ℕ)) → IsLonger held MAX_REPORT_BYTES → (error : WriteError) (result : Result Status Stop) → IsErrAnd result (λ s. s ≡ stop_of error) → AppendedPrefix old new too_long_report_line → (◌≡◌ {A = Result Unit WriteError} (Err error) (Err write.Failed) → Rose writes writes') → FinishesReading old new writes writes' reads reads' (IsFileReplay spec held) (IsFileReplayText spec held) result
+  pub too_long_stopped : (spec : Spec) (held : Option (List ℕ)) → IsLonger held most_report_bytes → (error : WriteError) (result : Result Status Stop) → IsErrAnd result (λ s. s ≡ stop_of error) → AppendedPrefix old new too_long_report_line → (◌≡◌ {A = Result Unit WriteError} (Err error) (Err write.Failed) → Rose writes writes') → FinishesReading old new writes writes' reads reads' (IsFileReplay spec held) (IsFileReplayText spec held) result
   too_long_stopped spec held long error result is prefix failed =
       let stopped = piece_stopped (IsFileReplayText spec held) old new writes writes' too_long_report_line error (Refused, too_long_report long) prefix failed in
       at_error (FinishesReading old new writes writes' reads reads' (IsFileReplay spec held) (IsFileReplayText spec held)) result (stop_of error) is (reads_nothing (IsFileReplay spec held) (IsFileReplayText spec held) (Err (stop_of error)) stopped)
@@ -59,17 +58,40 @@ too_long_read e is other = let q : read.TooLong ≡ read.OutOfMemory = sym is �
 pub failed_read : (e : ReadError) → e ≡ read.Failed → e ≢ read.OutOfMemory
 failed_read e is other = let q : read.Failed ≡ read.OutOfMemory = sym is ∙ other in cc
 
--- the first file was asked for, and then the further ones or none
-module _ (words : List (List ℕ)) (file : List ℕ) (task : Task) (asks : Asks words file task) (old middle new : List (List ℕ)) where
-  pub asked_first : AddsName old new file → AskedPrefix words old new
-  asked_first added = inr (file, task, asks, 1, added)
+-- what was read of the file that a command names
+pub read_bytes :
+    (held : List ℕ → Option (List ℕ)) (name file items bytes : List ℕ) → name ≡ file → bytes ≡ items →
+    IfSome (held name) (λ whole. items ≡ whole) → length items ≤ most_file_bytes →
+    AreBytesOf (held file) most_file_bytes bytes
+read_bytes held name file items bytes named same told within =
+    subst (λ (b : List ℕ). AreBytesOf (held file) most_file_bytes b) (sym same)
+    (subst (λ (n : List ℕ). AreBytesOf (held n) most_file_bytes items) named (record { told = told; within = within }))
 
-  pub asked_or_not : {B : Type 0} → AddsName old new file ⊎ ((new ≡ old) × B) → AskedPrefix words old new
-  asked_or_not (inl added) = asked_first added
-  asked_or_not (inr none) = inl none.0
+module _ (words : List (List ℕ)) (held : List ℕ → Option (List ℕ)) where
+  pub asks_no_file : (old new : List (List ℕ)) → new ≡ old → AsksFiles words held old new
+  asks_no_file old new same = ([], no_file, same ∙ sym (append-nil old))
 
-  pub asked_further : AddsName old middle file → AsksFor (further_files task) middle new → AskedPrefix words old new
-  asked_further added (inl none) = inr (file, task, asks, 1, none ∙ added)
-  asked_further added (inr all) =
-      let whole : new ≡ old ++ files_of file task = all ∙ ap (λ xs. xs ++ further_files task) added ∙ append_assoc old (file ∷ []) (further_files task) in
-      inr (file, task, asks, length (files_of file task), whole ∙ ap (λ xs. old ++ xs) (sym (take-length (files_of file task))))
+  -- the file was asked for, and then the further ones or none
+  module _ (file : List ℕ) (task : Task) (asks : Asks words file task) (old new : List (List ℕ)) where
+    pub asked_first : AddsName old new file → AsksFiles words held old new
+    asked_first added = (file ∷ [], one_file file task asks, added)
+
+    pub asked_or_not : {B : Type 0} → AddsName old new file ⊎ ((new ≡ old) × B) → AsksFiles words held old new
+    asked_or_not (inl added) = asked_first added
+    asked_or_not (inr none) = asks_no_file old new none.0
+
+  all_asked :
+      (file : List ℕ) (task : Task) → Asks words file task → (bytes : List ℕ) →
+      AreBytesOf (held file) most_file_bytes bytes → IsAccepted bytes → AreAsked words held (file ∷ further_files task)
+  all_asked file (replaying report) asks bytes read is = file_and_report file report bytes asks read is
+  all_asked file task asks bytes read is = one_file file task asks
+
+  pub asked_further :
+      (file : List ℕ) (task : Task) (asks : Asks words file task) (old middle new : List (List ℕ)) (bytes : List ℕ) →
+      AreBytesOf (held file) most_file_bytes bytes → AddsName old middle file →
+      AsksForOn bytes (further_files task) middle new → AsksFiles words held old new
+  asked_further file task asks old middle new bytes read added (inl none) = asked_first file task asks old new (none ∙ added)
+  asked_further file task asks old middle new bytes read added (inr all) =
+      let whole : new ≡ old ++ (file ∷ further_files task) =
+      all.1 ∙ ap (λ xs. xs ++ further_files task) added ∙ append_assoc old (file ∷ []) (further_files task) in
+      (file ∷ further_files task, all_asked file task asks bytes read all.0, whole)

@@ -8,14 +8,13 @@ use Rattle.spec_core.specs.TermText.{term_text}
 use Rattle.spec_core.specs.Gives.{Gives}
 use Rattle.spike_cli.specs.declared.statuses.Status.{Status}
 use Rattle.spike_cli.specs.declared.statuses.Status.TheVariants.{Done, Open, Refused}
-use Rattle.value_bank.specs.declared.reading.TheConstants.{TERM_SYMBOLS}
 use Rattle.accepted_spec.specs.Meanings.{TermTextStandsFor}
 use Rattle.accepted_spec.specs.Refusals.{IsTermRefusal}
 
--- the value's text, or `large` where it has too many symbols
+-- the value's text, or `large` where it has more than 10,000 symbols
 abbrev pub value_text : Sig → Tree → List ℕ
 value_text sig v =
-    if nat_le (tree_size v) TERM_SYMBOLS then term_text sig [] v else codes "large"
+    if nat_le (tree_size v) 10000 then term_text sig [] v else codes "large"
 
 -- `value V` and `steps N`, for the text of V
 abbrev pub lines_with : List ℕ → ℕ → List ℕ

@@ -1,15 +1,17 @@
 -- What the program promises, in the order in which to read it.
 pub mod Claims
 pub mod Checks
+pub mod Reads
 pub mod Reports
 pub mod SearchAlone
 pub mod Evaluations
-pub mod Reads
 pub mod Replays
 pub mod FinishedReports
 pub mod Loads
 pub mod Parts
+pub mod OneReport
 pub mod Runs
+pub mod RunsTwice
 pub mod Outcomes
 pub mod Codes
 -- What only this crate's own contracts speak of.

@@ -10,10 +10,9 @@ use Rattle.acceptance.specs.Accepting.{IsAccepted}
 use Rattle.acceptance.specs.Refusals.{IsFirstRefusal}
 use Rattle.soundness.specs.ReportTruth.{ReportIsTrue}
 use Rattle.reply_lines.specs.Lines.{yes_line, no_line, why_text}
-use Rattle.spike_cli.specs.declared.replaying.TheConstants.{MAX_REPORT_BYTES}
 use Rattle.spike_cli.specs.declared.statuses.Status.{Status}
 use Rattle.spike_cli.specs.declared.statuses.Status.TheVariants as status
-use Rattle.spike_cli.specs.Reads.{AreBytesOf, IsLonger}
+use Rattle.spike_cli.specs.Reads.{most_report_bytes, AreBytesOf, IsLonger}
 
 -- the line for a report that is too long
 abbrev pub too_long_report_line : List ℕ
@@ -40,9 +39,9 @@ module _ (spec : Spec) where
   -- there are too many
   pub data IsFileReplay (held : Option (List ℕ)) : List ℕ → Status → Type 0 where
     replayed : (bytes : List ℕ) {text : List ℕ} {s : Status}
-        → AreBytesOf held MAX_REPORT_BYTES bytes → IsReplay bytes text s
+        → AreBytesOf held most_report_bytes bytes → IsReplay bytes text s
         → IsFileReplay held text s
-    too_long_report : IsLonger held MAX_REPORT_BYTES
+    too_long_report : IsLonger held most_report_bytes
         → IsFileReplay held too_long_report_line status.Refused
 
   abbrev pub IsFileReplayText : Option (List ℕ) → List ℕ → Type 0

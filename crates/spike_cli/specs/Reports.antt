@@ -12,8 +12,8 @@ use Rattle.search_claims.specs.Claims.{AreClaims, AreFirstClaims, report_of}
 use Rattle.soundness.specs.ReportTruth.{ReportIsTrue}
 use Rattle.command_line.specs.declared.bounds.ProofBounds.{ProofBounds}
 use Rattle.command_line.specs.declared.bounds.SearchBounds.{SearchBounds}
-use Rattle.spike_cli.specs.declared.replaying.TheConstants.{MAX_REPORT_BYTES}
 use Rattle.spike_cli.specs.declared.statuses.Status.{Status}
+use Rattle.spike_cli.specs.Reads.{most_report_bytes}
 use Rattle.spike_cli.specs.Claims.{IsNextClaim, IsStatusOfClaims, IsStatusOfGoals}
 
 -- a search for counterexamples that goes so far, and no proof
@@ -40,7 +40,7 @@ pub record IsReport (bounds : ProofBounds) (spec : Spec) (text : List ℕ)
   pub are_claims : AreClaims (IsNextClaim bounds spec) [] spec.goals claims
   pub is_text : text ≡ report_text spec.sig (report_of bounds.search.steps claims)
   pub stands : IsReportText spec.sig text (report_of bounds.search.steps claims)
-  pub short : length text ≤ MAX_REPORT_BYTES
+  pub short : length text ≤ most_report_bytes
   pub accepted : IsAccepted Above spec (report_of bounds.search.steps claims)
   pub true : ReportIsTrue spec (report_of bounds.search.steps claims)
   pub answers : IsStatusOfClaims claims status

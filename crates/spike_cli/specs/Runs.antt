@@ -1,16 +1,15 @@
 -- What a call of the program did, by its status.
-use Rattle.std.specs.Prelude.{◌≡◌, ℕ, ◌⊎◌, List, [], ◌∷◌, ◌++◌, Option, codes, take}
+use Rattle.std.specs.Prelude.{◌≡◌, ℕ, ◌⊎◌, List, [], ◌∷◌, ◌++◌, Option, codes}
 use Rattle.spec_core.specs.declared.records.Spec.{Spec}
 use Rattle.spec_grammar.specs.declared.raw.RawSpec.{RawSpec}
 use Rattle.io_core.specs.Count.{Rose}
 use Rattle.io_core.specs.Piece.{Appended}
 use Rattle.spike_cli.specs.declared.statuses.Status.{Status}
 use Rattle.spike_cli.specs.declared.statuses.Status.TheVariants.{Done, Refuted, Open, Refused, No, ReadFault, WriteFault, Usage, OutOfMemory}
-use Rattle.spec_grammar.specs.declared.limits.TheConstants.{MAX_FILE_BYTES}
 use Rattle.spike_cli.specs.Parts.{AppendsPartOf}
 use Rattle.command_line.specs.Tasks.{Task, checking, refuting, proving, evaluating, replaying, Asks, AsksToLoad, AskNothing}
-use Rattle.spike_cli.specs.Reads.{AreBytesOf, IsLonger}
-use Rattle.accepted_spec.specs.Meanings.{IsAcceptedAs}
+use Rattle.spike_cli.specs.Reads.{most_file_bytes, AreBytesOf, IsLonger}
+use Rattle.accepted_spec.specs.Meanings.{IsAccepted, IsAcceptedAs}
 use Rattle.accepted_spec.specs.Refusals.{IsRefusalOf}
 use Rattle.spike_cli.specs.Checks.{check_text, IsCheck}
 use Rattle.spike_cli.specs.Reports.{BeginsReport, IsReport, search_alone}
@@ -25,14 +24,6 @@ usage_line = codes "usage: spike check|eval|prove|refute|replay|load\n"
 -- the line for a file that is too long
 abbrev pub too_long_line : List ℕ
 too_long_line = codes "refused length\n"
-
--- the files that a task reads behind its first one, and all of them in the order of the words
-abbrev pub further_files : Task → List (List ℕ)
-further_files (replaying report) = report ∷ []
-further_files _ = []
-
-abbrev pub files_of : List ℕ → Task → List (List ℕ)
-files_of file task = file ∷ further_files task
 
 module _ (held : List ℕ → Option (List ℕ)) where
   -- the whole text of a task on a specification, and its status
@@ -82,14 +73,14 @@ module _ (words : List (List ℕ)) (held : List ℕ → Option (List ℕ)) where
     pub task : Task
     pub asked : Asks words file task
     pub bytes : List ℕ
-    pub read : AreBytesOf (held file) MAX_FILE_BYTES bytes
+    pub read : AreBytesOf (held file) most_file_bytes bytes
     pub holds : Holds task bytes
 
   -- the words ask for a file that has more bytes, where the store tells them
   abbrev pub IsTooLong : Type 0
   IsTooLong =
       (file : List ℕ) × (task : Task) × Asks words file task
-      × IsLonger (held file) MAX_FILE_BYTES
+      × IsLonger (held file) most_file_bytes
 
   -- a text that the program may write for these words and files
   pub data MayWrite : List ℕ → Type 0 where
@@ -130,9 +121,15 @@ module _ (words : List (List ℕ)) (held : List ℕ → Option (List ℕ)) where
   Means reads reads' old new writes writes' Usage = AskNothing words × Appended old new usage_line
   Means reads reads' old new writes writes' OutOfMemory = AppendsPartOf MayWrite old new
 
--- the names that were asked for are a prefix of those of the command's files
-abbrev pub AskedPrefix : List (List ℕ) → List (List ℕ) → List (List ℕ) → Type 0
-AskedPrefix words old new =
-    (new ≡ old)
-    ⊎ ((file : List ℕ) × (task : Task) × Asks words file task
-    × (k : ℕ) × (new ≡ old ++ take k (files_of file task)))
+  -- the names that a call asks for, in their order: none; the file of a task; or the file and the
+  -- report that is replayed on it, where the file's text is accepted
+  pub data AreAsked : List (List ℕ) → Type 0 where
+    no_file : AreAsked []
+    one_file : (file : List ℕ) (task : Task) → Asks words file task → AreAsked (file ∷ [])
+    file_and_report : (file report bytes : List ℕ) → Asks words file (replaying report)
+        → AreBytesOf (held file) most_file_bytes bytes → IsAccepted bytes
+        → AreAsked (file ∷ report ∷ [])
+
+  -- such names were added to those that were asked for before
+  abbrev pub AsksFiles : List (List ℕ) → List (List ℕ) → Type 0
+  AsksFiles old new = (names : List (List ℕ)) × AreAsked names × (new ≡ old ++ names)

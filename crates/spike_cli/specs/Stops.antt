@@ -1,5 +1,5 @@
 -- What was appended when a command that writes a report ended or stopped.
-use Rattle.std.specs.Prelude.{◌≡◌, ℕ, ◌⊎◌, List, ◌++◌, Option, Result, Ok, Err, codes}
+use Rattle.std.specs.Prelude.{◌≡◌, ℕ, ◌⊎◌, List, [], ◌∷◌, ◌++◌, Option, Result, Ok, Err, codes}
 use Rattle.spec_core.specs.declared.records.Spec.{Spec}
 use Rattle.io_core.specs.Count.{Rose}
 use Rattle.io_core.specs.Piece.{Appended}
@@ -19,7 +19,8 @@ use Rattle.proof_script.specs.Claims.{claim_text, header_lines}
 use Rattle.command_line.specs.declared.bounds.ProofBounds.{ProofBounds}
 use Rattle.spike_cli.specs.Claims.{IsClaimOn}
 use Rattle.spike_cli.specs.Parts.{AppendsPartOf}
-use Rattle.command_line.specs.Tasks.{Task}
+use Rattle.command_line.specs.Tasks.{Task, replaying}
+use Rattle.accepted_spec.specs.Meanings.{IsAccepted}
 use Rattle.spike_cli.specs.Runs.{Ended, RefusedBytes, MayWriteFor}
 
 -- the words for a command that stopped
@@ -110,9 +111,18 @@ module _
   MeansFor status.Usage = ⊥
   MeansFor status.OutOfMemory = AppendsPartOf (MayWriteFor held task bytes) old new
 
+-- the files that a task reads beside its own
+abbrev pub further_files : Task → List (List ℕ)
+further_files (replaying report) = report ∷ []
+further_files _ = []
+
 -- these names were asked for, or none was
 abbrev pub AsksFor : List (List ℕ) → List (List ℕ) → List (List ℕ) → Type 0
 AsksFor names old new = (new ≡ old) ⊎ (new ≡ old ++ names)
+
+-- the same, where some are asked for only if the bytes are accepted
+abbrev pub AsksForOn : List ℕ → List (List ℕ) → List (List ℕ) → List (List ℕ) → Type 0
+AsksForOn bytes names old new = (new ≡ old) ⊎ (IsAccepted bytes × (new ≡ old ++ names))
 
 -- the status of a command whose text was written, or wasn't
 abbrev pub status_ended : Status → Result Unit WriteError → Status

@@ -1,7 +1,6 @@
 ghost use Rattle.std.specs.Prelude.{◌≡◌, ◌≤◌, ◌++◌, IfOk, OnOk};
 ghost use Rattle.std.specs.Fmt.{decimal};
 ghost use Rattle.spec_grammar.specs.KeepsLimits.{KeepsLimits};
-ghost use Rattle.spec_grammar.specs.declared.limits.TheConstants.{MAX_CONSTRUCTORS};
 ghost use Rattle.spike_cli.specs.Checks.{accepted_line as line_of_accepted};
 ghost use Rattle.spike_cli.specs.Checks.{check_text as text_of_check, constructor_count, IsCheck};
 ghost use Rattle.spike_cli.specs.Stops.{Finishes};
@@ -61,7 +60,7 @@ fn accepted_line(alloc: Global, raw: &RawSpec) -> Result<Vec<u8>, OutOfMemory>
 
 /// How many constructors the sorts have.
 fn constructors_of(sorts: &[RawSort]) -> usize
-    requires { constructor_count sorts.now ≤ MAX_CONSTRUCTORS }
+    requires { constructor_count sorts.now ≤ 500 }
     ensures { result ≡ constructor_count sorts.now }
 {
     sorts.iter().map(|sort| sort.constructors.len()).sum()

@@ -1,7 +1,4 @@
-ghost use Rattle.std.specs.Prelude.{◌≡◌, ◌≤◌, ℕ, Some, IfOk, slice_get};
-ghost use Rattle.spec_core.specs.WellSorted.{IsWellSorted, GoalIsSorted};
-ghost use Rattle.path_order.specs.Above.{Above};
-ghost use Rattle.clause_core.specs.Admitted.{IsAdmitted};
+ghost use Rattle.std.specs.Prelude.{◌≡◌, ◌≤◌, Some, IfOk, slice_get};
 ghost use Rattle.spike_cli.specs.Claims.{IsClaimOn, IsUnrefuted, budget_of};
 ghost use Rattle.spike_cli.specs.Lemmas.{AreLemmas};
 
@@ -12,34 +9,40 @@ use plain_blocks::plain;
 use proof_search::{Guided, guided};
 use routine_proof::proves_behind_claims;
 use soundness::accepted_are_true;
-use spec_core::{Goal, Spec};
+use spec_admit::Admitted;
+use spec_core::Goal;
 use std::alloc::Global;
 use term_core::OutOfMemory;
+
+/// A goal of a specification, with its number.
+#[derive(Clone, Copy)]
+pub struct NumberedGoal<'a> {
+    pub number: u32,
+    pub goal: &'a Goal,
+}
 
 /// The claim on a goal of the specification, with the goals of these numbers as lemmas: what a
 /// search gives, or a plain or a routine proof where it finds no counterexample.
 pub fn claim_on(
     alloc: Global,
-    spec: &Spec,
-    goal: &Goal,
+    admitted: &Admitted<Lpo>,
+    goal: NumberedGoal<'_>,
     bounds: ProofBounds,
     lemmas: &[u32],
 ) -> Result<Claim, OutOfMemory>
-    requires fine { IsWellSorted spec.now }
-    requires admitted { IsAdmitted Above spec.now }
-    requires listed { (k : ℕ) × (slice_get spec.now.goals k ≡ Some goal.now) }
+    requires listed { slice_get admitted.now.spec.goals goal.number ≡ Some goal.goal.now }
     requires short { bounds.plain ≤ 1000 }
-    requires lemmas { AreLemmas bounds.search.steps spec.now goal.now lemmas.now }
-    ensures { IfOk result (IsClaimOn bounds spec.now lemmas.now goal.now) }
+    requires lemmas { AreLemmas bounds.search.steps admitted.now.spec goal.goal.now lemmas.now }
+    ensures { IfOk result (IsClaimOn bounds admitted.now.spec lemmas.now goal.entry.goal.now) }
 {
-    accepted_are_true(&Lpo::by_number());
-    proves_behind_claims(&Lpo::by_number());
+    accepted_are_true(&admitted.order);
+    proves_behind_claims(&admitted.order);
     let Claim {
         goal: name,
         outcome,
-    } = search_claims::claim_on(alloc, spec, goal, bounds.search)?;
+    } = search_claims::claim_on(alloc, &admitted.spec, goal.goal, bounds.search)?;
     let outcome = match outcome {
-        Outcome::Open(searched) => unrefuted(alloc, spec, goal, bounds, lemmas, searched)?,
+        Outcome::Open(searched) => unrefuted(alloc, admitted, goal, bounds, lemmas, searched)?,
         outcome => outcome,
     };
     Ok(Claim {
@@ -51,23 +54,21 @@ pub fn claim_on(
 /// What is claimed of a goal for which a search of these numbers found no counterexample.
 fn unrefuted(
     alloc: Global,
-    spec: &Spec,
-    goal: &Goal,
+    admitted: &Admitted<Lpo>,
+    goal: NumberedGoal<'_>,
     bounds: ProofBounds,
     lemmas: &[u32],
     searched: Budget,
 ) -> Result<Outcome, OutOfMemory>
-    requires fine { IsWellSorted spec.now }
-    requires sorted { GoalIsSorted spec.now.sig goal.now }
+    requires listed { slice_get admitted.now.spec.goals goal.number ≡ Some goal.goal.now }
     requires short { bounds.plain ≤ 1000 }
-    ensures { IfOk result (IsUnrefuted bounds spec.now lemmas.now goal.now
+    ensures { IfOk result (IsUnrefuted bounds admitted.now.spec lemmas.now goal.entry.goal.now
         (budget_of bounds searched.tried searched.skipped searched.cut)) }
 {
-    let order = Lpo::by_number();
-    if let Some(block) = plain(alloc, spec, &order, goal, bounds.plain)? {
+    if let Some(block) = plain(alloc, admitted, goal.goal, bounds.plain)? {
         return Ok(Outcome::Proved(block));
     }
-    match guided(alloc, spec, &order, goal, lemmas, bounds.nodes)? {
+    match guided(alloc, admitted, goal.number, lemmas, bounds.nodes)? {
         Guided::Block(block) => Ok(Outcome::Proved(block)),
         Guided::Unfinished => Ok(Outcome::Open(Budget {
             depth: bounds.search.depth,

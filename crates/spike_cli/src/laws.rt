@@ -1,11 +1,16 @@
 ghost use Rattle.spike_cli.specs.FinishedReports.{FinishedReportsAreAccepted};
 ghost use Rattle.spike_cli.specs.Loads.{OneLoad};
+ghost use Rattle.spike_cli.specs.OneReport.{OneRightReport};
 ghost use Rattle.spike_cli.specs.Outcomes.{OneEnding, OneReplay};
+ghost use Rattle.spike_cli.specs.RunsTwice.{FinishedRunsAreReplayed};
 ghost use Rattle.spike_cli.specs.SearchAlone.{SearchAlone};
 
 use acceptance::one_verdict;
+use command_line::one_request;
 use path_order::Lpo;
+use plain_blocks::one_block;
 use proof_script::{one_fault as one_faulty_line, one_report};
+use routine_proof::one_proof;
 use spec_admit::{no_fault_where_admitted, one_fault};
 
 /// What the text of a file leads to is one thing: an accepted specification, or a line of refusal.
@@ -45,3 +50,23 @@ pub fn finished_reports_are_accepted()
 pub fn one_load()
     ensures { OneLoad }
 {}
+
+/// A report that one call of `run` finished is answered by yes in another call, whatever its files
+/// and its sink are otherwise.
+pub fn finished_runs_are_replayed()
+    ensures { FinishedRunsAreReplayed }
+{
+    one_ending();
+    one_request();
+    finished_reports_are_accepted();
+}
+
+/// A specification has one report at most with the same bounds, and whatever part of a report a
+/// call appends is a prefix of it.
+pub fn one_right_report()
+    ensures { OneRightReport }
+{
+    let order = Lpo::by_number();
+    one_block(&order);
+    one_proof(&order);
+}

@@ -25,7 +25,6 @@ use replay_check::{Answer, replay};
 use reply_lines::load_lines;
 use report_reader::{ReportError, read_report};
 use spec_admit::Admitted;
-use spec_core::Spec;
 use std::alloc::Global;
 use term_core::OutOfMemory;
 
@@ -52,7 +51,7 @@ fn lines(alloc: Global, goals: u32) -> Result<Vec<u8>, OutOfMemory>
 {
     one_report();
     let accepted = generated(alloc, goals)?;
-    let sink = reported(alloc, accepted.spec())?;
+    let sink = reported(alloc, &accepted.admitted)?;
     let report = replayed(alloc, &accepted.admitted, sink.bytes())?;
     load_lines(alloc, goals, report.claims.as_slice())
 }
@@ -74,12 +73,12 @@ fn generated(alloc: Global, goals: u32) -> Result<Accepted, OutOfMemory>
 }
 
 /// The report of the specification with the usual bounds, in memory.
-fn reported(alloc: Global, spec: &Spec) -> Result<SureSink, OutOfMemory>
-    requires { HasReports spec.now }
-    ensures { IfOk result (SomeReport spec.now) }
+fn reported(alloc: Global, admitted: &Admitted<Lpo>) -> Result<SureSink, OutOfMemory>
+    requires { HasReports admitted.now.spec }
+    ensures { IfOk result (SomeReport admitted.now.spec) }
 {
     let mut sink = SureSink::new(alloc);
-    match write_report(alloc, spec, ProofBounds::usual(), &mut sink) {
+    match write_report(alloc, admitted, ProofBounds::usual(), &mut sink) {
         Ok(_) => Ok(sink),
         Err(Stop::OutOfMemory) => Err(OutOfMemory),
         Err(_) => unreachable!(),

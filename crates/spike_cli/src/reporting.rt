@@ -1,11 +1,11 @@
-ghost use Rattle.std.specs.Prelude.{◌≡◌, ◌≤◌, ◌++◌, ℕ, Some, OnOk, slice_get};
+ghost use Rattle.std.specs.Prelude.{◌≡◌, ◌≤◌, ◌++◌, Some, OnOk, slice_get};
 ghost use Rattle.spike_cli.specs.Claims.{number_proved};
 ghost use Rattle.spike_cli.specs.Lemmas.{AreLemmas};
 ghost use Rattle.spike_cli.specs.Reports.{BeginsReport, IsReport, search_alone as search_alone_of};
 ghost use Rattle.spike_cli.specs.Stops.{Finishes, WritesHeader, WritesClaim, joined};
 ghost use Rattle.spike_cli.specs.Within.{AreWithin, HasReports};
 
-use crate::claims::claim_on;
+use crate::claims::{NumberedGoal, claim_on};
 use crate::statuses::Status;
 use crate::stops::Stop;
 use clause_core::{Claim, Outcome};
@@ -16,7 +16,8 @@ use plain_blocks::plain_blocks_stand;
 use proof_script::{print_claim, print_header};
 use routine_proof::{proves_behind_claims, routine_blocks_stand};
 use soundness::accepted_are_true;
-use spec_core::{Goal, Signature, Spec};
+use spec_admit::Admitted;
+use spec_core::Signature;
 use std::alloc::Global;
 use term_core::OutOfMemory;
 
@@ -34,29 +35,31 @@ pub fn search_alone(search: SearchBounds) -> ProofBounds
 /// Writes the report of the goals, each claim as soon as it is there.
 pub fn write_report<S: Sink>(
     alloc: Global,
-    spec: &Spec,
+    admitted: &Admitted<Lpo>,
     bounds: ProofBounds,
     out: &mut S,
 ) -> Result<Status, Stop>
-    requires reported { HasReports spec.now }
+    requires reported { HasReports admitted.now.spec }
     requires within { AreWithin bounds }
     ensures finishes { Finishes (S.written out.old) (S.written out.new)
         (S.faults out.old) (S.faults out.new)
-        (IsReport bounds spec.now) (BeginsReport bounds spec.now) result }
+        (IsReport bounds admitted.now.spec) (BeginsReport bounds admitted.now.spec) result }
     ensures writes { S.faults out.old ≤ S.faults out.new }
 {
-    let order = Lpo::by_number();
-    plain_blocks_stand(&order);
-    routine_blocks_stand(&order);
-    proves_behind_claims(&order);
-    accepted_are_true(&order);
+    let Admitted { spec, order } = admitted;
+    plain_blocks_stand(order);
+    routine_blocks_stand(order);
+    proves_behind_claims(order);
+    accepted_are_true(order);
     write_header(alloc, &spec.sig, bounds.search.steps, out)?;
     let mut status = Status::Done;
     let mut proved = Vec::new(alloc);
     for (number, goal) in spec.goals.as_slice().iter().enumerate() {
-        let claim = write_claim(alloc, spec, goal, bounds, &proved, out)?;
+        let number = number as u32;
+        let goal = NumberedGoal { number, goal };
+        let claim = write_claim(alloc, admitted, goal, bounds, &proved, out)?;
         status = with_claim(status, &claim.outcome);
-        add_proved(&mut proved, number as u32, &claim.outcome)?;
+        add_proved(&mut proved, number, &claim.outcome)?;
     }
     write_all(out, alloc, b"done\n")?;
     Ok(status)
@@ -81,24 +84,25 @@ fn write_header<S: Sink>(
 /// Writes the claim on a goal of the specification, with the goals of these numbers as lemmas.
 fn write_claim<S: Sink>(
     alloc: Global,
-    spec: &Spec,
-    goal: &Goal,
+    admitted: &Admitted<Lpo>,
+    goal: NumberedGoal<'_>,
     bounds: ProofBounds,
     lemmas: &[u32],
     out: &mut S,
 ) -> Result<Claim, Stop>
-    requires reported { HasReports spec.now }
+    requires reported { HasReports admitted.now.spec }
     requires within { AreWithin bounds }
-    requires listed { (k : ℕ) × (slice_get spec.now.goals k ≡ Some goal.now) }
-    requires lemmas { AreLemmas bounds.search.steps spec.now goal.now lemmas.now }
+    requires listed { slice_get admitted.now.spec.goals goal.number ≡ Some goal.goal.now }
+    requires lemmas { AreLemmas bounds.search.steps admitted.now.spec goal.goal.now lemmas.now }
     ensures claim { WritesClaim (S.written out.old) (S.written out.new)
-        (S.faults out.old) (S.faults out.new) bounds spec.now lemmas.now goal.now result }
+        (S.faults out.old) (S.faults out.new) bounds admitted.now.spec lemmas.now
+        goal.entry.goal.now result }
     ensures writes { S.faults out.old ≤ S.faults out.new }
 {
-    plain_blocks_stand(&Lpo::by_number());
-    routine_blocks_stand(&Lpo::by_number());
-    let claim = claim_on(alloc, spec, goal, bounds, lemmas)?;
-    let text = print_claim(alloc, &spec.sig, &claim)?;
+    plain_blocks_stand(&admitted.order);
+    routine_blocks_stand(&admitted.order);
+    let claim = claim_on(alloc, admitted, goal, bounds, lemmas)?;
+    let text = print_claim(alloc, &admitted.spec.sig, &claim)?;
     write_all(out, alloc, &text)?;
     Ok(claim)
 }

@@ -2,8 +2,9 @@ ghost use Rattle.std.specs.Prelude.{◌≡◌, ◌≤◌, ℕ, List, length, map
 ghost use Rattle.spec_grammar.specs.KeepsLimits.{KeepsLimits};
 ghost use Rattle.command_line.specs.Commands.{file_of, task_of};
 ghost use Rattle.command_line.specs.Tasks.{Asks};
-ghost use Rattle.spike_cli.specs.Runs.{Means, AskedPrefix, IsEnd, MayWriteOn, further_files};
-ghost use Rattle.spike_cli.specs.Stops.{AsksFor, FinishesReading, MeansFor, Refuses, status_ended};
+ghost use Rattle.spike_cli.specs.Runs.{AsksFiles, IsEnd, MayWriteOn, Means};
+ghost use Rattle.spike_cli.specs.Stops.{AsksFor, AsksForOn, FinishesReading, MeansFor, Refuses};
+ghost use Rattle.spike_cli.specs.Stops.{further_files, status_ended};
 ghost use Rattle.accepted_spec.specs.Tellings.{IsLineOf};
 ghost use Rattle.spike_cli.specs.Within.{HasReports, TaskIsWithin};
 
@@ -26,7 +27,7 @@ pub fn run<F: Files, S: Sink>(alloc: Global, words: &[String], files: &mut F, ou
     ensures means { Means (map string_bytes words.now) (F.held files.old)
         (F.faults files.old) (F.faults files.new) (S.written out.old) (S.written out.new)
         (S.faults out.old) (S.faults out.new) result }
-    ensures asked { AskedPrefix (map string_bytes words.now)
+    ensures asked { AsksFiles (map string_bytes words.now) (F.held files.old)
         (F.asked files.old) (F.asked files.new) }
     ensures stays { (name : List ℕ) → F.held files.new name ≡ F.held files.old name }
     ensures reads { F.faults files.old ≤ F.faults files.new }
@@ -62,7 +63,7 @@ fn run_on_file<F: Files, S: Sink>(
     ensures means { Means (map string_bytes words.now) (F.held files.old)
         (F.faults files.old) (F.faults files.new) (S.written out.old) (S.written out.new)
         (S.faults out.old) (S.faults out.new) result }
-    ensures asked { AskedPrefix (map string_bytes words.now)
+    ensures asked { AsksFiles (map string_bytes words.now) (F.held files.old)
         (F.asked files.old) (F.asked files.new) }
     ensures stays { (name : List ℕ) → F.held files.new name ≡ F.held files.old name }
     ensures reads { F.faults files.old ≤ F.faults files.new }
@@ -93,7 +94,7 @@ fn carry_out<F: Files, S: Sink>(
     ensures means { MeansFor (F.held files.old) (task_of command.now) bytes.now
         (F.faults files.old) (F.faults files.new)
         (S.written out.old) (S.written out.new) (S.faults out.old) (S.faults out.new) result }
-    ensures asked { AsksFor (further_files (task_of command.now))
+    ensures asked { AsksForOn bytes.now (further_files (task_of command.now))
         (F.asked files.old) (F.asked files.new) }
     ensures stays { (name : List ℕ) → F.held files.new name ≡ F.held files.old name }
     ensures reads { F.faults files.old ≤ F.faults files.new }
@@ -134,9 +135,9 @@ fn finish<F: Files, S: Sink>(
     match command {
         Command::Check { print, .. } => check(alloc, &accepted.raw, *print, out),
         Command::Refute { bounds, .. } => {
-            write_report(alloc, accepted.spec(), search_alone(*bounds), out)
+            write_report(alloc, &accepted.admitted, search_alone(*bounds), out)
         }
-        Command::Prove { bounds, .. } => write_report(alloc, accepted.spec(), *bounds, out),
+        Command::Prove { bounds, .. } => write_report(alloc, &accepted.admitted, *bounds, out),
         Command::Eval { term, steps, .. } => {
             evaluate(alloc, accepted.spec(), term.as_bytes(), *steps, out)
         }

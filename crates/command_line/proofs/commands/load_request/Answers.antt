@@ -3,13 +3,13 @@ use Rattle.std.specs.Prelude.{string_bytes}
 use Rattle.clap.specs.Words.{app_of, found_of, rows_of}
 use Rattle.command_line.specs.declared.ranges.TheConstants.{GOALS}
 use Rattle.command_line.specs.Apps.{load_app}
-use Rattle.command_line.proofs.Askings.{load_asked, no_load_asked, numeral_at}
+use Rattle.command_line.proofs.Askings.{load_alone, load_asked, nothing_asked, numeral_at}
 use Rattle.command_line.proofs.commands.load_request.Goals as goal
 
 pub returns-in_default : goal.returns-in_default
 returns-in_default c =
-    no_load_asked (app_of c.in_ok-app.app) (map string_bytes c.args.words.now) c.in_ok-app.ensures
-    c.requires (search rules)
+    nothing_asked (app_of c.in_ok-app.app) load_app (map string_bytes c.args.words.now) c.in_ok-app.ensures
+    c.requires load_alone (search rules)
 
 pub number_of-requires-clause-there : goal.number_of-requires-clause-there
 number_of-requires-clause-there c =

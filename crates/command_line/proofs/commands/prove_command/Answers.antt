@@ -8,7 +8,7 @@ use Rattle.command_line.proofs.commands.prove_command.Goals as goal
 
 pub returns-in_default : goal.returns-in_default
 returns-in_default c =
-    nothing_asked (app_of c.in_ok-app.app) prove_app (map string_bytes c.args.words.now) c.in_ok-app.ensures c.requires prove_alone (search rules) refl
+    nothing_asked (app_of c.in_ok-app.app) prove_app (map string_bytes c.args.words.now) c.in_ok-app.ensures c.requires prove_alone (search rules)
 
 pub search_bounds_of-requires : goal.search_bounds_of-requires
 search_bounds_of-requires c =

@@ -7,7 +7,7 @@ use Rattle.command_line.proofs.commands.replay_command.Goals as goal
 
 pub returns-in_default : goal.returns-in_default
 returns-in_default c =
-    nothing_asked (app_of c.in_ok-app.app) replay_app (map string_bytes c.args.words.now) c.in_ok-app.ensures c.requires replay_alone (search rules) refl
+    nothing_asked (app_of c.in_ok-app.app) replay_app (map string_bytes c.args.words.now) c.in_ok-app.ensures c.requires replay_alone (search rules)
 
 pub word_of-requires : goal.word_of-requires
 word_of-requires c =

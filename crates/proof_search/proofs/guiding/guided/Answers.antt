@@ -1,106 +1,81 @@
-use Rattle.std.proofs.Common.{◌≡◌, ◌<◌, ◌≤◌, Some, length, ap, sym, ◌∙◌, subst, arith}
-use Rattle.std.specs.Option.{IfSome}
-use Rattle.std.proofs.lemmas.Bool.{eqb-true}
-use Rattle.clause_core.specs.declared.clauses.Clause.{Clause}
-use Rattle.clause_core.specs.Limits.{IsWithin}
-use Rattle.clause_core.specs.Tidied.{goal_clause}
-use Rattle.routine_proof.specs.Routine.{no_split, split}
-use Rattle.proof_search.specs.Proving.{IsCoverOf}
-use Rattle.proof_search.proofs.FewStarts.{few_starts}
-use Rattle.proof_search.proofs.FirstProofs.{by_setting, first_start, splits_left, found_split, later_left, same_left, ends}
-use Rattle.proof_search.proofs.Tests.{is_some_same}
+use Rattle.std.proofs.Common.{◌≡◌, ◌∙◌, ◌<◌, List, ℕ, Some, refl, sym, subst, length, get_or}
+use Rattle.std.specs.Prelude.{Result, IfOk, Ok, Err, slice_get}
+use Rattle.std.proofs.lemmas.Option.{slice_get_read}
+use Rattle.term_core.specs.Tree.{Tree}
+use Rattle.spec_core.specs.declared.records.Goal.{Goal}
+use Rattle.spec_core.specs.declared.records.Spec.{Spec}
+use Rattle.routine_proof.specs.Laws.{ProvesBehindClaims}
+use Rattle.routine_proof.specs.Routine.{IsFirstProof}
+use Rattle.proof_search.specs.declared.answers.Guided.{Guided}
+use Rattle.proof_search.specs.Guided.{steps_in, IsAcceptedAfter}
+use Rattle.proof_search.proofs.AcceptedProofs.{accepted_after}
 use Rattle.proof_search.proofs.guiding.guided.Goals as goal
 
-pub returns-in-Proof : goal.returns-in-Proof
-returns-in-Proof g c =
-    first_start (g.O.TermOrder.above c.args.order.now) c.args.spec.now c.args.lemmas.now
-    c.args.goal.now c.args.nodes c.in_ok-block.field-0 c.in-Proof.block c.in-Proof.is
-    (by_setting (g.O.TermOrder.above c.args.order.now)
-    c.in_ok-setting.setting.spec.now c.args.spec.now
-    c.in_ok-setting.setting.lemmas.now c.args.lemmas.now
-    c.in_ok-setting.ensures.1 c.in_ok-setting.ensures.2 c.args.goal.now c.args.nodes no_split
-    c.in_ok-block.field-0 c.in_ok-block.ensures)
+-- the goal that is read, as one of the specification's
+listed :
+    (goals items : List Goal) (i : ℕ) (one : Goal) → items ≡ goals → i < length items →
+    one ≡ get_or items i one → slice_get goals i ≡ Some one
+listed goals items i one same h is =
+    subst (λ gs. slice_get gs i ≡ Some one) same (slice_get_read items _ i one refl h is)
 
-pub overflow_cast-number-end : goal.overflow_cast-number-end
-overflow_cast-number-end g c =
-    let within =
-    subst IsWithin c.in_ok-clause.ensures (c.within.ensures.0 c.if-not-within.false) in
-    let few = few_starts c.tidying_laws.ensures c.args.goal.now within in
-    let count = c.len-number-end.ensures
-    ∙ ap (λ (x : Clause). length x.ctx) c.in_ok-clause.ensures in
-    omega (arith, few, count)
+-- what is so of the goal that is read is so of the goal at its number
+of_listed :
+    {E : Type 0} (goals : List Goal) (i : ℕ) (one : Goal) (Holds : Goal → Guided → Type 0) →
+    slice_get goals i ≡ Some one → (result : Result Guided E) → IfOk result (Holds one) →
+    IfOk result (λ found. (it : Goal) → slice_get goals i ≡ Some it → Holds it found)
+of_listed goals i one Holds at (Ok found) h = λ it at_too.
+    let q : Some one ≡ Some it = sym at ∙ at_too in
+    let same : one ≡ it = cc in
+    subst (λ g. Holds g found) same h
+of_listed goals i one Holds at (Err error) h = h
 
-pub loop-number-init : goal.loop-number-init
-loop-number-init g c =
-    splits_left (g.O.TermOrder.above c.args.order.now) c.args.spec.now c.args.lemmas.now
-    c.args.goal.now c.args.nodes
-    c.in_ok-block.field-0 c.in-Not.first c.in-Not.is
-    (by_setting (g.O.TermOrder.above c.args.order.now)
-    c.in_ok-setting.setting.spec.now c.args.spec.now
-    c.in_ok-setting.setting.lemmas.now c.args.lemmas.now
-    c.in_ok-setting.ensures.1 c.in_ok-setting.ensures.2 c.args.goal.now c.args.nodes
-    no_split c.in_ok-block.field-0 c.in_ok-block.ensures)
+accepted_if_ok :
+    {E : Type 0} (above : Tree → Tree → Type 0) (spec : Spec) (lemmas : List ℕ) (one : Goal)
+    (i most : ℕ) → ProvesBehindClaims above → slice_get spec.goals i ≡ Some one →
+    (result : Result Guided E) →
+    IfOk result (λ found. IsFirstProof above spec lemmas one most (steps_in found)) →
+    IfOk result (IsAcceptedAfter above spec lemmas one)
+accepted_if_ok above spec lemmas one i most behind at (Ok found) h =
+    accepted_after above behind spec lemmas one i most at found h
+accepted_if_ok above spec lemmas one i most behind at (Err error) h = h
 
-pub returns-in-Proof-2 : goal.returns-in-Proof-2
-returns-in-Proof-2 g c =
-    let count = c.len-number-end.ensures
-    ∙ ap (λ (x : Clause). length x.ctx) c.in_ok-clause.ensures in
-    let lt : c.loop-number.number < length (goal_clause c.args.goal.now).ctx =
-    omega (arith, c.loop-number-test.true, count) in
-    found_split (g.O.TermOrder.above c.args.order.now) c.args.spec.now c.args.lemmas.now
-    c.args.goal.now c.args.nodes
-    c.loop-number.number c.loop-number.invariant lt
-    c.in_ok-block-2.field-0 c.in-Proof-2.block c.in-Proof-2.is
-    (by_setting (g.O.TermOrder.above c.args.order.now)
-    c.in_ok-setting.setting.spec.now c.args.spec.now
-    c.in_ok-setting.setting.lemmas.now c.args.lemmas.now
-    c.in_ok-setting.ensures.1 c.in_ok-setting.ensures.2 c.args.goal.now c.args.nodes
-    (split c.loop-number.number) c.in_ok-block-2.field-0 c.in_ok-block-2.ensures)
+pub first_proof-requires-clause-sorted : goal.first_proof-requires-clause-sorted
+first_proof-requires-clause-sorted g c =
+    let within = rw (← c.admitted.view_is) at c.requires.in_range in
+    let at =
+    listed c.admitted.inside.spec.goals c.as_slice-goals.result.now c.args.goal
+    c.index-goals-goal.result c.as_slice-goals.ensures
+    (subst (λ gs. c.args.goal < length gs) (sym c.as_slice-goals.ensures) within)
+    c.index-goals-goal.is in
+    c.admitted.invariant.0.goals c.args.goal c.index-goals-goal.result at
 
-pub loop-number-preserved-then-eq : goal.loop-number-preserved-then-eq
-loop-number-preserved-then-eq g c =
-    let count = c.len-number-end.ensures
-    ∙ ap (λ (x : Clause). length x.ctx) c.in_ok-clause.ensures in
-    let lt : c.loop-number.number < length (goal_clause c.args.goal.now).ctx =
-    omega (arith, c.loop-number-test.true, count) in
-    let equal : c.in_ok-same.same ≡ Some (record { 0 = c.loop-number.number }) =
-    is_some_same _ (λ a b e. let n = eqb-true a.0 b.0 e in λ i. record { 0 = n i })
-    c.in_ok-same.same (record { 0 = c.loop-number.number }) (sym c.eq.ensures ∙ c.if-eq.true) in
-    same_left (g.O.TermOrder.above c.args.order.now) c.args.spec.now c.args.lemmas.now
-    c.args.goal.now c.args.nodes
-    c.loop-number.number c.loop-number.invariant lt c.one_answer.ensures c.requires.fine
-    c.in_ok-block.field-0 c.in-Not.first c.in-Not.is
-    (by_setting (g.O.TermOrder.above c.args.order.now)
-    c.in_ok-setting.setting.spec.now c.args.spec.now
-    c.in_ok-setting.setting.lemmas.now c.args.lemmas.now
-    c.in_ok-setting.ensures.1 c.in_ok-setting.ensures.2 c.args.goal.now c.args.nodes
-    no_split c.in_ok-block.field-0 c.in_ok-block.ensures)
-    c.in_ok-same.same equal
-    (subst (λ (x : Clause). IfSome c.in_ok-same.same (IsCoverOf c.args.spec.now x c.in-Not.first))
-    c.in_ok-clause.ensures c.in_ok-same.ensures)
+pub returns-clause-first : goal.returns-clause-first
+returns-clause-first g c =
+    let within = rw (← c.admitted.view_is) at c.requires.in_range in
+    let at =
+    listed c.admitted.inside.spec.goals c.as_slice-goals.result.now c.args.goal
+    c.index-goals-goal.result c.as_slice-goals.ensures
+    (subst (λ gs. c.args.goal < length gs) (sym c.as_slice-goals.ensures) within)
+    c.index-goals-goal.is in
+    rw (← c.admitted.view_is)
+    (of_listed c.admitted.inside.spec.goals c.args.goal c.index-goals-goal.result
+    (λ it found. IsFirstProof (g.O.TermOrder.above c.admitted.inside.order) c.admitted.inside.spec
+    c.args.lemmas.now it c.args.nodes (steps_in found)) at c.first_proof.result
+    c.first_proof.ensures)
 
-pub loop-number-preserved : goal.loop-number-preserved
-loop-number-preserved g c =
-    let count = c.len-number-end.ensures
-    ∙ ap (λ (x : Clause). length x.ctx) c.in_ok-clause.ensures in
-    let lt : c.loop-number.number < length (goal_clause c.args.goal.now).ctx =
-    omega (arith, c.loop-number-test.true, count) in
-    later_left (g.O.TermOrder.above c.args.order.now) c.args.spec.now c.args.lemmas.now
-    c.args.goal.now c.args.nodes
-    c.loop-number.number c.loop-number.invariant lt
-    c.in_ok-block-2.field-0 c.in_default.field-0 c.in_default.is
-    (by_setting (g.O.TermOrder.above c.args.order.now)
-    c.in_ok-setting.setting.spec.now c.args.spec.now
-    c.in_ok-setting.setting.lemmas.now c.args.lemmas.now
-    c.in_ok-setting.ensures.1 c.in_ok-setting.ensures.2 c.args.goal.now c.args.nodes
-    (split c.loop-number.number) c.in_ok-block-2.field-0 c.in_ok-block-2.ensures)
-
-pub returns : goal.returns
-returns g c =
-    let count = c.len-number-end.ensures
-    ∙ ap (λ (x : Clause). length x.ctx) c.in_ok-clause.ensures in
-    let le : length (goal_clause c.args.goal.now).ctx ≤ c.loop-number.number =
-    omega (arith, c.loop-number-test.false, count) in
-    ends (g.O.TermOrder.above c.args.order.now) c.args.spec.now c.args.lemmas.now
-    c.args.goal.now c.args.nodes
-    c.loop-number.number c.loop-number.invariant le
+pub returns-clause-accepted : goal.returns-clause-accepted
+returns-clause-accepted g c =
+    let spec = c.admitted.inside.spec in
+    let above = g.O.TermOrder.above c.admitted.inside.order in
+    let lemmas = c.args.lemmas.now in
+    let within = rw (← c.admitted.view_is) at c.requires.in_range in
+    let at =
+    listed spec.goals c.as_slice-goals.result.now c.args.goal c.index-goals-goal.result
+    c.as_slice-goals.ensures
+    (subst (λ gs. c.args.goal < length gs) (sym c.as_slice-goals.ensures) within)
+    c.index-goals-goal.is in
+    rw (← c.admitted.view_is)
+    (of_listed spec.goals c.args.goal c.index-goals-goal.result
+    (λ it found. IsAcceptedAfter above spec lemmas it found) at c.first_proof.result
+    (accepted_if_ok above spec lemmas c.index-goals-goal.result c.args.goal c.args.nodes
+    c.proves_behind_claims.ensures at c.first_proof.result c.first_proof.ensures))

@@ -1,5 +1,4 @@
 use Rattle.std.proofs.Common.{◌≡◌, ◌∙◌, List, ℕ, Some, ap, subst, Vec, Global}
-use Rattle.spec_core.specs.declared.records.Spec.{Spec}
 use Rattle.clause_core.specs.declared.reports.Claim.{Claim}
 use Rattle.reply_lines.specs.Lines.{load_lines}
 use Rattle.spike_cli.specs.Loads.{IsLoad, SomeReport}
@@ -11,9 +10,7 @@ returns c =
     let goals = c.args.goals in
     let spec = c.in_ok-accepted.accepted.admitted.spec in
     let bytes = c.bytes.result.now in
-    let told : SomeReport spec c.in_ok-sink.sink =
-    subst (λ (s : Spec). SomeReport s c.in_ok-sink.sink) c.spec.ensures.is
-    c.in_ok-sink.ensures in
+    let told : SomeReport spec c.in_ok-sink.sink = c.in_ok-sink.ensures in
     let same : Some c.in_ok-sink.sink ≡ Some bytes = c.bytes.ensures in
     let equal : c.in_ok-sink.sink ≡ bytes = cc in
     let some : SomeReport spec bytes = subst (λ (b : List ℕ). SomeReport spec b) equal told in

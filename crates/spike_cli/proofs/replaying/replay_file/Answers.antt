@@ -1,7 +1,6 @@
 use Rattle.std.proofs.Common.{ap, sym, subst}
 use Rattle.std.specs.Prelude.{Err}
-use Rattle.spike_cli.specs.declared.replaying.TheConstants.{MAX_REPORT_BYTES}
-use Rattle.spike_cli.specs.Reads.{AreBytesOf}
+use Rattle.spike_cli.specs.Reads.{most_report_bytes, AreBytesOf}
 use Rattle.spike_cli.specs.Replays.{too_long_report, too_long_report_line}
 use Rattle.spike_cli.proofs.Readings.{replays_bytes, too_long_stopped}
 use Rattle.spike_cli.proofs.replaying.replay_file.Goals as goal
@@ -16,8 +15,8 @@ returns-in_err-write_all-in-Err-TooLong-clause-finishes g c =
 pub returns-in-Ok-clause-finishes : goal.returns-in-Ok-clause-finishes
 returns-in-Ok-clause-finishes g c =
     let held = g.F.Files.held c.args.files.now c.args.report.now in
-    let read : AreBytesOf held MAX_REPORT_BYTES c.in-Ok.bytes.items = record { told = c.in-Ok.ensures.told; within = c.in-Ok.ensures.within } in
-    replays_bytes (g.S.Sink.written c.args.out.now) (g.S.Sink.written c.replay_bytes.new.out) (g.S.Sink.faults c.args.out.now) (g.S.Sink.faults c.replay_bytes.new.out) (g.F.Files.faults c.args.files.now) (g.F.Files.faults c.read.new.self) c.args.admitted.now.spec held c.deref.result.now (subst (λ bytes. AreBytesOf held MAX_REPORT_BYTES bytes) (sym c.deref.ensures.value) read) c.replay_bytes.result c.replay_bytes.ensures.finishes
+    let read : AreBytesOf held most_report_bytes c.in-Ok.bytes.items = record { told = c.in-Ok.ensures.told; within = c.in-Ok.ensures.within } in
+    replays_bytes (g.S.Sink.written c.args.out.now) (g.S.Sink.written c.replay_bytes.new.out) (g.S.Sink.faults c.args.out.now) (g.S.Sink.faults c.replay_bytes.new.out) (g.F.Files.faults c.args.files.now) (g.F.Files.faults c.read.new.self) c.args.admitted.now.spec held c.deref.result.now (subst (λ bytes. AreBytesOf held most_report_bytes bytes) (sym c.deref.ensures.value) read) c.replay_bytes.result c.replay_bytes.ensures.finishes
 
 pub returns-in_ok-write_all-in-Err-TooLong-clause-finishes : goal.returns-in_ok-write_all-in-Err-TooLong-clause-finishes
 returns-in_ok-write_all-in-Err-TooLong-clause-finishes g c =

@@ -18,7 +18,7 @@ use Rattle.spike_cli.proofs.AcceptedClaims.{lemmas_of_next, report_accepted}
 use Rattle.spike_cli.proofs.ClaimLemmas.{status_more, status_of_goals}
 use Rattle.spike_cli.proofs.ProvedGoals.{proved-append}
 use Rattle.spike_cli.proofs.ReportedClaims.{as_many, report_stands, report_short}
-use Rattle.spike_cli.specs.declared.replaying.TheConstants.{MAX_REPORT_BYTES}
+use Rattle.spike_cli.specs.Reads.{most_report_bytes}
 use Rattle.proof_script.specs.Texts.{IsReportText}
 use Rattle.spike_cli.proofs.Pieces.{begun_text-more, begun_text-whole, stopped_more, stopped_same, piece_stopped, at_error, whole_prefix}
 use Rattle.spike_cli.proofs.reporting.write_report.Goals as goal
@@ -26,24 +26,25 @@ use Rattle.io_core.proofs.Pieces.{Appended-append}
 
 pub returns-in_err-write_header-clause-finishes : goal.returns-in_err-write_header-clause-finishes
 returns-in_err-write_header-clause-finishes g c =
-    let spec = c.args.spec.now in
+    let spec = c.admitted.inside.spec in
     let header = lines_text spec.sig (header_lines c.args.bounds.search.steps) in
     let start : BeginsReport c.args.bounds spec header =
     subst (λ t. BeginsReport c.args.bounds spec t) (append-nil header) (begun [] tt) in
-    at_error (Finishes (g.S.Sink.written c.args.out.now) (g.S.Sink.written c.write_header.new.out)
+    rw (← c.admitted.view_is)
+    (at_error (Finishes (g.S.Sink.written c.args.out.now) (g.S.Sink.written c.write_header.new.out)
     (g.S.Sink.faults c.args.out.now) (g.S.Sink.faults c.write_header.new.out)
     (IsReport c.args.bounds spec) (BeginsReport c.args.bounds spec)) c.from_residual.result
     c.in_err-write_header.field-0.0 c.from_residual.ensures.1
     (stopped_same (λ t. t ≡ header) (BeginsReport c.args.bounds spec) _ _ _ _
     c.in_err-write_header.field-0.0 (λ t e. subst (λ t. BeginsReport c.args.bounds spec t)
-    (sym e) start) c.in_err-write_header.ensures.header)
+    (sym e) start) c.in_err-write_header.ensures.header))
 
 pub loop-number-init : goal.loop-number-init
-loop-number-init g c = (
+loop-number-init g c = rw (← c.admitted.view_is) (
   [],
   tt,
   subst (λ t. Appended (g.S.Sink.written c.args.out.now) (g.S.Sink.written c.write_header.new.out)
-      t) (sym (append-nil (lines_text c.args.spec.now.sig
+      t) (sym (append-nil (lines_text c.admitted.inside.spec.sig
       (header_lines c.args.bounds.search.steps)))) c.in_ok-write_header.ensures.header,
   (λ x. x, λ x. x),
   c.in_ok-write_header.ensures.writes,
@@ -59,30 +60,29 @@ listed goals items i one same h is =
 
 pub write_claim-requires-clause-listed : goal.write_claim-requires-clause-listed
 write_claim-requires-clause-listed g c =
-    let goals = c.args.spec.now.goals in (
-      c.loop-number.number,
-      listed goals c.as_slice-goal-items.result.now c.loop-number.number
-          c.goal-item.result c.as_slice-goal-items.ensures c.loop-number-test.true c.goal-item.is,
-    )
+    rw (← c.admitted.view_is)
+    (listed c.admitted.inside.spec.goals c.as_slice-goal-items.result.now c.loop-number.number
+    c.goal-item.result c.as_slice-goal-items.ensures c.loop-number-test.true c.goal-item.is)
 
 pub write_claim-requires-clause-lemmas : goal.write_claim-requires-clause-lemmas
 write_claim-requires-clause-lemmas g c =
-    let spec = c.args.spec.now in
-    let i = c.loop-number.invariant in
+    let spec = c.admitted.inside.spec in
+    let i = rw (← c.admitted.view_is) at c.loop-number.invariant in
     let at =
     listed spec.goals c.as_slice-goal-items.result.now c.loop-number.number c.goal-item.result
     c.as_slice-goal-items.ensures c.loop-number-test.true c.goal-item.is in
     let known =
-    lemmas_of_next c.proves_behind_claims.ensures c.args.bounds spec c.requires.reported.fine
+    lemmas_of_next c.proves_behind_claims.ensures c.args.bounds spec c.admitted.invariant.0
     c.loop-number.number c.goal-item.result i.0 at i.1 in
-    subst (λ ns. AreLemmas c.args.bounds.search.steps spec c.goal-item.result ns)
-    (sym (c.deref.ensures.value ∙ i.5)) known
+    rw (← c.admitted.view_is)
+    (subst (λ ns. AreLemmas c.args.bounds.search.steps spec c.goal-item.result ns)
+    (sym (c.deref.ensures.value ∙ i.5)) known)
 
 pub returns-in_err-claim-clause-finishes : goal.returns-in_err-claim-clause-finishes
 returns-in_err-claim-clause-finishes g c =
-    let spec = c.args.spec.now in
+    let spec = c.admitted.inside.spec in
     let bounds = c.args.bounds in
-    let i = c.loop-number.invariant in
+    let i = rw (← c.admitted.view_is) at c.loop-number.invariant in
     let number = c.loop-number.number in
     let at =
     listed spec.goals c.as_slice-goal-items.result.now number c.goal-item.result
@@ -104,28 +104,34 @@ returns-in_err-claim-clause-finishes g c =
     ∙ ap (λ u. begun_text bounds.search.steps spec.sig i.0 ++ u) (sym x.2))
     (begun (i.0 ++ x.0 ∷ []) (first_claims (IsNextClaim bounds spec) spec.goals (number + 1) []
     (i.0 ++ x.0 ∷ []) more)) in
-    at_error (Finishes (g.S.Sink.written c.args.out.now) (g.S.Sink.written c.write_claim.new.out)
+    let stopped = rw (← c.admitted.view_is) at c.in_err-claim.ensures.claim in
+    rw (← c.admitted.view_is)
+    (at_error (Finishes (g.S.Sink.written c.args.out.now) (g.S.Sink.written c.write_claim.new.out)
     (g.S.Sink.faults c.args.out.now) (g.S.Sink.faults c.write_claim.new.out)
     (IsReport bounds spec) (BeginsReport bounds spec)) c.from_residual-in_err-claim.result
     c.in_err-claim.field-0.0 c.from_residual-in_err-claim.ensures.1
     (stopped_more IsText (BeginsReport bounds spec) _ _ _
     (begun_text bounds.search.steps spec.sig i.0) _ _ _ c.in_err-claim.field-0.0 i.4 i.2 start
-    with_claim c.in_err-claim.ensures.claim)
+    with_claim stopped))
 
 pub returns-in_err-add_proved-clause-finishes : goal.returns-in_err-add_proved-clause-finishes
 returns-in_err-add_proved-clause-finishes g c =
-    let spec = c.args.spec.now in
+    let spec = c.admitted.inside.spec in
     let bounds = c.args.bounds in
-    let i = c.loop-number.invariant in
+    let i = rw (← c.admitted.view_is) at c.loop-number.invariant in
     let number = c.loop-number.number in
     let claim = c.in_ok-claim.claim in
-    let e = c.in_ok-claim.ensures.claim in
+    let made = c.in_ok-claim.ensures.claim in
+    let is_claim = rw (← c.admitted.view_is) at made.0 in
+    let with_claim = subst (λ a. Appended (g.S.Sink.written c.loop-number.out)
+    (g.S.Sink.written c.write_claim.new.out) (claim_text a.spec.sig claim))
+    (sym c.admitted.view_is) made.1 in
     let at =
     listed spec.goals c.as_slice-goal-items.result.now number c.goal-item.result
     c.as_slice-goal-items.ensures c.loop-number-test.true c.goal-item.is in
     let next : IsNextClaim bounds spec i.0 c.goal-item.result claim =
     subst (λ ns. IsClaimOn bounds spec ns c.goal-item.result claim)
-    (c.deref.ensures.value ∙ i.5) e.0 in
+    (c.deref.ensures.value ∙ i.5) is_claim in
     let more =
     claims_more (IsNextClaim bounds spec) spec.goals number c.goal-item.result [] i.0 claim at
     next i.1 in
@@ -136,30 +142,35 @@ returns-in_err-add_proved-clause-finishes g c =
     (g.S.Sink.written c.write_claim.new.out) t)
     (sym (begun_text-more bounds.search.steps spec.sig i.0 claim))
     (Appended-append _ _ _ (begun_text bounds.search.steps spec.sig i.0)
-    (claim_text spec.sig claim) i.2 e.1) in
+    (claim_text spec.sig claim) i.2 with_claim) in
     let start : BeginsReport bounds spec text =
     begun (i.0 ++ claim ∷ []) (first_claims (IsNextClaim bounds spec) spec.goals (number + 1) []
     (i.0 ++ claim ∷ []) more) in
-    at_error (Finishes (g.S.Sink.written c.args.out.now) (g.S.Sink.written c.write_claim.new.out)
+    rw (← c.admitted.view_is)
+    (at_error (Finishes (g.S.Sink.written c.args.out.now) (g.S.Sink.written c.write_claim.new.out)
     (g.S.Sink.faults c.args.out.now) (g.S.Sink.faults c.write_claim.new.out)
     (IsReport bounds spec) (BeginsReport bounds spec)) c.from_residual-in_err-add_proved.result
     OutOfMemory c.from_residual-in_err-add_proved.ensures.1
-    (inr (text, start, whole_prefix _ _ text appended))
+    (inr (text, start, whole_prefix _ _ text appended)))
 
 pub loop-number-preserved : goal.loop-number-preserved
 loop-number-preserved g c =
-    let spec = c.args.spec.now in
+    let spec = c.admitted.inside.spec in
     let bounds = c.args.bounds in
-    let i = c.loop-number.invariant in
+    let i = rw (← c.admitted.view_is) at c.loop-number.invariant in
     let number = c.loop-number.number in
     let claim = c.in_ok-claim.claim in
-    let e = c.in_ok-claim.ensures.claim in
+    let made = c.in_ok-claim.ensures.claim in
+    let is_claim = rw (← c.admitted.view_is) at made.0 in
+    let with_claim = subst (λ a. Appended (g.S.Sink.written c.loop-number.out)
+    (g.S.Sink.written c.write_claim.new.out) (claim_text a.spec.sig claim))
+    (sym c.admitted.view_is) made.1 in
     let at =
     listed spec.goals c.as_slice-goal-items.result.now number c.goal-item.result
     c.as_slice-goal-items.ensures c.loop-number-test.true c.goal-item.is in
     let next : IsNextClaim bounds spec i.0 c.goal-item.result claim =
     subst (λ ns. IsClaimOn bounds spec ns c.goal-item.result claim)
-    (c.deref.ensures.value ∙ i.5) e.0 in
+    (c.deref.ensures.value ∙ i.5) is_claim in
     let lt : number < length spec.goals =
     subst (λ gs. number < length gs) c.as_slice-goal-items.ensures c.loop-number-test.true in
     let count : length i.0 ≡ number =
@@ -173,7 +184,8 @@ loop-number-preserved g c =
     (i.0 ++ claim ∷ []) =
     let n : number ≡ 0 + length i.0 = omega (arith, count) in
     ap (λ k. proved_goals i.0 ++ number_proved k claim.outcome) n
-    ∙ sym (proved-append 0 i.0 claim) in (
+    ∙ sym (proved-append 0 i.0 claim) in
+    rw (← c.admitted.view_is) (
       i.0 ++ claim ∷ [],
       claims_more (IsNextClaim bounds spec) spec.goals number c.goal-item.result [] i.0 claim at
           next i.1,
@@ -181,7 +193,7 @@ loop-number-preserved g c =
           (g.S.Sink.written c.write_claim.new.out) t)
           (sym (begun_text-more bounds.search.steps spec.sig i.0 claim))
           (Appended-append _ _ _ (begun_text bounds.search.steps spec.sig i.0)
-          (claim_text spec.sig claim) i.2 e.1),
+          (claim_text spec.sig claim) i.2 with_claim),
       subst (λ s. IsStatusOfClaims (i.0 ++ claim ∷ []) s) (sym c.with_claim-status.ensures)
           (status_more i.0 claim c.loop-number.status i.3),
       omega (arith, i.4, c.in_ok-claim.ensures.writes),
@@ -190,9 +202,9 @@ loop-number-preserved g c =
 
 pub returns-in_err-write_all-clause-finishes : goal.returns-in_err-write_all-clause-finishes
 returns-in_err-write_all-clause-finishes g c =
-    let spec = c.args.spec.now in
+    let spec = c.admitted.inside.spec in
     let bounds = c.args.bounds in
-    let i = c.loop-number.invariant in
+    let i = rw (← c.admitted.view_is) at c.loop-number.invariant in
     let e = c.in_err-write_all.ensures in
     let end : length spec.goals ≤ c.loop-number.number =
     subst (λ gs. length gs ≤ c.loop-number.number) c.as_slice-goal-items.ensures
@@ -203,7 +215,8 @@ returns-in_err-write_all-clause-finishes g c =
     let start : BeginsReport bounds spec (begun_text bounds.search.steps spec.sig i.0) =
     begun i.0 (first_claims (IsNextClaim bounds spec) spec.goals c.loop-number.number [] i.0
     i.1) in
-    at_error (Finishes (g.S.Sink.written c.args.out.now) (g.S.Sink.written c.write_all.new.out)
+    rw (← c.admitted.view_is)
+    (at_error (Finishes (g.S.Sink.written c.args.out.now) (g.S.Sink.written c.write_all.new.out)
     (g.S.Sink.faults c.args.out.now) (g.S.Sink.faults c.write_all.new.out)
     (IsReport bounds spec) (BeginsReport bounds spec)) c.from_residual-in_err-write_all.result
     (stop_of c.in_err-write_all.field-0.0) c.from_residual-in_err-write_all.ensures.1
@@ -213,13 +226,13 @@ returns-in_err-write_all-clause-finishes g c =
     (sym (ap (λ u. begun_text bounds.search.steps spec.sig i.0 ++ u) x ∙ begun_text-whole
     bounds.search.steps spec.sig i.0)) (whole i.0 all))
     (piece_stopped (λ t. t ≡ codes "done\n") _ _ _ _ (codes "done\n")
-    c.in_err-write_all.field-0.0 refl e.prefix e.failed))
+    c.in_err-write_all.field-0.0 refl e.prefix e.failed)))
 
 pub returns-clause-finishes : goal.returns-clause-finishes
 returns-clause-finishes g c =
-    let spec = c.args.spec.now in
+    let spec = c.admitted.inside.spec in
     let bounds = c.args.bounds in
-    let i = c.loop-number.invariant in
+    let i = rw (← c.admitted.view_is) at c.loop-number.invariant in
     let end : length spec.goals ≤ c.loop-number.number =
     subst (λ gs. length gs ≤ c.loop-number.number) c.as_slice-goal-items.ensures
     c.loop-number-test.false in
@@ -228,9 +241,10 @@ returns-clause-finishes g c =
     (take_all c.loop-number.number spec.goals end) i.1 in
     let report = report_of bounds.search.steps i.0 in
     let text = begun_text-whole bounds.search.steps spec.sig i.0 in
+    let reported = rw (← c.admitted.view_is) at c.requires.reported in
     let accepted =
-    report_accepted c.proves_behind_claims.ensures bounds spec c.requires.reported.fine i.0
-    all in (
+    report_accepted c.proves_behind_claims.ensures bounds spec reported.fine i.0 all in
+    rw (← c.admitted.view_is) (
       begun_text bounds.search.steps spec.sig i.0 ++ codes "done\n",
       record {
         claims = i.0;
@@ -239,15 +253,15 @@ returns-clause-finishes g c =
         stands =
             subst (λ t. IsReportText spec.sig t report) (sym text)
             (report_stands c.plain_blocks_stand.ensures c.routine_blocks_stand.ensures bounds spec
-            c.requires.reported c.requires.within i.0 all);
+            reported c.requires.within i.0 all);
         short =
-            subst (λ t. length t ≤ MAX_REPORT_BYTES) (sym text)
+            subst (λ t. length t ≤ most_report_bytes) (sym text)
             (report_short c.plain_blocks_stand.ensures c.routine_blocks_stand.ensures bounds spec
-            c.requires.reported c.requires.within i.0 all);
+            reported c.requires.within i.0 all);
         accepted = accepted;
         true =
-            c.accepted_are_true.ensures spec report c.requires.reported.fine
-            c.requires.reported.admitted accepted;
+            c.accepted_are_true.ensures spec report reported.fine
+            reported.admitted accepted;
         answers = i.3;
         exact = status_of_goals bounds spec i.0 c.loop-number.status all i.3;
       },

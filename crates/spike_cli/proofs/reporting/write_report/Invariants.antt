@@ -9,8 +9,8 @@ use Rattle.spike_cli.proofs.reporting.write_report.Given as goal
 -- the claims so far are on the goals so far, and their report was begun
 abbrev pub invariant-loop-number : goal.invariant-loop-number
 invariant-loop-number g l =
-    (claims : List Claim) × AreClaims (IsNextClaim l.fn.bounds l.spec) []
-    (take l.number l.spec.goals) claims × Appended (g.S.Sink.written l.fn.out)
-    (g.S.Sink.written l.out) (begun_text l.fn.bounds.search.steps l.spec.sig claims)
+    (claims : List Claim) × AreClaims (IsNextClaim l.fn.bounds l.admitted.spec) []
+    (take l.number l.admitted.spec.goals) claims × Appended (g.S.Sink.written l.fn.out)
+    (g.S.Sink.written l.out) (begun_text l.fn.bounds.search.steps l.admitted.spec.sig claims)
     × IsStatusOfClaims claims l.status × (g.S.Sink.faults l.fn.out ≤ g.S.Sink.faults l.out)
     × (l.proved.items ≡ proved_goals claims)

@@ -1,4 +1,4 @@
-use Rattle.std.proofs.Common.{List, ℕ, subst, map, Option, Some}
+use Rattle.std.proofs.Common.{List, ℕ, refl, subst, map, Option, Some}
 use Rattle.std.specs.Prelude.{Err, string_bytes}
 use Rattle.command_line.specs.Commands.{IsAsked}
 use Rattle.command_line.specs.Tasks.{AsksToLoad, AskNothing}
@@ -6,6 +6,7 @@ use Rattle.command_line.specs.declared.commands.Request.{Request}
 use Rattle.spike_cli.specs.declared.statuses.Status.TheVariants.{Usage}
 use Rattle.spike_cli.specs.Runs.{usage, usage_line}
 use Rattle.spike_cli.proofs.Endings.{line_means, load_means}
+use Rattle.spike_cli.proofs.Readings.{asks_no_file}
 use Rattle.spike_cli.proofs.running.run.Goals as goal
 
 pub returns-in-Ok-None-clause-means : goal.returns-in-Ok-None-clause-means
@@ -30,3 +31,23 @@ returns-in-Err-load-clause-means g c =
     subst (λ (r : Request). IsAsked words (Some r)) c.in-Ok-Some-Load.field-0-0-is request in
     load_means words held _ _ _ _ _ _ c.in-Ok-Some-Load.goals asks (Err c.in-Err-load.stop)
     c.in-Err-load.ensures.finishes c.status.result c.status.ensures
+
+pub returns-in-Ok-clause-asked : goal.returns-in-Ok-clause-asked
+returns-in-Ok-clause-asked g c =
+    asks_no_file (map string_bytes c.args.words.now) (g.F.Files.held c.args.files.now)
+    (g.F.Files.asked c.args.files.now) (g.F.Files.asked c.args.files.now) refl
+
+pub returns-in-Err-load-clause-asked : goal.returns-in-Err-load-clause-asked
+returns-in-Err-load-clause-asked g c =
+    asks_no_file (map string_bytes c.args.words.now) (g.F.Files.held c.args.files.now)
+    (g.F.Files.asked c.args.files.now) (g.F.Files.asked c.args.files.now) refl
+
+pub returns-in-Ok-None-clause-asked : goal.returns-in-Ok-None-clause-asked
+returns-in-Ok-None-clause-asked g c =
+    asks_no_file (map string_bytes c.args.words.now) (g.F.Files.held c.args.files.now)
+    (g.F.Files.asked c.args.files.now) (g.F.Files.asked c.args.files.now) refl
+
+pub returns-in-Err-clause-asked : goal.returns-in-Err-clause-asked
+returns-in-Err-clause-asked g c =
+    asks_no_file (map string_bytes c.args.words.now) (g.F.Files.held c.args.files.now)
+    (g.F.Files.asked c.args.files.now) (g.F.Files.asked c.args.files.now) refl

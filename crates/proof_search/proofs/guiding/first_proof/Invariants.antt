@@ -1,5 +1,5 @@
 use Rattle.proof_search.proofs.FirstProofs.{AreLeft}
-use Rattle.proof_search.proofs.guiding.guided.Given as goal
+use Rattle.proof_search.proofs.guiding.first_proof.Given as goal
 
 abbrev pub invariant-loop-number : goal.invariant-loop-number
 invariant-loop-number g l =
