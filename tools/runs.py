@@ -7,7 +7,7 @@ import tempfile
 from pathlib import Path
 
 TOP = Path(__file__).resolve().parent.parent
-PROGRAM = TOP / "crates" / "spike_cli" / "out" / "spike_cli"
+PROGRAM = TOP / "crates" / "spike" / "out" / "spike"
 SECONDS = 60
 
 
