@@ -3,12 +3,10 @@ ghost use Rattle.acceptance.specs.Laws.{BlocksAreWhole, OneVerdict};
 
 use path_order::{Lpo, TermOrder};
 
-/// A report is accepted or has one first refusal, and never both.
-pub fn one_verdict<O: TermOrder>(order: &O)
-    ensures { OneVerdict (O.above order.now) }
-{
-    clause_core::one_relation(order);
-}
+/// By each order, a report is accepted or has one first refusal, and never both.
+pub fn one_verdict<O: TermOrder>()
+    ensures { (o : O) → OneVerdict (O.above o) }
+{}
 
 /// What the steps of a block make meets what [`allowed`](crate::allowed) requires, where each node
 /// has its step.
@@ -20,7 +18,8 @@ pub fn blocks_are_whole<O: TermOrder>(order: &O)
 pub fn worked_examples()
     ensures { WorkedExamples }
 {
-    clause_core::one_relation(&Lpo::by_number());
+    let order = Lpo::by_number();
+    clause_core::one_relation(&order);
     clause_core::worked_examples();
     spec_core::worked_examples();
     spec_core::one_value();

@@ -6,7 +6,7 @@ use Rattle.spec_core.specs.declared.records.Guard.{Guard}
 use Rattle.spec_core.specs.declared.records.Rule.{Rule}
 use Rattle.spec_core.specs.declared.records.Spec.{Spec}
 use Rattle.spec_core.specs.RuleSizes.{RuleIsWithin, RulesAreWithin}
-use Rattle.path_order.specs.Above.{Above}
+use Rattle.clause_core.specs.Orders.{above_of}
 use Rattle.coverage_check.proofs.Namings.{named_missing}
 use Rattle.spec_admit.specs.FirstFault.{Tells as IsFirstFault}
 use Rattle.spec_admit.specs.declared.faults.AdmitFault.{AdmitFault}
@@ -42,7 +42,9 @@ module _ (n m : ℕ) (more : n ≤ m) where
   spec_within spec all = rules_within spec.rules all
 
 -- the values that a first fault names can be printed
-pub fault_printable : (spec : Spec) (fault : AdmitFault) → IsFirstFault Above spec fault → IsPrintableFault spec.sig fault
+pub fault_printable :
+    (spec : Spec) (fault : AdmitFault) → IsFirstFault (above_of spec) spec fault →
+    IsPrintableFault spec.sig fault
 fault_printable spec (Linear rule name) f = tt
 fault_printable spec (Order rule part) f = tt
 fault_printable spec (Overlap first second values) f = let m = f.2.5.match_both in values_in_range spec.sig values m.info.args m.sorted
@@ -58,21 +60,31 @@ text_told bytes (Line line) t = no_specification t
 text_told bytes OutOfMemory t = tt
 
 -- a refusal of one that stands for a specification with this first fault
-pub admit_told : (bytes : List ℕ) (spec : Spec) (fault : AdmitFault) → TextStandsFor bytes spec → IsFirstFault Above spec fault → (r : Refusal) → Tells (IsAdmitLine spec.sig fault) r → Tells (IsRefusalOf bytes) r
+pub admit_told :
+    (bytes : List ℕ) (spec : Spec) (fault : AdmitFault) → TextStandsFor bytes spec →
+    IsFirstFault (above_of spec) spec fault → (r : Refusal) → Tells (IsAdmitLine spec.sig fault) r →
+    Tells (IsRefusalOf bytes) r
 admit_told bytes spec fault stands first (Line line) t = not_admitted spec fault stands first t
 admit_told bytes spec fault stands first OutOfMemory t = tt
 
 -- the specification that admission answers, and the one that it hands back
 module _ (bytes : List ℕ) (raw : RawSpec) (spec : Spec) (derived : TextDerives IsSpecText bytes raw) (stands : StandsFor raw spec) where
-  pub accepted_as : (made : Spec) → made ≡ spec → IsAdmitted Above spec → IsAcceptedAs bytes raw made
+  pub accepted_as : (made : Spec) → made ≡ spec → IsAdmitted (above_of spec) spec → IsAcceptedAs bytes raw made
   accepted_as made same admitted = record {
     derived = derived;
     stands = subst (λ (s : Spec). StandsFor raw s) (sym same) stands;
-    admitted = subst (λ (s : Spec). IsAdmitted Above s) (sym same) admitted;
+    admitted = subst (λ (s : Spec). IsAdmitted (above_of s) s) (sym same) admitted;
   }
 
-  pub refused_as : (back : Spec) (fault : AdmitFault) → back ≡ spec → IsFirstFault Above spec fault → (r : Refusal) → Tells (IsAdmitLine back.sig fault) r → Tells (IsRefusalOf bytes) r
-  refused_as back fault same first r t = admit_told bytes spec fault (raw, derived, stands) first r (subst (λ (s : Spec). Tells (IsAdmitLine s.sig fault) r) same t)
+  pub refused_as :
+      (back : Spec) (fault : AdmitFault) → back ≡ spec → IsFirstFault (above_of spec) spec fault →
+      (r : Refusal) → Tells (IsAdmitLine back.sig fault) r → Tells (IsRefusalOf bytes) r
+  refused_as back fault same first r t =
+      admit_told bytes spec fault (raw, derived, stands) first r
+      (subst (λ (s : Spec). Tells (IsAdmitLine s.sig fault) r) same t)
 
-pub back_printable : (spec back : Spec) (fault : AdmitFault) → back ≡ spec → IsFirstFault Above spec fault → IsPrintableFault back.sig fault
-back_printable spec back fault same first = subst (λ (s : Spec). IsPrintableFault s.sig fault) (sym same) (fault_printable spec fault first)
+pub back_printable :
+    (spec back : Spec) (fault : AdmitFault) → back ≡ spec →
+    IsFirstFault (above_of spec) spec fault → IsPrintableFault back.sig fault
+back_printable spec back fault same first =
+    subst (λ (s : Spec). IsPrintableFault s.sig fault) (sym same) (fault_printable spec fault first)

@@ -8,7 +8,7 @@ use Rattle.spec_syntax.specs.declared.fault.SyntaxFault.TheVariants as syntax
 use Rattle.spec_syntax.specs.Faults.{HasFault}
 use Rattle.spec_core.specs.declared.records.Spec.{Spec}
 use Rattle.spec_core.specs.Sig.{Sig}
-use Rattle.path_order.specs.Above.{Above}
+use Rattle.clause_core.specs.Orders.{above_of}
 use Rattle.spec_admit.specs.FirstFault.{Tells as IsFirstFault}
 use Rattle.spec_admit.specs.declared.faults.AdmitFault.{AdmitFault}
 use Rattle.spec_grammar.specs.Derives.{TextDerives}
@@ -65,12 +65,13 @@ module _ (subject : Subject) where
 abbrev pub IsTextRefusal : List ℕ → List ℕ → Type 0
 IsTextRefusal bytes line = IsRefusalLine File IsSpecText HasFirstFault bytes line
 
--- the line for a file's text: it stands for no specification, or for one that the path ordering
+-- the line for a file's text: it stands for no specification, or for one that its own order
 -- doesn't admit, which has this first fault
 pub data IsRefusalOf (bytes : List ℕ) : List ℕ → Type 0 where
   no_specification : {line : List ℕ} → IsTextRefusal bytes line → IsRefusalOf bytes line
   not_admitted : {line : List ℕ} (spec : Spec) (fault : AdmitFault)
-      → TextStandsFor bytes spec → IsFirstFault Above spec fault → IsAdmitLine spec.sig fault line
+      → TextStandsFor bytes spec → IsFirstFault (above_of spec) spec fault
+      → IsAdmitLine spec.sig fault line
       → IsRefusalOf bytes line
 
 -- the line for a term's text that stands for no term over the signature

@@ -2,8 +2,8 @@ ghost use Rattle.std.specs.Prelude.{◌≡◌, ◌≤◌, IfOk, IfErr, [], lengt
 ghost use Rattle.term_core.specs.declared.ids.SortId.{SortId};
 ghost use Rattle.spec_core.specs.Sorts.{Sorted};
 ghost use Rattle.spec_core.specs.WellSorted.{IsWellSorted};
-ghost use Rattle.path_order.specs.Above.{Above};
 ghost use Rattle.clause_core.specs.Admitted.{IsAdmitted};
+ghost use Rattle.clause_core.specs.Orders.{above_by, order_of as own_order};
 ghost use Rattle.accepted_spec.specs.Meanings.{IsAcceptedAs, TermTextStandsFor};
 ghost use Rattle.accepted_spec.specs.Refusals.{IsRefusalOf, IsTermRefusal};
 ghost use Rattle.accepted_spec.specs.Tellings.{Tells};
@@ -13,12 +13,12 @@ use crate::refusals::{Refusal, Subject, sort_refusal, syntax_refusal};
 use path_order::Lpo;
 use sort_check::{elaborate, elaborate_term, numbering_keeps_sizes};
 use spec_admit::{Admitted, admit};
-use spec_core::{Signature, Spec};
+use spec_core::{OrderInfo, Signature, Spec};
 use spec_syntax::{RawSpec, read, read_term};
 use std::alloc::Global;
-use term_core::Term;
+use term_core::{OutOfMemory, Term};
 
-/// A specification that the path ordering admits, and how its text has it.
+/// A specification that its own order admits, and how its text has it.
 #[derive(Drop)]
 pub struct Accepted {
     pub raw: RawSpec,
@@ -30,7 +30,7 @@ impl Accepted {
     pub fn spec(&self) -> &Spec
         ensures is { result.now ≡ self.now.admitted.spec }
         ensures sorted { IsWellSorted result.now }
-        ensures admitted { IsAdmitted Above result.now }
+        ensures admitted { IsAdmitted (above_by self.now.admitted.order) result.now }
     {
         &self.admitted.spec
     }
@@ -40,6 +40,7 @@ impl Accepted {
 pub fn specification(alloc: Global, bytes: &[u8]) -> Result<Accepted, Refusal>
     requires { length bytes.now ≤ 1048576 }
     ensures accepted { IfOk result (λ a. IsAcceptedAs bytes.now a.raw a.admitted.spec) }
+    ensures ordered { IfOk result (λ a. a.admitted.order ≡ own_order a.admitted.spec) }
     ensures refused { IfErr result (Tells (IsRefusalOf bytes.now)) }
 {
     let raw = match read(alloc, bytes) {
@@ -51,9 +52,21 @@ pub fn specification(alloc: Global, bytes: &[u8]) -> Result<Accepted, Refusal>
         Err(fault) => return Err(sort_refusal(alloc, Subject::File, fault)),
     };
     numbering_keeps_sizes();
-    match admit(alloc, spec, Lpo::by_number()) {
+    let order = order_of(alloc, &spec)?;
+    match admit(alloc, spec, order) {
         Ok(admitted) => Ok(Accepted { raw, admitted }),
         Err(error) => Err(admit_refusal(alloc, &error.spec.sig, &error.fault)),
+    }
+}
+
+/// The order of the specification: the path ordering with its levels and statuses.
+fn order_of(alloc: Global, spec: &Spec) -> Result<Lpo, OutOfMemory>
+    requires { IsWellSorted spec.now }
+    ensures { IfOk result (λ order. order ≡ own_order spec.now) }
+{
+    let order = spec.order.copy(alloc)?;
+    match order {
+        OrderInfo::Path { levels, statuses } => Ok(Lpo::with(levels, statuses)),
     }
 }
 

@@ -1,4 +1,5 @@
 pub mod RuleUses
+pub mod OwnOrders
 mod Naturals
 mod SmallClauses
 pub mod Multisets
@@ -13,7 +14,7 @@ mod Taken
 pub mod TidiedSorts
 pub mod TidiedFails
 pub mod TidiedLimits
-mod OneRelation
+pub mod OneRelation
 -- A place is a path, and stands for one term.
 pub mod OnePlace
 pub mod PathsOfPlaces

@@ -1,12 +1,15 @@
 -- Each step of a node says one thing.
 use Rattle.std.proofs.Common.{ℕ, List}
+use Rattle.std.specs.Prelude.{Contains}
+use Rattle.term_core.specs.Tree.{Tree}
 use Rattle.spec_core.specs.declared.records.Spec.{Spec}
 use Rattle.spec_core.specs.WellSorted.{IsWellSorted}
 use Rattle.clause_core.specs.declared.clauses.Clause.{Clause}
 use Rattle.clause_core.specs.declared.steps.Step.{Step}
 use Rattle.clause_core.specs.declared.steps.Step.TheVariants.{Trivial, Match, Absurd, Subsume, ByLemma, Rule as RuleStep, Case, Decompose, Clash as ClashStep, Drop, Solve, Cover, Generalize, Context as ContextStep, Hyp, Lemma}
 use Rattle.clause_core.specs.Steps.{row_of}
-use Rattle.clause_core.proofs.OneAnswer.{Agree}
+use Rattle.clause_core.specs.StepLaws.{OneAnswer}
+use Rattle.clause_core.proofs.OneAnswer.{Agree, says_one}
 use Rattle.clause_core.proofs.OneClosing.{trivial_one, match_one, absurd_one}
 use Rattle.clause_core.proofs.OneSubsuming.{subsume_one, by_lemma_one}
 use Rattle.clause_core.proofs.OneRewriting.{rule_one, case_one}
@@ -15,6 +18,7 @@ use Rattle.clause_core.proofs.OneSolving.{solve_one}
 use Rattle.clause_core.proofs.OneSplitting.{cover_one}
 use Rattle.clause_core.proofs.OneGeneralizing.{generalize_one}
 use Rattle.clause_core.proofs.OneReplacing.{context_one, hyp_one, lemma_one}
+use Rattle.clause_core.proofs.OneRelation.{one_relation}
 
 module _ (spec : Spec) (fine : IsWellSorted spec) (c : Clause) where
   -- each step says one thing
@@ -35,3 +39,9 @@ module _ (spec : Spec) (fine : IsWellSorted spec) (c : Clause) where
   step_one usable nodes (ContextStep place n left) = context_one spec fine c place n left
   step_one usable nodes (Hyp j ts place left) = hyp_one spec fine c nodes j ts place left
   step_one usable nodes (Lemma name ts place left) = lemma_one spec fine c usable name ts place left
+
+-- so a step at a node has at most one answer, by any order
+pub one_answer : (above : Tree → Tree → Type 0) → OneAnswer above
+one_answer above spec numbers nodes c step a b fine p q =
+    says_one above (one_relation above) c nodes _ _ (step_one spec fine c (Contains numbers) nodes step)
+    a b p q

@@ -7,6 +7,7 @@ use Rattle.term_core.specs.Contexts.{hole, under}
 use Rattle.term_core.proofs.Members.{In, in_contained}
 use Rattle.spec_core.specs.declared.records.Equation.{Equation}
 use Rattle.spec_core.specs.Naturals.{zero_term, succ_term, plus_term}
+use Rattle.term_core.specs.Precedence.{by_number}
 use Rattle.path_order.specs.Above.{Above, by_argument, by_arguments, this_is, here, all_none}
 use Rattle.clause_core.specs.Multisets.{Exceeds}
 use Rattle.clause_core.specs.Limits.{IsWithin}
@@ -19,7 +20,8 @@ use Rattle.clause_core.proofs.SmallPlaces.{first}
 use Rattle.clause_core.proofs.ClosingSteps.{unit_usable, no_premise, where_zero_within}
 
 -- one greater term in the place of one
-exceeds_one : (common : List Tree) (xs ys : List Tree) (a b : Tree) → IsPermutation xs (common ++ (a ∷ [])) → IsPermutation ys (common ++ (b ∷ [])) → a ≢ b → Above a b → Exceeds Above xs ys
+exceeds_one : (common : List Tree) (xs ys : List Tree) (a b : Tree) → IsPermutation xs (common ++ (a ∷ [])) →
+    IsPermutation ys (common ++ (b ∷ [])) → a ≢ b → Above by_number a b → Exceeds (Above by_number) xs ys
 exceeds_one common xs ys a b p q d above = record {
   rest = a ∷ [];
   other = b ∷ [];
@@ -33,8 +35,8 @@ exceeds_one common xs ys a b p q d above = record {
     different x (inl e) (inr f) = f
     different x (inr e) f = e
 
-    greater : (y : Tree) → In y (b ∷ []) → Above a y
-    greater y (inl e) = subst (λ z. Above a z) (sym e) above
+    greater : (y : Tree) → In y (b ∷ []) → Above by_number a y
+    greater y (inl e) = subst (λ z. Above by_number a z) (sym e) above
     greater y (inr e) = absurd e
 
 abbrev sum : Tree
@@ -43,11 +45,11 @@ sum = plus_term (var 0) zero_term
 succ_not : succ_term sum ≢ succ_term (var 0)
 succ_not e = let q : app 3 (some (app 4 (some (var 0) (some zero_term none))) none) ≡ app 3 (some (var 0) none) = e in cc
 
-succ_above : Above (succ_term sum) (succ_term (var 0))
-succ_above = by_arguments (here refl (by_argument this_is) all_none)
+succ_above : Above by_number (succ_term sum) (succ_term (var 0))
+succ_above = by_arguments refl (here refl (by_argument this_is) all_none)
 
 -- succ(plus(?0, zero)) and succ(?0) are greater than plus(?0, zero) and ?0
-behind : Exceeds Above (succ_term sum ∷ succ_term (var 0) ∷ []) (sum ∷ var 0 ∷ [])
+behind : Exceeds (Above by_number) (succ_term sum ∷ succ_term (var 0) ∷ []) (sum ∷ var 0 ∷ [])
 behind = record {
   rest = succ_term sum ∷ succ_term (var 0) ∷ [];
   other = sum ∷ var 0 ∷ [];
@@ -65,9 +67,20 @@ behind = record {
     different x (inr (inl e)) (inr (inr f)) = f
     different x (inr (inr e)) f = e
 
-    greater : (y : Tree) → In y (sum ∷ var 0 ∷ []) → (x : Tree) × Contains (succ_term sum ∷ succ_term (var 0) ∷ []) x × Above x y
-    greater y (inl e) = (succ_term sum, (0, omega arith, refl), subst (λ z. Above (succ_term sum) z) (sym e) (by_argument this_is))
-    greater y (inr (inl e)) = (succ_term (var 0), (1, omega arith, refl), subst (λ z. Above (succ_term (var 0)) z) (sym e) (by_argument this_is))
+    greater : (y : Tree) → In y (sum ∷ var 0 ∷ []) → (x : Tree) × Contains (succ_term sum ∷ succ_term (var 0) ∷ [])
+        x × Above by_number x y
+    greater y (inl e) = (
+      succ_term sum,
+      (0, omega arith, refl),
+      subst (λ z. Above by_number (succ_term sum) z) (sym e)
+          (by_argument this_is),
+    )
+    greater y (inr (inl e)) = (
+      succ_term (var 0),
+      (1, omega arith, refl),
+      subst
+          (λ z. Above by_number (succ_term (var 0)) z) (sym e) (by_argument this_is),
+    )
     greater y (inr (inr e)) = absurd e
 
 -- the place is plus(?0, zero) under succ
@@ -78,7 +91,8 @@ inner premises = record { at = first succ_sides []; round = under 3 none hole no
 abbrev others : List Tree
 others = var 0 ∷ succ_term sum ∷ succ_term (var 0) ∷ []
 
-less_sum : Exceeds Above (sum ∷ var 0 ∷ succ_term sum ∷ succ_term (var 0) ∷ []) (var 0 ∷ var 0 ∷ succ_term sum ∷ succ_term (var 0) ∷ [])
+less_sum : Exceeds (Above by_number) (sum ∷ var 0 ∷ succ_term sum ∷ succ_term (var 0) ∷ [])
+    (var 0 ∷ var 0 ∷ succ_term sum ∷ succ_term (var 0) ∷ [])
 less_sum = exceeds_one others _ _ sum (var 0) (IsPermutation-append_comm (sum ∷ []) others) (IsPermutation-append_comm (var 0 ∷ []) others) (λ e. (let q : sum ≡ var 0 = e in cc)) (by_argument this_is)
 
 wrong_side : Rewrites succ_clause unit_clause sum false → ⊥
@@ -89,7 +103,8 @@ wrong_side r =
     cc
 
 -- succ(plus(?0, zero)) = succ(?0) compares with succ(?0) = succ(?0) as Less
-less_sides : Exceeds Above (succ_term sum ∷ succ_term (var 0) ∷ []) (succ_term (var 0) ∷ succ_term (var 0) ∷ [])
+less_sides : Exceeds (Above by_number) (succ_term sum ∷ succ_term (var 0) ∷ [])
+    (succ_term (var 0) ∷ succ_term (var 0) ∷ [])
 less_sides = exceeds_one (succ_term (var 0) ∷ []) _ _ (succ_term sum) (succ_term (var 0)) (record { moves = (0, 1) ∷ []; below = (omega arith, omega arith, tt); is = refl }) (IsPermutation-refl _) succ_not succ_above
 
 unit_within : IsWithin unit_clause

@@ -6,6 +6,7 @@ use Rattle.term_core.specs.declared.ids.SortId.{SortId}
 use Rattle.spec_core.specs.declared.records.Equation.{Equation}
 use Rattle.spec_core.specs.Declarations.{bool_sort}
 use Rattle.spec_core.specs.Naturals.{nat, naturals_sig, zero_term, succ_term, plus_term, same_goal}
+use Rattle.term_core.specs.Precedence.{by_number}
 use Rattle.path_order.specs.Above.{Above}
 use Rattle.clause_core.specs.declared.clauses.Clause.{Clause}
 use Rattle.clause_core.specs.declared.clauses.Relation.TheVariants.{Less, Same, Neither}
@@ -66,9 +67,9 @@ pub record ClauseExamples : Type 0 where
       (equals (plus_term (var 0) (succ_term (var 0))) (var 0))
   -- plus(zero, x) = x and x = plus(zero, x) have the same sides
   pub swapped :
-      Compares Above zero_sum (claims (nat ∷ []) (equals (var 0) (plus_term zero_term (var 0))))
+      Compares (Above by_number) zero_sum (claims (nat ∷ []) (equals (var 0) (plus_term zero_term (var 0))))
       Same
   -- x = x is less: x cancels once, and plus(zero, x) is above x
-  pub rewritten : Compares Above zero_sum same_x Less
+  pub rewritten : Compares (Above by_number) zero_sum same_x Less
   -- the other way round no side is above plus(zero, x)
-  pub greater : Compares Above same_x zero_sum Neither
+  pub greater : Compares (Above by_number) same_x zero_sum Neither

@@ -9,6 +9,7 @@ use Rattle.spec_core.specs.declared.records.Rule.{Rule}
 use Rattle.spec_core.specs.declared.records.Spec.{Spec}
 use Rattle.spec_core.specs.Sig.{Sig}
 use Rattle.spec_core.specs.Declarations.{declared_by, bool_sort}
+use Rattle.spec_core.specs.Orders.{order_by_number}
 use Rattle.spec_core.specs.Naturals.{nat, nat_constructors, variable, zero_term, succ_term}
 
 abbrev pub list : SortId
@@ -108,5 +109,9 @@ insert_rules =
     ∷ []
 
 abbrev pub insertion : Spec
-insertion =
-    record { sig = insertion_sig; rules = le_rules ++ (sorted_rules ++ insert_rules); goals = [] }
+insertion = record {
+  sig = insertion_sig;
+  order = order_by_number insertion_sig;
+  rules = le_rules ++ (sorted_rules ++ insert_rules);
+  goals = [];
+}

@@ -1,5 +1,5 @@
 -- What a row says of a node: what is made, or the reason for which nothing is.
-use Rattle.std.specs.Prelude.{◌≡◌, ◌⊎◌, ℕ, ◌+◌, ◌≤◌, List, [], ◌∷◌, Result, Ok, Err, length}
+use Rattle.std.specs.Prelude.{◌≡◌, ◌⊎◌, ℕ, ◌+◌, ◌≤◌, List, Result, Ok, Err, length}
 use Rattle.std.specs.List.{AllByRecursion, AllZip}
 use Rattle.term_core.specs.Tree.{Tree}
 use Rattle.clause_core.specs.declared.clauses.Clause.{Clause}

@@ -3,8 +3,9 @@
 //!
 //! It stands on term_core, spec_core, substitutions and path_order. A specification is admitted, by
 //! an order on terms, where its definitions are complete, don't overlap and end
-//! (`specs/Admitted.antt`). `specs/Ranks.antt` says by which ranks proofs from it descend: each use
-//! of a rule ranks lower ([`rules_rank_lower`]).
+//! (`specs/Admitted.antt`). The program admits each one by its own order (`specs/Orders.antt`); all
+//! else here holds for any order. `specs/Ranks.antt` says by which ranks proofs descend: each use of
+//! a rule ranks lower ([`rules_rank_lower`]).
 //!
 //! A [`Clause`] in a proof keeps limits (`specs/Limits.antt`), has its variables numbered by first
 //! occurrence (`specs/Tidied.antt`), and compares with another by the multisets of all sides

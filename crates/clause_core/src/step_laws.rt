@@ -7,9 +7,7 @@ use path_order::TermOrder;
 /// A step at a node has at most one answer.
 pub fn one_answer<O: TermOrder>(order: &O)
     ensures { OneAnswer (O.above order.now) }
-{
-    crate::laws::one_relation(order);
-}
+{}
 
 /// A place is one of term_core's: a path in a side of an equation.
 pub fn places_agree()

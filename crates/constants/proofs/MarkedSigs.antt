@@ -7,6 +7,7 @@ use Rattle.term_core.specs.declared.ids.SortId.{SortId}
 use Rattle.term_core.proofs.Items.{all_append}
 use Rattle.spec_core.specs.declared.records.SymInfo.{SymInfo}
 use Rattle.spec_core.specs.declared.records.Spec.{Spec}
+use Rattle.spec_core.specs.Orders.{order_by_number}
 use Rattle.spec_core.specs.Sig.{Sig, IsSort}
 use Rattle.spec_core.specs.Small.{AllHaveSmallValues, sort_of_number}
 use Rattle.spec_core.specs.Declarations.{IsDeclared, declared_by, bool_symbols, all_symbols, IsBelow, IsNotBool, AreDistinct}
@@ -57,7 +58,7 @@ marked_long n (s ∷ ss) = ap suc (marked_long (suc n) ss)
 
 -- the specification of a signature alone
 abbrev pub bare : Sig → Spec
-bare sig = record { sig = sig; rules = []; goals = [] }
+bare sig = record { sig = sig; order = order_by_number sig; rules = []; goals = [] }
 
 -- a specification with such a signature is extended
 pub is_extended : (old new : Spec) (sorts : List SortId) (n : ℕ) → IsDeclared old.sig → new.sig ≡ marked_sig n old.sig sorts → new.rules ≡ map (shifted_rule old.sig.constructors (length sorts)) old.rules → new.goals ≡ [] → IsExtended old new sorts

@@ -14,6 +14,7 @@ use Rattle.spec_core.specs.declared.records.Spec.{Spec}
 use Rattle.spec_core.specs.Sig.{IsSort}
 use Rattle.spec_core.specs.Sorts.{Sorted}
 use Rattle.spec_core.specs.Declarations.{IsDeclared, bool_sort}
+use Rattle.spec_core.specs.Orders.{IsOrderOf}
 use Rattle.spec_core.specs.WellSorted.{IsPattern, ArePatterns, IsLeft, IsShallow, sorts_of, RuleIsSorted, EquationsAreSorted, GoalIsSorted, IsWellSorted}
 use Rattle.constants.specs.Shifted.{shifted, shifted_all, shifted_equation, shifted_guard, shifted_rule, shifted_goal, IsExtended}
 use Rattle.constants.proofs.ShiftedTerms.{shifted-depth, shifted-occurs, shifted-numbered}
@@ -92,12 +93,13 @@ module _ (old new : Spec) (sorts : List SortId) (more : IsExtended old new sorts
   rule_of_old k rule at = mapped_at (shifted_rule c u) old.rules k rule (ap (λ rs. slice_get rs k) (sym more.rules) ∙ at)
 
 module _ (old new : Spec) (sorts : List SortId) (more : IsExtended old new sorts) (fine : IsWellSorted old) where
-  -- the new specification is well sorted where its signature is declared
-  pub well_sorted : IsDeclared new.sig → IsWellSorted new
-  well_sorted declared =
+  -- the new specification is well sorted where its signature is declared and the order is its own
+  pub well_sorted : IsDeclared new.sig → IsOrderOf new.sig new.order → IsWellSorted new
+  well_sorted declared order =
       let few : length new.rules ≡ length old.rules = ap (λ rs. length rs) more.rules ∙ length-map old.rules (shifted_rule old.sig.constructors (length sorts)) in
       let no_goals : length new.goals ≡ 0 = ap (λ gs. length gs) more.goals in
       record {
+        order = order;
         signature = declared;
         arities = few_arguments old new sorts more fine.signature fine.arities;
         rules = λ k rule at.

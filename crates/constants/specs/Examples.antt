@@ -3,11 +3,13 @@ use Rattle.std.specs.Prelude.{◌≡◌, [], ◌∷◌, ◌++◌, codes}
 use Rattle.term_core.specs.Tree.{Tree, var, app, none, some}
 use Rattle.spec_core.specs.declared.records.Rule.{Rule}
 use Rattle.spec_core.specs.declared.records.Spec.{Spec}
+use Rattle.spec_core.specs.Sig.{Sig}
+use Rattle.spec_core.specs.Orders.{order_by_number}
 use Rattle.spec_core.specs.Declarations.{declared_by}
 use Rattle.spec_core.specs.Naturals.{nat, declares, nat_sorts, nat_constructors, nat_function, variable, naturals, zero_term, succ_term, plus_term}
 use Rattle.constants.specs.Shifted.{shifted, closed, IsExtended}
 
--- the constant, and addition behind it
+-- the constant, and addition after it
 abbrev pub unknown_term : Tree
 unknown_term = app 4 none
 
@@ -32,10 +34,15 @@ moved_succ_rule = record {
 }
 
 -- sort Nat = zero | succ(Nat) | u, fun plus(Nat, Nat) : Nat
+abbrev pub with_sig : Sig
+with_sig =
+    declared_by nat_sorts (nat_constructors ++ (codes "u", declares []) ∷ [])
+    (nat_function (codes "plus"))
+
 abbrev pub naturals_with : Spec
 naturals_with = record {
-  sig = declared_by nat_sorts (nat_constructors ++ (codes "u", declares []) ∷ [])
-      (nat_function (codes "plus"));
+  sig = with_sig;
+  order = order_by_number with_sig;
   rules = moved_zero_rule ∷ moved_succ_rule ∷ [];
   goals = [];
 }
@@ -48,7 +55,7 @@ naturals_before = record naturals_with {
 }
 
 pub record WorkedExamples : Type 0 where
-  -- succ keeps its number and plus goes behind the constant
+  -- succ keeps its number and plus goes after the constant
   pub numbers : shifted 4 1 (succ_term (plus_term (var 0) zero_term))
       ≡ succ_term (moved_plus (var 0) zero_term)
   -- plus(succ(zero), x) with the constant for x

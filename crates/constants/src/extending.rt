@@ -6,13 +6,13 @@ ghost use Rattle.constants.specs.Shifted.{IsExtended, IsNoBoolean};
 
 use crate::rules::shift_rules;
 use crate::signature::extended_signature;
-use spec_core::Spec;
+use spec_core::{Spec, order_by_number};
 use std::alloc::Global;
 use term_core::{OutOfMemory, Seq, SortId};
 
-/// The specification with a constant of each of these sorts behind its constructors, and without
-/// its goals. A constructor of `Bool` can't be declared, so none of the sorts is `Bool`. More
-/// symbols than there are numbers are answered as memory that isn't there.
+/// The specification with a constant of each of these sorts after its constructors, ordered by
+/// number, and without its goals. A constructor of `Bool` can't be declared, so none of the sorts is
+/// `Bool`. More symbols than there are numbers are answered as want of memory.
 pub fn with_constants(alloc: Global, spec: &Spec, sorts: &[SortId]) -> Result<Spec, OutOfMemory>
     requires fine { IsWellSorted spec.now }
     requires in_range { AllByRecursion (IsSort spec.now.sig) sorts.now }
@@ -32,8 +32,10 @@ pub fn with_constants(alloc: Global, spec: &Spec, sorts: &[SortId]) -> Result<Sp
         constants,
         spec.rules.as_slice(),
     )?;
+    let order = order_by_number(alloc, &sig)?;
     Ok(Spec {
         sig,
+        order,
         rules,
         goals: Seq::new(alloc),
     })

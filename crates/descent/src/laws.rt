@@ -40,7 +40,8 @@ pub fn steps_descend<O: TermOrder>(order: &O)
 pub fn worked_examples()
     ensures { WorkedExamples }
 {
-    values_rank_lower(&Lpo::by_number());
+    let order = Lpo::by_number();
+    values_rank_lower(&order);
     clause_core::worked_examples();
     spec_core::worked_examples();
 }

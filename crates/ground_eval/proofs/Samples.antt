@@ -16,6 +16,7 @@ use Rattle.term_core.specs.Variables.{Numbered, Occurs}
 use Rattle.spec_core.specs.WellSorted.{RuleIsSorted, GoalIsSorted, GoalNamesAreDistinct, IsWellSorted, HasFewArguments, IsLeft, IsShallow, sorts_of}
 use Rattle.ground_eval.specs.Samples.{nat, takes, variable, plus_rules, le_rules, isz_rules, pick_rules, grade_rules, turn_rules, part_rules, sample_sorts, sample_constructors, sample_functions, sample_sig, leaf_term, one_term, two_term, zero_term, succ_term, rule_of, rule_on, same_goal, less_goal, sample}
 use Rattle.term_core.proofs.Items.{all_at}
+use Rattle.spec_core.proofs.ByNumber.{is_order_by_number}
 use Rattle.spec_core.proofs.SortedNaturals.{all_infos, one_bound, two_bound}
 
 distinct : AreDistinct sample_sorts sample_constructors sample_functions
@@ -164,6 +165,7 @@ names_differ (suc (suc j)) k g h a b e = absurd (let q : None ≡ Some g = a in 
 
 pub well_sorted : IsWellSorted sample
 well_sorted = record {
+  order = is_order_by_number sample_sig;
   signature = declared;
   arities = few_arguments;
   rules = all_at (RuleIsSorted sample_sig) sample.rules rules_sorted;

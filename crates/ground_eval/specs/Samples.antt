@@ -11,12 +11,13 @@ use Rattle.spec_core.specs.declared.records.Goal.{Goal}
 use Rattle.spec_core.specs.declared.records.Spec.{Spec}
 use Rattle.spec_core.specs.Sig.{Sig}
 use Rattle.spec_core.specs.Declarations.{bool_sort, declared_by}
+use Rattle.spec_core.specs.Orders.{order_by_number}
 
--- the sort Nat, which stands behind Bool
+-- the sort Nat, which comes after Bool
 abbrev pub nat : SortId
 nat = record { 0 = 1 }
 
--- a symbol of so many natural arguments
+-- a symbol of this number of natural arguments
 abbrev pub takes : ℕ → SortId → SymInfo
 takes n s = record { args = replicate n nat; result = s }
 
@@ -147,6 +148,7 @@ less_goal = goal_of (codes "less") (equation_of (two_term 5 (var 0) (var 1)) (le
 abbrev pub sample : Spec
 sample = record {
   sig = sample_sig;
+  order = order_by_number sample_sig;
   rules = plus_rules ++ le_rules ++ isz_rules ++ pick_rules ++ grade_rules ++ turn_rules
       ++ part_rules;
   goals = same_goal ∷ less_goal ∷ [];

@@ -1,55 +1,65 @@
-use crate::texts::{EMPTY, FALSE_SUM};
-use io_core::{MemFiles, MemSink};
+use io_core::{MemFiles, MemSink, Sink};
 use spike_cli::{Status, run};
 use std::alloc::Global;
-use std::process::Abort;
+use std::test::Fail;
 use term_core::{Name, OutOfMemory, Seq};
 
-/// A call of the program, the reads and writes that are to fail, counted from 1, and what has to
-/// come of it.
+/// A call of the program: its words, with blanks between them, and the texts of the two files that
+/// they may name, `spec` and `report`.
+#[derive(Clone, Copy)]
+pub struct Call<'a> {
+    pub words: &'a str,
+    pub spec: &'a str,
+    pub report: &'a str,
+}
+
+/// How a call ended, and what it wrote.
 #[derive(Drop)]
-pub struct Case<'a> {
-    pub words: &'a [&'a str],
-    pub failing_reads: &'a [u64],
-    pub failing_writes: &'a [u64],
+pub struct Ended {
     pub status: Status,
-    pub written: &'a str,
+    pub text: String,
 }
 
-impl Case<'_> {
-    /// Makes the call, and compares its status and what it wrote.
-    pub fn check(&self, rt: &impl Abort, alloc: Global) -> Result<(), OutOfMemory> {
-        let words = words_of(alloc, self.words)?;
-        let mut files = files_with(alloc, self.failing_reads)?;
-        let mut out = MemSink::new(alloc, numbers(alloc, self.failing_writes)?);
-        let status = run(alloc, &words, &mut files, &mut out);
-        let written = out.bytes();
-        assert_eq!(rt; status, self.status);
-        assert_eq!(rt; written, self.written.as_bytes());
-        Ok(())
+impl Call<'_> {
+    /// Makes the call, where nothing fails.
+    pub fn ended(&self, alloc: Global) -> Result<Ended, Fail> {
+        let mut out = MemSink::new(alloc, Seq::new(alloc));
+        let status = self.over(alloc, &mut out)?;
+        let text = String::from_str(alloc, str::from_utf8(out.bytes())?)?;
+        Ok(Ended { status, text })
+    }
+
+    /// Makes the call over this sink.
+    pub fn over<S: Sink>(&self, alloc: Global, out: &mut S) -> Result<Status, OutOfMemory> {
+        self.with_read_failing(alloc, 0, out)
+    }
+
+    /// Makes the call over this sink, where the read of this number fails. Reads count from 1.
+    pub fn with_read_failing<S: Sink>(
+        &self,
+        alloc: Global,
+        read: u64,
+        out: &mut S,
+    ) -> Result<Status, OutOfMemory> {
+        let mut words = Vec::new(alloc);
+        for word in self.words.split_whitespace() {
+            words.push(word.to_string(alloc)?)?;
+        }
+        let mut files = self.files(alloc, read)?;
+        Ok(run(alloc, &words, &mut files, out))
+    }
+
+    fn files(&self, alloc: Global, failing_read: u64) -> Result<MemFiles, OutOfMemory> {
+        let mut files = Seq::new(alloc);
+        for (name, text) in [("spec", self.spec), ("report", self.report)] {
+            let bytes = Seq::from_vec(Vec::from_slice(alloc, text.as_bytes())?);
+            files.push((Name::of(alloc, name.as_bytes())?, bytes))?;
+        }
+        Ok(MemFiles::new(files, one_number(alloc, failing_read)?))
     }
 }
 
-/// The words of a call.
-fn words_of(alloc: Global, words: &[&str]) -> Result<Vec<String>, OutOfMemory> {
-    let mut list = Vec::new(alloc);
-    for word in words {
-        list.push(word.to_string(alloc)?)?;
-    }
-    Ok(list)
-}
-
-/// The files that the calls read, of which these reads are to fail.
-fn files_with(alloc: Global, fails: &[u64]) -> Result<MemFiles, OutOfMemory> {
-    let mut files = Seq::new(alloc);
-    for (name, text) in [("empty", EMPTY), ("false_sum", FALSE_SUM)] {
-        let name = Name::from_bytes(Vec::from_slice(alloc, name.as_bytes())?);
-        let bytes = Seq::from_vec(Vec::from_slice(alloc, text.as_bytes())?);
-        files.push((name, bytes))?;
-    }
-    Ok(MemFiles::new(files, numbers(alloc, fails)?))
-}
-
-fn numbers(alloc: Global, numbers: &[u64]) -> Result<Seq<u64>, OutOfMemory> {
-    Ok(Seq::from_vec(Vec::from_slice(alloc, numbers)?))
+/// A list of this number alone.
+pub fn one_number(alloc: Global, number: u64) -> Result<Seq<u64>, OutOfMemory> {
+    Ok(Seq::from_vec(Vec::from_slice(alloc, &[number])?))
 }

@@ -1,13 +1,31 @@
-//! Tests of `run` where reads and writes fail: with which status it ends, and what it wrote before.
+//! Tests of `run` where it is used badly: reads and writes fail, sinks take little at a time, texts
+//! are cut, and each limit is met and passed.
 //!
-//! The contract of `run` says that what is appended at a fault is a prefix of a text that the call
-//! may write. A body that writes its whole report in one piece meets it. These tables show the
-//! pieces: a claim is written as soon as it is found.
+//! It stands on the program's top call and promises nothing itself. The contract of `run` says which
+//! texts and statuses may come; these tables show which ones do come, byte for byte. What they want
+//! is written by hand, or follows from the text of the case: a place is marked in it, and a line is
+//! counted by its newlines.
 #![tactic(auto)]
 
 #[cfg(test)]
 mod calls;
 #[cfg(test)]
-mod pieces;
+mod clause_limits;
+#[cfg(test)]
+mod cuts;
+#[cfg(test)]
+mod faults;
+#[cfg(test)]
+mod memory;
+#[cfg(test)]
+mod patterns;
+#[cfg(test)]
+mod report_limits;
+#[cfg(test)]
+mod sinks;
+#[cfg(test)]
+mod slow_sinks;
+#[cfg(test)]
+mod text_limits;
 #[cfg(test)]
 mod texts;

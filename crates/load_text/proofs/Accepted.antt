@@ -1,5 +1,5 @@
 -- The text of `load` is accepted.
-use Rattle.std.proofs.Common.{◌≡◌, ℕ, ◌<◌, ◌≤◌, ◌^◌, List, Result, Ok, Err, sym, subst, arith}
+use Rattle.std.proofs.Common.{◌≡◌, ℕ, ◌<◌, ◌≤◌, ◌^◌, List, Result, Ok, Err, refl, sym, subst, arith}
 use Rattle.std.specs.Prelude.{IfOk}
 use Rattle.spec_grammar.proofs.KeepsLimits.{keeps_limits}
 use Rattle.spec_printing.specs.Printed.{printed}
@@ -22,6 +22,7 @@ load_stands n few = record {
   numbered = record {
     signature = load_signature n;
     declared = load_declared;
+    order = refl;
     rules = load_rules_stand;
     goals = load_goals_stand 0 n;
     names = goal_names_distinct load_sig (load_raw n).goals (load_spec n).goals

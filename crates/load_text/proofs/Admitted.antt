@@ -12,8 +12,11 @@ use Rattle.spec_core.specs.Groups.{Whole, GroupsAreWhole, group, alone}
 use Rattle.spec_core.specs.Overlap.{NoOverlap}
 use Rattle.spec_core.specs.Naturals.{nat, declares, zero_term, succ_term, plus_zero_rule, plus_succ_rule}
 use Rattle.spec_core.proofs.SortedNaturals.{bool_is_not_nat}
+use Rattle.term_core.specs.Precedence.{by_number}
 use Rattle.path_order.specs.Above.{Above, by_argument, by_head, by_arguments, this_is, this_above, later, all_none, all_some, here}
 use Rattle.clause_core.specs.Admitted.{RuleIsOrdered, RulesAreOrdered, IsAdmitted}
+use Rattle.clause_core.specs.Orders.{above_of}
+use Rattle.clause_core.proofs.OwnOrders.{ordered_by_number}
 use Rattle.load_text.specs.LoadSpec.{le_info, load_sig, le_zero_rule, le_succ_zero_rule, le_succ_rule, load_spec_rules, load_spec}
 
 -- what is so of each of the rules is so of the rule of each number
@@ -84,37 +87,39 @@ linear : (n : ℕ) → LeftSidesAreLinear (load_spec n)
 linear n = each_rule (λ (r : Rule). IsLinear r.left)
     after_zero after_succ after_zero before_zero two_succ
 
--- Each left side is above its right side.
+-- Each left side is above its right side, by number and so by the specification's own order.
 
-zero_falls : RuleIsOrdered Above plus_zero_rule
+zero_falls : RuleIsOrdered (Above by_number) plus_zero_rule
 zero_falls = record { right = by_argument (later this_is); guards = tt }
 
-succ_falls : RuleIsOrdered Above plus_succ_rule
+succ_falls : RuleIsOrdered (Above by_number) plus_succ_rule
 succ_falls = record {
   right = by_head (omega arith)
       (all_some
-      (by_arguments (here refl (by_argument this_is)
+      (by_arguments refl (here refl (by_argument this_is)
       (all_some (by_argument (later this_is)) all_none))) all_none);
   guards = tt;
 }
 
-le_zero_falls : RuleIsOrdered Above le_zero_rule
+le_zero_falls : RuleIsOrdered (Above by_number) le_zero_rule
 le_zero_falls = record { right = by_head (omega arith) all_none; guards = tt }
 
-le_succ_zero_falls : RuleIsOrdered Above le_succ_zero_rule
+le_succ_zero_falls : RuleIsOrdered (Above by_number) le_succ_zero_rule
 le_succ_zero_falls = record { right = by_head (omega arith) all_none; guards = tt }
 
-le_succ_falls : RuleIsOrdered Above le_succ_rule
+le_succ_falls : RuleIsOrdered (Above by_number) le_succ_rule
 le_succ_falls =
     record {
-      right = by_arguments (here refl (by_argument this_is)
+      right = by_arguments refl (here refl (by_argument this_is)
           (all_some (by_argument (later (this_above (by_argument this_is)))) all_none));
       guards = tt;
     }
 
-ordered : (n : ℕ) → RulesAreOrdered Above (load_spec n)
-ordered n = each_rule (RuleIsOrdered Above)
-    zero_falls succ_falls le_zero_falls le_succ_zero_falls le_succ_falls
+ordered : (n : ℕ) → RulesAreOrdered (above_of (load_spec n)) (load_spec n)
+ordered n =
+    ordered_by_number (load_spec n) refl
+    (each_rule (RuleIsOrdered (Above by_number))
+    zero_falls succ_falls le_zero_falls le_succ_zero_falls le_succ_falls)
 
 whole : (n : ℕ) → GroupsAreWhole (load_spec n)
 whole n = each_rule (λ (r : Rule). Whole (group r.left 0 load_spec_rules))
@@ -270,7 +275,7 @@ module _ (n : ℕ) where
   covering (suc (suc (suc (suc (suc (suc f)))))) i vs at free s b =
       absurd (let e : None ≡ Some i = at in cc)
 
-pub load_admitted : (n : ℕ) → IsAdmitted Above (load_spec n)
+pub load_admitted : (n : ℕ) → IsAdmitted (above_of (load_spec n)) (load_spec n)
 load_admitted n = record {
   linear = linear n;
   ordered = ordered n;

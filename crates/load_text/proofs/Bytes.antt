@@ -2,7 +2,7 @@
 use Rattle.std.proofs.Common.{◌≡◌, ◌≢◌, ℕ, zero, suc, ◌+◌, ◌-◌, ◌%◌, List, [], ◌++◌, refl, ap, sym, ◌∙◌, append_assoc, append-nil, arith}
 use Rattle.std.specs.Prelude.{Bool, codes, map, if◌then◌else◌}
 use Rattle.std.proofs.lemmas.Bool.{ne_eqb}
-use Rattle.std.specs.Fmt.{decimal}
+use Rattle.std.specs.Fmt.{decimal, digits}
 use Rattle.std.specs.List.{flat_map, range_with_len}
 use Rattle.spec_grammar.specs.declared.raw.RawGoal.{RawGoal}
 use Rattle.spec_grammar.specs.RawTree.{RawTree}
@@ -226,6 +226,7 @@ more_lines f g a (suc n) =
 
 pub one_more : (n : ℕ) (old new : List ℕ) → old ≡ printed (load_raw n) →
     new ≡ old ++ goal_line (load_goal n) → new ≡ printed (load_raw (n + 1))
+unfolding digits
 one_more n old new p q =
     let e : n + 1 ≡ suc n = omega arith in
     let below : 0 + n ≡ n = omega arith in

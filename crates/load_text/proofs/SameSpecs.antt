@@ -32,6 +32,7 @@ module _ (raw other : RawSpec) (same : IsSameButPlaces raw other) where
   numbered spec n = record {
     signature = signature_stands raw other spec.sig same n.signature;
     declared = n.declared;
+    order = n.order;
     rules = rules_stand spec.sig raw.rules other.rules spec.rules same.rules n.rules;
     goals = goals_stand spec.sig raw.goals other.goals spec.goals same.goals n.goals;
     names = n.names;

@@ -1,6 +1,6 @@
 -- The tokens of the generated text: each name is one, and no limit is passed. So the text derives
 -- the declarations, with the places that the text gives.
-use Rattle.std.proofs.Common.{◌≡◌, ℕ, zero, suc, ◌+◌, ◌%◌, ◌<◌, ◌≤◌, ◌⊎◌, inl, inr, List, [], ◌∷◌, Bool, true, false, ◌&&◌, Option, Some, None, drop, refl, ap, sym, subst, ◌∙◌, arith, lit<}
+use Rattle.std.proofs.Common.{◌≡◌, ℕ, zero, suc, ◌+◌, ◌%◌, ◌^◌, ◌<◌, ◌≤◌, ◌⊎◌, inl, inr, List, [], ◌∷◌, Bool, true, false, ◌&&◌, Option, Some, None, drop, refl, ap, sym, subst, ◌∙◌, arith, lit<}
 use Rattle.std.specs.Prelude.{◌==◌, ◌||◌, IsTrue, codes, nat_lt, is_none, map, if◌then◌else◌}
 use Rattle.std.specs.Char.{is_ascii_alphabetic, is_ascii_alphanumeric}
 use Rattle.std.specs.Fmt.{digits}
@@ -18,16 +18,16 @@ use Rattle.spec_text.specs.Written.{Written, written, placed}
 use Rattle.spec_text.specs.declared.tokens.Token.{Token}
 use Rattle.spec_text.proofs.SpanLemmas.{and_parts}
 use Rattle.spec_text.proofs.WrittenLemmas.{written_tokens}
-use Rattle.spec_grammar.specs.declared.keys.Key.TheVariants.{Spike, One, Sort, Goal, Colon, Equals, Arrow}
+use Rattle.spec_grammar.specs.declared.keys.Key.TheVariants.{Spike, Sort, Goal, Colon, Equals, Arrow}
 use Rattle.spec_grammar.specs.declared.limits.LimitKind.{LimitKind}
 use Rattle.spec_grammar.specs.declared.limits.LimitKind.TheVariants as limit
 use Rattle.spec_grammar.specs.declared.raw.RawEq.{RawEq}
 use Rattle.spec_grammar.specs.declared.raw.RawGoal.{RawGoal}
 use Rattle.spec_grammar.specs.declared.raw.RawSpec.{RawSpec}
 use Rattle.spec_grammar.specs.RawTree.{RawTree, RawTrees, word, none, some}
-use Rattle.spec_grammar.specs.Items.{Item, Word, Sign, reserved, items_of}
+use Rattle.spec_grammar.specs.Items.{Item, Word, Sign, Number, reserved, items_of}
 use Rattle.spec_grammar.specs.Limits.{over, name_mark, sort_mark, constructor_mark, term_mark, goal_mark}
-use Rattle.spec_grammar.specs.Grammar.{Marked, sign, name_text, term_text, args_text, more_text, binds_text, con_text, constructors_text, funs_text, rules_text, IsSpecText}
+use Rattle.spec_grammar.specs.Grammar.{Marked, sign, number, name_text, term_text, args_text, more_text, binds_text, con_text, constructors_text, definitions_text, IsSpecText}
 use Rattle.spec_grammar.specs.Derives.{TextDerives, clean}
 use Rattle.spec_printing.specs.Printed.{printed}
 use Rattle.spec_printing.specs.SamePlaces.{IsSameButPlaces}
@@ -104,10 +104,12 @@ plain_good name at h =
 abbrev is_fine : Item → Bool
 is_fine (Word name at) = is_plain name
 is_fine (Sign key) = true
+is_fine (Number n) = nat_lt n (10 ^ 6)
 
 fine_good : (i : Item) → is_fine i ≡ true → IsGood i
 fine_good (Word name at) h = (plain_good name at h).0
 fine_good (Sign key) h = tt
+fine_good (Number n) h = ltb-true n (10 ^ 6) h
 
 -- the first n tokens are good and pass no limit
 abbrev are_fine : ℕ → List Marked → Bool
@@ -298,15 +300,15 @@ goals_good i (suc n) h =
 
 -- what comes behind the header
 abbrev functions_tokens : List Marked → List Marked
-functions_tokens rest = funs_text 0 (load_raw 0).funs (rules_text 0 load_rules rest)
+functions_tokens rest = definitions_text (load_raw 0) rest
 
 abbrev sorts_tokens : List Marked → List Marked
 sorts_tokens rest = (Sign Sort, sort_mark 0) ∷ name_text None nat
-    (sign Equals ∷ con_text (constructor_mark 0 0) (applied (codes "zero") [])
-    (constructors_text 1 1 (applied (codes "succ") (nat ∷ []) ∷ []) (functions_tokens rest)))
+    (sign Equals ∷ con_text (constructor_mark 1 0 0) (applied (codes "zero") [])
+    (constructors_text 1 1 1 (applied (codes "succ") (nat ∷ []) ∷ []) (functions_tokens rest)))
 
 abbrev all_tokens : List Marked → List Marked
-all_tokens rest = sign Spike ∷ sign One ∷ sorts_tokens rest
+all_tokens rest = sign Spike ∷ number 1 ∷ sorts_tokens rest
 
 all_good : (rest : List Marked) → AllGood rest → AllGood (all_tokens rest)
 all_good rest r = first_good 99 (all_tokens rest) refl r
@@ -323,6 +325,7 @@ are_tokens n = record {
     refl,
     refl,
   );
+  format = refl;
 }
 
 -- where a plain text is good, what is printed derives the declarations again, at the places that it

@@ -11,6 +11,7 @@ use Rattle.spec_grammar.specs.declared.raw.RawEq.{RawEq}
 use Rattle.spec_grammar.specs.declared.raw.RawRule.{RawRule}
 use Rattle.spec_grammar.specs.declared.raw.RawGoal.{RawGoal}
 use Rattle.spec_grammar.specs.declared.raw.RawSpec.{RawSpec}
+use Rattle.spec_grammar.specs.FormatOne.{format_one}
 use Rattle.spec_grammar.specs.RawTree.{RawTree, word, none, some}
 
 -- a name alone
@@ -126,9 +127,6 @@ load_goal i = goal_of_kind (goal_name i) (i % 4) (height i)
 
 -- the declarations with goals 0 to n - 1
 abbrev pub load_raw : ℕ → RawSpec
-load_raw n = record {
-  sorts = nat_sort ∷ [];
-  funs = of_two (codes "plus") nat ∷ of_two (codes "le") (named (codes "Bool")) ∷ [];
-  rules = load_rules;
-  goals = map load_goal (range_with_len 0 n);
-}
+load_raw n =
+    let functions = of_two (codes "plus") nat ∷ of_two (codes "le") (named (codes "Bool")) ∷ [] in
+    format_one (nat_sort ∷ []) functions load_rules (map load_goal (range_with_len 0 n))

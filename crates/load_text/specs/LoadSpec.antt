@@ -11,6 +11,7 @@ use Rattle.spec_core.specs.declared.records.Goal.{Goal}
 use Rattle.spec_core.specs.declared.records.Spec.{Spec}
 use Rattle.spec_core.specs.Sig.{Sig}
 use Rattle.spec_core.specs.Declarations.{declared_by, bool_sort}
+use Rattle.spec_core.specs.Orders.{order_by_number}
 use Rattle.spec_core.specs.Naturals.{nat, nat_sorts, nat_constructors, nat_function, zero_term, succ_term, plus_term, variable, plus_zero_rule, plus_succ_rule}
 use Rattle.load_text.specs.LoadRaw.{goal_name, height}
 
@@ -130,6 +131,7 @@ spec_goal i = spec_goal_of_kind (goal_name i) (i % 4) (height i)
 abbrev pub load_spec : ℕ → Spec
 load_spec n = record {
   sig = load_sig;
+  order = order_by_number load_sig;
   rules = load_spec_rules;
   goals = map spec_goal (range_with_len 0 n);
 }

@@ -10,7 +10,7 @@ use std::alloc::Global;
 use term_core::OutOfMemory;
 
 /// The text with goals 0 to `n - 1`. It is accepted: it derives declarations that stand for a
-/// well sorted specification, which the path ordering admits.
+/// well sorted specification, which its own order admits.
 pub fn load_text(alloc: Global, n: u32) -> Result<Vec<u8>, OutOfMemory>
     requires some { 1 ≤ n }
     requires few { n ≤ 200 }

@@ -32,11 +32,11 @@ same_rule = record {
 
 -- rules plus(zero, y) = y, plus(x, zero) = x
 abbrev pub two_zeros : Spec
-two_zeros = record { sig = naturals_sig; rules = plus_zero_rule ∷ right_zero_rule ∷ []; goals = [] }
+two_zeros = record naturals { rules = plus_zero_rule ∷ right_zero_rule ∷ []; goals = [] }
 
 -- rules plus(zero, y) = y, plus(x, x) = x
 abbrev pub same_second : Spec
-same_second = record { sig = naturals_sig; rules = plus_zero_rule ∷ same_rule ∷ []; goals = [] }
+same_second = record naturals { rules = plus_zero_rule ∷ same_rule ∷ []; goals = [] }
 
 pub record WorkedExamples : Type 0 where
   -- plus(zero, y) and plus(succ(x), y) are linear

@@ -3,52 +3,56 @@ use Rattle.std.proofs.Common.{◌≡◌, ◌∙◌, ℕ, ◌+◌, List, [], ◌�
 use Rattle.term_core.specs.Tree.{Tree, Trees, var, app, none, some, trees_of, instance, instances}
 use Rattle.term_core.specs.Measure.{weight, list_weight, list_weight_is}
 use Rattle.term_core.specs.Variables.{Occurs, OccursAny}
+use Rattle.term_core.specs.Precedence.{Precedence}
+use Rattle.term_core.specs.View.{tree_of}
+use Rattle.term_core.specs.declared.ids.SymId.{SymId}
+use Rattle.term_core.specs.declared.tree.Node.{Node}
+use Rattle.term_core.specs.declared.tree.Node.TheVariants.{App}
 use Rattle.path_order.specs.Above.{Above, SomeReaches, by_argument, later}
 use Rattle.path_order.specs.Each.{Each}
-use Rattle.path_order.specs.Operands.{read, meaning, meanings}
+use Rattle.path_order.specs.Operands.{read, meaning}
 use Rattle.path_order.specs.declared.operands.Operand.{Operand}
-use Rattle.path_order.specs.declared.operands.Operands.{Operands}
 use Rattle.path_order.specs.Irreflexive.{Reaches, irreflexive, arguments-above}
 use Rattle.path_order.specs.Standing.{Stands}
 use Rattle.path_order.specs.declared.path.Standing.TheVariants.{Greater, Neither}
 use Rattle.path_order.proofs.Deciding.{reach-first, stands-as}
 
-module _ (values : List Tree) (n : ℕ) where
+module _ (order : Precedence) (values : List Tree) (n : ℕ) where
   abbrev pub image : Tree
   image = instance values (var n)
 
   mutual
-    reaches-variable : (t : Tree) → Occurs n t → Reaches (instance values t) image
+    reaches-variable : (t : Tree) → Occurs n t → Reaches order (instance values t) image
     reaches-variable (var m) e = inl (ap (λ k. instance values (var k)) (sym e))
     reaches-variable (app f ts) o = inr (by_argument (some-reaches-variable ts o))
 
-    some-reaches-variable : (ts : Trees) → OccursAny n ts → SomeReaches (instances values ts) image
+    some-reaches-variable : (ts : Trees) → OccursAny n ts → SomeReaches order (instances values ts) image
     some-reaches-variable none o = absurd o
     some-reaches-variable (some t ts) (inl o) =
-        reach-first (instance values t) image (instances values ts) (reaches-variable t o)
+        reach-first order (instance values t) image (instances values ts) (reaches-variable t o)
     some-reaches-variable (some t ts) (inr o) = later (some-reaches-variable ts o)
 
   mutual
-    not-above-pattern : (t : Tree) → Occurs n t → Above image (instance values t) → ⊥
+    not-above-pattern : (t : Tree) → Occurs n t → Above order image (instance values t) → ⊥
     not-above-pattern (var m) e a =
-        irreflexive image (subst (λ k. Above image (instance values (var k))) (sym e) a)
-    not-above-pattern (app f ts) o a = not-above-all ts o (arguments-above a)
+        irreflexive order image (subst (λ k. Above order image (instance values (var k))) (sym e) a)
+    not-above-pattern (app f ts) o a = not-above-all ts o (arguments-above order a)
 
-    not-above-all : (ts : Trees) → OccursAny n ts → Each (Above image) (instances values ts) → ⊥
+    not-above-all : (ts : Trees) → OccursAny n ts → Each (Above order image) (instances values ts) → ⊥
     not-above-all none o e = absurd o
     not-above-all (some t ts) (inl o) e = not-above-pattern t o e.0
     not-above-all (some t ts) (inr o) e = not-above-all ts o e.1
 
   -- the pattern's instance is above that of its variable
-  pub above-variable : (f : ℕ) (ts : Trees) → OccursAny n ts → Above (instance values (app f ts)) image
+  pub above-variable : (f : ℕ) (ts : Trees) → OccursAny n ts → Above order (instance values (app f ts)) image
   above-variable f ts o = by_argument (some-reaches-variable ts o)
 
   -- and the other way round nothing holds
   pub variable-differs : (f : ℕ) (ts : Trees) → OccursAny n ts → image ≡ instance values (app f ts) → ⊥
-  variable-differs f ts o e = irreflexive image (subst (λ t. Above t image) (sym e) (above-variable f ts o))
+  variable-differs f ts o e = irreflexive order image (subst (λ t. Above order t image) (sym e) (above-variable f ts o))
 
   pub variable-not-above :
-      (f : ℕ) (ts : Trees) → OccursAny n ts → Above image (instance values (app f ts)) → ⊥
+      (f : ℕ) (ts : Trees) → OccursAny n ts → Above order image (instance values (app f ts)) → ⊥
   variable-not-above f ts o a = not-above-pattern (app f ts) o a
 
 -- what an application means, and its arguments
@@ -66,13 +70,17 @@ pub read_app :
 read_app values true f ts = ap (λ us. app f us) (instances_of values ts)
 read_app values false f ts = ap (λ us. app f (trees_of us)) (sym (maps_nothing ts))
 
--- an operand that is an application, and these operands, which are its arguments
+-- an operand that is an application
+-- what an operand means whose node is an application
 pub operand_app :
-    (values : List Tree) (o : Operand) (os : Operands) (f : ℕ) (ts : List Tree) →
-    app f (trees_of ts) ≡ o.term.now → meanings values os ≡ map (read values o.is_pattern) ts →
-    meaning values o ≡ app f (trees_of (meanings values os))
-operand_app values o os f ts e m =
-    ap (read values o.is_pattern) (sym e) ∙ read_app values o.is_pattern f ts ∙ ap (λ us. app f (trees_of us)) (sym m)
+    (values : List Tree) (o : Operand) {node : Node} (f : SymId) {args ts : List Tree} →
+    ts ≡ args → node ≡ App f args → tree_of node ≡ o.term.now →
+    meaning values o ≡ app f.0 (trees_of (map (read values o.is_pattern) ts))
+operand_app values o f {args} {ts} same is view =
+    let e : app f.0 (trees_of ts) ≡ o.term.now =
+    ap (λ us. app f.0 (trees_of us)) same ∙ ap tree_of (sym is) ∙ view
+    in
+    ap (read values o.is_pattern) (sym e) ∙ read_app values o.is_pattern f.0 ts
 
 pub app_weight : (t : Tree) (f : ℕ) (ts : List Tree) → t ≡ app f (trees_of ts) → weight t ≡ list_weight ts + 1
 app_weight t f ts e =
@@ -88,21 +96,25 @@ pattern_means values o t p e =
 
 -- a variable and a pattern in which it stands, and the other way round
 pub variable_in_pattern :
-    (values : List Tree) (o q : Operand) (n f : ℕ) (ts : List Tree) → o.is_pattern ≡ true →
+    (order : Precedence) (values : List Tree) (o q : Operand) (n f : ℕ) (ts : List Tree) → o.is_pattern ≡ true →
     q.is_pattern ≡ true → var n ≡ o.term.now → app f (trees_of ts) ≡ q.term.now →
-    Occurs n q.term.now → Stands (meaning values o) (meaning values q) Neither
-variable_in_pattern values o q n f ts op qp e g h =
+    Occurs n q.term.now → Stands order (meaning values o) (meaning values q) Neither
+variable_in_pattern order values o q n f ts op qp e g h =
     let x = pattern_means values o (var n) op e in
     let y = pattern_means values q (app f (trees_of ts)) qp g in
     let among : OccursAny n (trees_of ts) = subst (λ t. Occurs n t) (sym g) h in
-    stands-as Neither (sym x) (sym y) (variable-differs values n f (trees_of ts) among, variable-not-above values n f (trees_of ts) among)
+    stands-as order Neither (sym x) (sym y) (
+      variable-differs order values n f (trees_of ts) among,
+      variable-not-above
+          order values n f (trees_of ts) among,
+    )
 
 pub pattern_over_variable :
-    (values : List Tree) (o q : Operand) (n f : ℕ) (ts : List Tree) → o.is_pattern ≡ true →
+    (order : Precedence) (values : List Tree) (o q : Operand) (n f : ℕ) (ts : List Tree) → o.is_pattern ≡ true →
     q.is_pattern ≡ true → app f (trees_of ts) ≡ o.term.now → var n ≡ q.term.now →
-    Occurs n o.term.now → Stands (meaning values o) (meaning values q) Greater
-pattern_over_variable values o q n f ts op qp e g h =
+    Occurs n o.term.now → Stands order (meaning values o) (meaning values q) Greater
+pattern_over_variable order values o q n f ts op qp e g h =
     let x = pattern_means values o (app f (trees_of ts)) op e in
     let y = pattern_means values q (var n) qp g in
     let among : OccursAny n (trees_of ts) = subst (λ t. Occurs n t) (sym e) h in
-    stands-as Greater (sym x) (sym y) (above-variable values n f (trees_of ts) among)
+    stands-as order Greater (sym x) (sym y) (above-variable order values n f (trees_of ts) among)

@@ -4,15 +4,15 @@ use Rattle.term_core.specs.Tree.{Tree, Trees, var, app, none, some, list_of}
 use Rattle.longest_chains.proofs.Enumerated.{Enumerated, same-items, no-items, one-item, either-items, union-items}
 use Rattle.path_order.specs.Each.{Each}
 
--- P holds of the first of the terms, and Q of those behind it
+-- P holds of the first of the terms, and Q of those after it
 abbrev pub FirstAndRest : (Tree → Type 0) → (Trees → Type 0) → Trees → Type 0
 FirstAndRest P Q none = ⊥
 FirstAndRest P Q (some t ts) = P t × Q ts
 
--- P holds of the head, and Q of the arguments
-abbrev pub HeadAndArguments : (ℕ → Type 0) → (Trees → Type 0) → Tree → Type 0
+-- P holds of the head, and Q of it and the arguments
+abbrev pub HeadAndArguments : (ℕ → Type 0) → (ℕ → Trees → Type 0) → Tree → Type 0
 HeadAndArguments P Q (var x) = ⊥
-HeadAndArguments P Q (app f ts) = P f × Q ts
+HeadAndArguments P Q (app f ts) = P f × Q f ts
 
 pub first-and-rest :
     {P : Tree → Type 0} {Q : Trees → Type 0} → Enumerated P → Enumerated Q
@@ -30,17 +30,17 @@ first-and-rest {P} {Q} p q =
     from (some t ts) h = (t, h.0, (ts, h.1, refl))
 
 pub head-and-arguments :
-    {P : ℕ → Type 0} {Q : Trees → Type 0} → Enumerated P → Enumerated Q
-    → Enumerated (HeadAndArguments P Q)
+    {P : ℕ → Type 0} {Q : ℕ → Trees → Type 0} → Enumerated P → ((f : ℕ) → Enumerated (Q f)) →
+    Enumerated (HeadAndArguments P Q)
 head-and-arguments {P} {Q} p q =
-    same-items to from (union-items p (λ f _. union-items q (λ ts _. one-item (app f ts))))
+    same-items to from (union-items p (λ f _. union-items (q f) (λ ts _. one-item (app f ts))))
   where
-    to : (s : Tree) → (f : ℕ) × P f × ((ts : Trees) × Q ts × (s ≡ app f ts))
+    to : (s : Tree) → (f : ℕ) × P f × ((ts : Trees) × Q f ts × (s ≡ app f ts))
         → HeadAndArguments P Q s
     to s c = subst (HeadAndArguments P Q) (sym c.2.2) (c.1, c.2.1)
 
     from : (s : Tree) → HeadAndArguments P Q s → (f : ℕ) × P f
-        × ((ts : Trees) × Q ts × (s ≡ app f ts))
+        × ((ts : Trees) × Q f ts × (s ≡ app f ts))
     from (var x) h = absurd h
     from (app f ts) h = (f, h.0, (ts, h.1, refl))
 

@@ -1,4 +1,5 @@
 ghost use Rattle.path_order.specs.BoundedLaws.{FinitelyManyBelow, SameWithinDepth};
+ghost use Rattle.path_order.specs.ByNumber.{OrdersByNumber};
 ghost use Rattle.path_order.specs.Examples.{WorkedExamples};
 ghost use Rattle.path_order.specs.RankExamples.{RankExamples};
 
@@ -10,6 +11,11 @@ pub fn same_within_depth()
 /// Within a bound and over the first symbols, finitely many terms are below a ground term.
 pub fn finitely_many_below()
     ensures { FinitelyManyBelow }
+{}
+
+/// Levels and statuses that are written out by number order terms as the numbers do.
+pub fn orders_by_number()
+    ensures { OrdersByNumber }
 {}
 
 /// The path ordering says of a few sums what one works out by hand.

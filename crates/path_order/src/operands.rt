@@ -1,9 +1,12 @@
-ghost use Rattle.std.specs.Prelude.{◌≡◌, ◌<◌, ◌+◌, ◌↔◌, ℕ, List, IsTrue, length, get_or, drop, map};
+ghost use Rattle.std.specs.Prelude.{◌≡◌, ◌<◌, ◌+◌, ◌↔◌, ℕ, List, IsTrue, [], length, get_or, drop, map};
 ghost use Rattle.term_core.specs.References.{terms_of};
 ghost use Rattle.term_core.specs.Tree.{Tree, trees_of, var as variable, instance};
 ghost use Rattle.term_core.specs.Variables.{Occurs, OccursAny};
+ghost use Rattle.term_core.specs.Precedence.{is_status};
+ghost use Rattle.path_order.specs.Arranged.{numbered};
 ghost use Rattle.path_order.specs.Operands.{read, meaning, meanings};
 
+use crate::listed::Listed;
 use term_core::{Node, Term};
 
 /// A term that is compared: as it stands, or as a pattern, which means its instance by the list of
@@ -17,7 +20,7 @@ pub(crate) struct Operand<'a> {
 /// Terms that are compared, all of them as they stand or all as patterns.
 #[derive(Clone, Copy)]
 pub(crate) struct Operands<'a> {
-    pub(crate) terms: &'a [Term],
+    pub(crate) terms: Listed<'a>,
     pub(crate) are_patterns: bool,
 }
 
@@ -50,33 +53,53 @@ impl<'a> Operand<'a> {
             meanings values result ≡ map (read values self.entry.is_pattern) terms.now }
     {
         Operands {
-            terms,
+            terms: Listed::all(terms),
+            are_patterns: self.is_pattern,
+        }
+    }
+
+    /// The same in the order of a status.
+    pub(crate) fn in_order(self, terms: &'a [Term], status: &'a [u8]) -> Operands<'a>
+        requires status { IsTrue (is_status status.now) }
+        requires as_many { length status.now ≡ length terms.now }
+        ensures { (values : List Tree) →
+            meanings values result ≡
+            map (read values self.entry.is_pattern) (map (numbered terms.now) status.now) }
+    {
+        Operands {
+            terms: Listed::in_order(terms, status),
             are_patterns: self.is_pattern,
         }
     }
 }
 
 impl<'a> Operands<'a> {
+    pub(crate) fn len(self) -> usize
+        ensures { (values : List Tree) → result ≡ length (meanings values self.entry) }
+    {
+        self.terms.len()
+    }
+
     /// The term at an index.
     pub(crate) fn at(self, index: usize) -> Operand<'a>
-        requires { index < length self.terms.now }
+        requires { index < length (meanings [] self) }
         ensures { (values : List Tree) (x : Tree) →
             meaning values result ≡ get_or (meanings values self.entry) index x }
     {
         Operand {
-            term: &self.terms[index],
+            term: self.terms.at(index),
             is_pattern: self.are_patterns,
         }
     }
 
-    /// The terms behind an index.
-    pub(crate) fn behind(self, index: usize) -> Operands<'a>
-        requires { index < length self.terms.now }
+    /// The terms after an index.
+    pub(crate) fn after(self, index: usize) -> Operands<'a>
+        requires { index < length (meanings [] self) }
         ensures { (values : List Tree) →
             meanings values result ≡ drop (index + 1) (meanings values self.entry) }
     {
         Operands {
-            terms: &self.terms[index + 1..],
+            terms: self.terms.after(index),
             are_patterns: self.are_patterns,
         }
     }

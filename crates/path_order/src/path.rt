@@ -1,22 +1,102 @@
-ghost use Rattle.std.specs.Prelude.{◌≡◌, ◌≤◌, ◌↔◌, List, IsTrue, if◌then◌else◌};
+ghost use Rattle.std.specs.Prelude.{◌≡◌, ◌≤◌, ◌↔◌, List, IsTrue, if◌then◌else◌, length, map, option_map};
 ghost use Rattle.term_core.specs.References.{terms_of};
 ghost use Rattle.std.specs.Option.{IfSome};
 ghost use Rattle.term_core.specs.Tree.{Tree, instance, tree_size, trees_of};
 ghost use Rattle.path_order.specs.Above.{Above, AboveAll, SomeReaches};
-ghost use Rattle.path_order.specs.Operands.{meaning, meanings};
-ghost use Rattle.path_order.specs.Standing.{Stands, HaveOneHead};
+ghost use Rattle.path_order.specs.Operands.{read, meaning, meanings};
+ghost use Rattle.path_order.specs.Standing.{Stands, HaveOneLevel};
+ghost use Rattle.path_order.specs.Arranged.{arranged};
+ghost use Rattle.term_core.specs.Precedence.{Precedence, IsPrecedence, by_number, level, status, is_status};
 
 use crate::operands::{Operand, Operands, occurs};
 use crate::orders::TermOrder;
-use term_core::{Node, Term};
+use std::marker::Model;
+use term_core::{Node, Seq, SymId, Term};
 
-/// The lexicographic path ordering. The greater number has the greater precedence.
+/// The lexicographic path ordering. A symbol of greater level has the greater precedence, and each
+/// symbol's status says in which order its arguments are compared.
 #[derive(Drop)]
-pub struct Lpo {}
+pub struct Lpo {
+    lists: Option<Lists>,
+}
+
+/// The levels of the first symbols, and the numbers of their arguments, from 1, in the order in which
+/// they are compared.
+#[derive(Drop)]
+struct Lists {
+    levels: Seq<u32>,
+    statuses: Seq<Seq<u8>>,
+}
+
+impl Model for Lpo {
+    ghost use Rattle.term_core.specs.Precedence.{Precedence, AreStatuses};
+    ghost use Rattle.path_order.specs.Given.{of_lists};
+
+    ghost Value = { Precedence };
+
+    ghost view = { λ a. of_lists a.lists };
+
+    ghost invariant = { λ a. AreStatuses (of_lists a.lists).statuses };
+}
 
 impl Lpo {
-    pub fn by_number() -> Lpo {
-        Lpo {}
+    /// Each symbol's level is its number, and arguments are compared as written.
+    pub fn by_number() -> Lpo
+        ensures { result ≡ by_number }
+    {
+        Lpo { lists: None }
+    }
+
+    /// The first symbols have these levels and statuses. Each other symbol has its number as level, and
+    /// its arguments are compared as written.
+    pub fn with(levels: Seq<u32>, statuses: Seq<Seq<u8>>) -> Lpo
+        requires { IsPrecedence (record { levels = levels; statuses = statuses }) }
+        ensures { result ≡ record { levels = levels; statuses = statuses } }
+    {
+        Lpo {
+            lists: Some(Lists { levels, statuses }),
+        }
+    }
+
+    fn level(&self, symbol: SymId) -> u32
+        ensures { result ≡ level self.now symbol.0 }
+    {
+        match &self.lists {
+            Some(lists) => match lists.levels.as_slice().get(symbol.0 as usize) {
+                Some(level) => *level,
+                None => symbol.0,
+            },
+            None => symbol.0,
+        }
+    }
+
+    fn status(&self, symbol: SymId) -> Option<&[u8]>
+        ensures is { option_map (λ ps. ps.now) result ≡ status self.now symbol.0 }
+        ensures in_order { IfSome result (λ ps. IsTrue (is_status ps.now)) }
+    {
+        match &self.lists {
+            Some(lists) => match lists.statuses.as_slice().get(symbol.0 as usize) {
+                Some(status) => Some(status.as_slice()),
+                None => None,
+            },
+            None => None,
+        }
+    }
+
+    /// The arguments of a symbol in the order of its status, read as the operand is: as terms or as
+    /// patterns.
+    fn arranged<'a>(&'a self, symbol: SymId, operand: Operand<'a>, args: &'a [Term]) -> Operands<'a>
+        ensures ordered { (values : List Tree) →
+            trees_of (meanings values result) ≡
+            arranged self.now symbol.0
+            (trees_of (map (read values operand.entry.is_pattern) args.now)) }
+        ensures as_many { (values : List Tree) →
+            length (meanings values result) ≡ length args.now }
+    {
+        match self.status(symbol) {
+            Some(status) if status.len() == args.len() => operand.in_order(args, status),
+            _ => operand.with(args),
+        }
     }
 }
 
@@ -25,16 +105,16 @@ impl TermOrder for Lpo {
     ghost use Rattle.path_order.specs.Rank.{IsRank};
     ghost use Rattle.path_order.specs.RankLaws.{path_order_ranks};
 
-    ghost above = { λ _. Above };
+    ghost above = { λ o. Above o };
 
-    ghost rank = { λ _. IsRank };
+    ghost rank = { λ o. IsRank o };
 
     /// Visits each pair of a place of `t` and a place of `s` once at most, and takes no memory.
     fn greater(&self, t: &Term, s: &Term) -> bool
-        ensures exact { IsTrue result ↔ Above t.now s.now }
-        ensures sound { IsTrue result → Above t.now s.now }
+        ensures exact { IsTrue result ↔ Above self.now t.now s.now }
+        ensures sound { IsTrue result → Above self.now t.now s.now }
         ensures complete { tree_size t.now ≤ 4294967295 → tree_size s.now ≤ 4294967295 →
-            Above t.now s.now → IsTrue result }
+            Above self.now t.now s.now → IsTrue result }
     {
         let first = Operand {
             term: t,
@@ -44,19 +124,19 @@ impl TermOrder for Lpo {
             term: s,
             is_pattern: false,
         };
-        compare(&[], first, second) == Standing::Greater
+        compare(self, &[], first, second) == Standing::Greater
     }
 
     /// Visits each pair of a place of one instance and a place of the other once at most, and takes
     /// no memory. What the patterns tell by themselves is told without a look at the list.
     fn greater_under(&self, list: &[&Term], t: &Term, s: &Term) -> bool
         ensures exact { let by = instance (terms_of list.now) in
-            IsTrue result ↔ Above (by t.now) (by s.now) }
+            IsTrue result ↔ Above self.now (by t.now) (by s.now) }
         ensures sound { let by = instance (terms_of list.now) in
-            IsTrue result → Above (by t.now) (by s.now) }
+            IsTrue result → Above self.now (by t.now) (by s.now) }
         ensures complete { let by = instance (terms_of list.now) in
             tree_size (by t.now) ≤ 4294967295 → tree_size (by s.now) ≤ 4294967295 →
-            Above (by t.now) (by s.now) → IsTrue result }
+            Above self.now (by t.now) (by s.now) → IsTrue result }
     {
         let first = Operand {
             term: t,
@@ -66,12 +146,12 @@ impl TermOrder for Lpo {
             term: s,
             is_pattern: true,
         };
-        compare(list, first, second) == Standing::Greater
+        compare(self, list, first, second) == Standing::Greater
     }
 
-    ghost laws = { λ _. path_order_laws };
+    ghost laws = { path_order_laws };
 
-    ghost ranks = { λ _. path_order_ranks };
+    ghost ranks = { path_order_ranks };
 }
 
 /// How one term stands to another.
@@ -94,11 +174,18 @@ impl Standing {
     }
 }
 
+/// An application that is compared, with its arguments in the order of its symbol's status.
+#[derive(Clone, Copy)]
+struct Application<'a> {
+    whole: Operand<'a>,
+    args: Operands<'a>,
+}
+
 /// How `t` stands to `s`, where both are patterns and one of them is a variable of the other: an
-/// instance of a part is a part of the instance.
+/// instance of a part is a part of the instance. That holds in every path ordering.
 fn told_by_patterns(t: Operand, s: Operand) -> Option<Standing>
-    ensures { (values : List Tree) →
-        IfSome result (Stands (meaning values t.entry) (meaning values s.entry)) }
+    ensures { (o : Precedence) (values : List Tree) →
+        IfSome result (Stands o (meaning values t.entry) (meaning values s.entry)) }
 {
     if !t.is_pattern || !s.is_pattern {
         return None;
@@ -114,9 +201,9 @@ fn told_by_patterns(t: Operand, s: Operand) -> Option<Standing>
 
 /// How `t` stands to `s`. The heads tell which of the three cases can hold.
 #[cycle(compare)]
-fn compare<'a>(list: &'a [&'a Term], t: Operand<'a>, s: Operand<'a>) -> Standing
+fn compare<'a>(order: &'a Lpo, list: &'a [&'a Term], t: Operand<'a>, s: Operand<'a>) -> Standing
     ensures { let values = terms_of list.now in
-        Stands (meaning values t.entry) (meaning values s.entry) result }
+        Stands order.now (meaning values t.entry) (meaning values s.entry) result }
 {
     if let Some(standing) = told_by_patterns(t, s) {
         return standing;
@@ -134,74 +221,91 @@ fn compare<'a>(list: &'a [&'a Term], t: Operand<'a>, s: Operand<'a>) -> Standing
         }
         (Node::Var(_), Node::App(_, _)) => Standing::Neither,
         (Node::App(_, ts), Node::Var(_)) => {
-            Standing::greater_or_neither(some_reaches(list, t.with(ts.as_slice()), s))
+            Standing::greater_or_neither(some_reaches(order, list, t.with(ts.as_slice()), s))
         }
         (Node::App(f, ts), Node::App(g, ss)) => {
-            if g.0 < f.0 {
-                Standing::greater_or_neither(above_all(list, t, s.with(ss.as_slice())))
-            } else if f.0 == g.0 && ts.len() == ss.len() {
-                compare_arguments(list, t, s, t.with(ts.as_slice()), s.with(ss.as_slice()))
+            let (ts, ss) = (ts.as_slice(), ss.as_slice());
+            let (level, other_level) = (order.level(*f), order.level(*g));
+            if other_level < level {
+                Standing::greater_or_neither(above_all(order, list, t, s.with(ss)))
+            } else if other_level == level && ts.len() == ss.len() {
+                let first = order.arranged(*f, t, ts);
+                let second = order.arranged(*g, s, ss);
+                let t = Application {
+                    whole: t,
+                    args: first,
+                };
+                let s = Application {
+                    whole: s,
+                    args: second,
+                };
+                compare_arguments(order, list, t, s, f.0 == g.0)
             } else {
-                Standing::greater_or_neither(some_reaches(list, t.with(ts.as_slice()), s))
+                Standing::greater_or_neither(some_reaches(order, list, t.with(ts), s))
             }
         }
     }
 }
 
-/// How `t` stands to `s`, by the first arguments that differ and by those behind them. The ones
-/// before are the same, so they reach nothing in `s`.
+/// How `t` stands to `s`, by the first arguments that differ and by those after them. The ones before
+/// are the same, so they reach nothing in `s`.
 #[cycle(compare)]
 fn compare_arguments<'a>(
+    order: &'a Lpo,
     list: &'a [&'a Term],
-    t: Operand<'a>,
-    s: Operand<'a>,
-    ts: Operands<'a>,
-    ss: Operands<'a>,
+    t: Application<'a>,
+    s: Application<'a>,
+    one_head: bool,
 ) -> Standing
     requires { let values = terms_of list.now in
-        HaveOneHead (meaning values t) (meanings values ts) (meaning values s)
-        (meanings values ss) }
+        HaveOneLevel order.now (meaning values t.whole) (meanings values t.args)
+        (meaning values s.whole) (meanings values s.args) one_head }
     ensures { let values = terms_of list.now in
-        Stands (meaning values t.entry) (meaning values s.entry) result }
+        Stands order.now (meaning values t.entry.whole) (meaning values s.entry.whole) result }
 {
-    for i in 0..ts.terms.len() {
-        match compare(list, ts.at(i), ss.at(i)) {
+    for i in 0..t.args.len() {
+        match compare(order, list, t.args.at(i), s.args.at(i)) {
             Standing::Same => {}
             Standing::Greater => {
-                return Standing::greater_or_neither(above_all(list, t, ss.behind(i)));
+                let is_above = above_all(order, list, t.whole, s.args.after(i));
+                return Standing::greater_or_neither(is_above);
             }
             Standing::Neither => {
-                return Standing::greater_or_neither(some_reaches(list, ts.behind(i), s));
+                let reaches = some_reaches(order, list, t.args.after(i), s.whole);
+                return Standing::greater_or_neither(reaches);
             }
         }
     }
-    Standing::Same
+    if one_head {
+        Standing::Same
+    } else {
+        Standing::Neither
+    }
 }
 
 /// Whether `t` is above each of the terms.
 #[cycle(compare)]
-fn above_all<'a>(list: &'a [&'a Term], t: Operand<'a>, ss: Operands<'a>) -> bool
+fn above_all<'a>(order: &'a Lpo, list: &'a [&'a Term], t: Operand<'a>, ss: Operands<'a>) -> bool
     ensures { let values = terms_of list.now in
-        IsTrue result ↔ AboveAll (meaning values t.entry) (trees_of (meanings values ss.entry)) }
+        IsTrue result ↔
+        AboveAll order.now (meaning values t.entry) (trees_of (meanings values ss.entry)) }
 {
-    match ss.terms {
-        [] => true,
-        [_, ..] => {
-            compare(list, t, ss.at(0)) == Standing::Greater && above_all(list, t, ss.behind(0))
-        }
+    if ss.len() == 0 {
+        return true;
     }
+    compare(order, list, t, ss.at(0)) == Standing::Greater && above_all(order, list, t, ss.after(0))
 }
 
 /// Whether some of the terms is `s`, or is above it.
 #[cycle(compare)]
-fn some_reaches<'a>(list: &'a [&'a Term], ts: Operands<'a>, s: Operand<'a>) -> bool
+fn some_reaches<'a>(order: &'a Lpo, list: &'a [&'a Term], ts: Operands<'a>, s: Operand<'a>) -> bool
     ensures { let values = terms_of list.now in
-        IsTrue result ↔ SomeReaches (trees_of (meanings values ts.entry)) (meaning values s.entry) }
+        IsTrue result ↔
+        SomeReaches order.now (trees_of (meanings values ts.entry)) (meaning values s.entry) }
 {
-    match ts.terms {
-        [] => false,
-        [_, ..] => {
-            compare(list, ts.at(0), s) != Standing::Neither || some_reaches(list, ts.behind(0), s)
-        }
+    if ts.len() == 0 {
+        return false;
     }
+    compare(order, list, ts.at(0), s) != Standing::Neither
+        || some_reaches(order, list, ts.after(0), s)
 }

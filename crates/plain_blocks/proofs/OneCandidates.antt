@@ -1,6 +1,6 @@
 -- One step at most of each candidate is possible, and so one step at most is chosen.
 use Rattle.std.proofs.Common.{◌≡◌, ℕ, List, [], ◌∷◌, Bool, true, false, Some, inl, inr, map, length, refl, ap, sym, ◌∙◌, subst, arith}
-use Rattle.std.specs.Prelude.{Ok, slice_get}
+use Rattle.std.specs.Prelude.{Contains, Ok, slice_get}
 use Rattle.term_core.specs.Tree.{Tree, trees_of}
 use Rattle.term_core.specs.declared.ids.SortId.{SortId}
 use Rattle.spec_core.specs.declared.records.Equation.{Equation}
@@ -22,6 +22,7 @@ use Rattle.plain_blocks.specs.declared.candidates.Candidate.{Candidate}
 use Rattle.plain_blocks.specs.declared.candidates.Candidate.TheVariants.{Trivial as trivial, RuleOnLeft, RuleOnRight, Decompose as decompose, AsWritten, WithSidesSwapped}
 use Rattle.plain_blocks.specs.Choices.{place_in, IsTrivial, IsUse, IsDecomposition, IsReference, IsPossible, first_of, IsChosen}
 use Rattle.plain_blocks.specs.Candidates.{IsFull, IsFullReference, IsOf, IsCandidate}
+use Rattle.plain_blocks.specs.Laws.{OneChoice}
 use Rattle.plain_blocks.proofs.OneUse.{one_place_and_rule}
 use Rattle.plain_blocks.proofs.ReferenceTerms.{full_reference_one}
 
@@ -89,3 +90,8 @@ module _ (above : Tree → Tree → Type 0) (spec : Spec) (usable : ℕ → Type
       (first_one _ _ (λ a b p q. decomposition_one a b p.0 q.0)
       (first_one _ _ (from c.conclusions)
       (from (map swapped c.conclusions))))))
+
+-- so one step at most is chosen at a node, by any order
+pub one_choice : (above : Tree → Tree → Type 0) → OneChoice above
+one_choice above spec numbers start nodes c a b fine tidy premises there p q =
+    choice_one above spec (Contains numbers) start nodes c there tidy premises a b p q

@@ -26,7 +26,7 @@ pub fn plain<O: TermOrder>(
 {
     let Admitted { spec, order } = admitted;
     plain_blocks(order);
-    one_block(order);
+    one_block::<O>();
     match first_plain(alloc, spec, goal, length)? {
         None => Ok(None),
         Some(var) => Ok(Some(block_on(alloc, spec, order, goal, var)?)),

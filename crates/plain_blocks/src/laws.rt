@@ -8,12 +8,10 @@ pub fn one_choice<O: TermOrder>(order: &O)
     ensures { OneChoice (O.above order.now) }
 {}
 
-/// A goal has one block at most on a variable.
-pub fn one_block<O: TermOrder>(order: &O)
-    ensures { OneBlock (O.above order.now) }
+/// By each order, a goal has one block at most on a variable.
+pub fn one_block<O: TermOrder>()
+    ensures { (o : O) → OneBlock (O.above o) }
 {
-    one_choice(order);
-    clause_core::one_answer(order);
     clause_core::tidying_laws();
 }
 

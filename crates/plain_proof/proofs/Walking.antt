@@ -67,3 +67,42 @@ side_none spec fine other t next p k budget first none v count s h =
 pub side_more : (spec : Spec) (other t next last : Tree) (p : List ℕ) (k budget count : ℕ) → 0 < budget → IsFirstUse spec t p k next → AreWithin next other → HasSide spec other next (budget - 1) (Some (last, count)) → HasSide spec other t budget (Some (last, count + 1))
 side_more spec other t next last p k budget count pos first inside h =
     (record { uses = (p, k) ∷ h.0.uses; runs = (next, first, inside, h.0.runs); normal = h.0.normal; count_is = omega (arith, h.0.count_is) }, omega (arith, h.1, pos))
+
+-- what is found of a side after so many uses is found of the side that they began with, with these uses more
+pub record GoesOn (spec : Spec) (other first last : Tree) (budget uses : ℕ) : Type 0 where
+  pub none : HasSide spec other last (budget - uses) None → HasSide spec other first budget None
+  pub some : (v : Tree) (count : ℕ) → HasSide spec other last (budget - uses) (Some (v, count))
+      → HasSide spec other first budget (Some (v, uses + count))
+
+pub goes_from_start : (spec : Spec) (other t : Tree) (budget : ℕ) → GoesOn spec other t t budget 0
+goes_from_start spec other t budget =
+    let all : budget - 0 ≡ budget = omega arith in
+    record {
+      none = λ h. subst (λ b. HasSide spec other t b None) all h;
+      some = λ v count h.
+          let sum : count ≡ 0 + count = omega arith in
+          subst (λ n. HasSide spec other t budget (Some (v, n))) sum
+          (subst (λ b. HasSide spec other t b (Some (v, count))) all h);
+    }
+
+pub goes_one_further : (spec : Spec) → IsWellSorted spec → (other first last next : Tree) (p : List ℕ) (k budget uses : ℕ)
+    → uses < budget → IsFirstUse spec last p k next → AreWithin next other
+    → GoesOn spec other first last budget uses → GoesOn spec other first next budget (uses + 1)
+goes_one_further spec fine other first last next p k budget uses less first_use inside g =
+    let left : (budget - uses) - 1 ≡ budget - (uses + 1) = omega (arith, less) in
+    record {
+      none = λ h. g.none (side_none spec fine other last next p k (budget - uses) first_use
+          (subst (λ b. HasSide spec other next b None) (sym left) h));
+      some = λ v count h.
+          let further = side_more spec other last next v p k (budget - uses) count (omega (arith, less)) first_use inside
+          (subst (λ b. HasSide spec other next b (Some (v, count))) (sym left) h) in
+          let sum : uses + (count + 1) ≡ (uses + 1) + count = omega arith in
+          subst (λ n. HasSide spec other first budget (Some (v, n))) sum (g.some v (count + 1) further);
+    }
+
+pub goes_to_normal : (spec : Spec) (other first last : Tree) (budget uses : ℕ) → GoesOn spec other first last budget uses
+    → IsNormal spec last → HasSide spec other first budget (Some (last, uses))
+goes_to_normal spec other first last budget uses g normal =
+    let sum : uses + 0 ≡ uses = omega arith in
+    subst (λ n. HasSide spec other first budget (Some (last, n))) sum
+    (g.some last 0 (side_here spec other last (budget - uses) normal))

@@ -14,7 +14,7 @@ use unifier::matches;
 
 /// The normal form of a side with the number of its uses, where it needs at most `budget` and each
 /// term on the way is within the limits beside the other side. It stops at the first term that
-/// isn't, so no term grows beyond the limits. The stack grows with the budget.
+/// isn't, so no term grows beyond the limits.
 pub(crate) fn normal_side(
     alloc: Global,
     spec: &Spec,
@@ -28,19 +28,20 @@ pub(crate) fn normal_side(
     requires narrow { IsNarrow term }
     ensures { IfOk result (HasSide spec.now other.now term budget) }
 {
-    let Some((place, number)) = rewriter.first_use(alloc, &term)? else {
-        return Ok(Some((term, 0)));
-    };
-    if budget == 0 {
-        return Ok(None);
+    let mut last = term;
+    for uses in 0..budget {
+        let Some((place, number)) = rewriter.first_use(alloc, &last)? else {
+            return Ok(Some((last, uses)));
+        };
+        let next = after_use(alloc, spec, &last, place.as_slice(), number)?;
+        if !are_within(alloc, &next, other)? {
+            return Ok(None);
+        }
+        last = next;
     }
-    let next = after_use(alloc, spec, &term, place.as_slice(), number)?;
-    if !are_within(alloc, &next, other)? {
-        return Ok(None);
-    }
-    match normal_side(alloc, spec, rewriter, other, next, budget - 1)? {
-        None => Ok(None),
-        Some((last, count)) => Ok(Some((last, count + 1))),
+    match rewriter.first_use(alloc, &last)? {
+        None => Ok(Some((last, budget))),
+        Some(_) => Ok(None),
     }
 }
 

@@ -176,9 +176,8 @@ fn read_arguments<'a>(
         (trees_of p.0) p.1.bytes.now
         × (p.1.count ≡ count_after variables at.entry.count (occurrences_all (trees_of p.0))))) }
 {
-    let mut made = Terms::new(alloc);
     if arity == 0 {
-        return Ok(Some((made, at)));
+        return Ok(Some((Terms::new(alloc), at)));
     }
     let count = at.count;
     let Some(bytes) = after(at.bytes, b"(") else {
@@ -188,6 +187,8 @@ fn read_arguments<'a>(
     else {
         return Ok(None);
     };
+    // a vector that grows has room for four terms at once, and most symbols have one argument
+    let mut made = Terms::with_capacity(alloc, arity)?;
     made.push(first)?;
     let Some(last) = read_others(alloc, sig, variables, room, arity - 1, next, &mut made)? else {
         return Ok(None);

@@ -11,12 +11,10 @@ pub fn one_block<O: TermOrder>(order: &O)
     clause_core::one_answer(order);
 }
 
-/// A goal has one first routine proof, or none.
-pub fn one_proof<O: TermOrder>(order: &O)
-    ensures { OneProof (O.above order.now) }
-{
-    clause_core::one_answer(order);
-}
+/// By each order, a goal has one first routine proof, or none.
+pub fn one_proof<O: TermOrder>()
+    ensures { (o : O) → OneProof (O.above o) }
+{}
 
 /// What proves a clause by lemmas proves it behind claims that prove them.
 pub fn proves_behind_claims<O: TermOrder>(order: &O)
@@ -35,6 +33,7 @@ pub fn routine_blocks_stand<O: TermOrder>(order: &O)
 pub fn worked_examples()
     ensures { WorkedExamples }
 {
-    clause_core::one_answer(&Lpo::by_number());
+    let order = Lpo::by_number();
+    clause_core::one_answer(&order);
     spec_core::worked_examples();
 }

@@ -8,6 +8,8 @@ use Rattle.term_core.specs.declared.ids.SortId.{SortId}
 use Rattle.spec_core.specs.declared.records.Goal.{Goal}
 use Rattle.spec_core.specs.declared.records.Rule.{Rule}
 use Rattle.spec_core.specs.declared.records.Spec.{Spec}
+use Rattle.spec_core.specs.declared.records.OrderInfo.{OrderInfo}
+use Rattle.spec_core.specs.Orders.{order_by_number}
 use Rattle.spec_core.specs.Sig.{Sig}
 use Rattle.spec_core.specs.Sorts.{Sorted}
 use Rattle.spec_core.specs.Declarations.{AreNewNames, IsDeclared}
@@ -84,14 +86,21 @@ pub goal_names_distinct : (sig : Sig) (raws : List RawGoal) (goals : List Goal) 
 goal_names_distinct sig raws goals c p j k g h a b same = one_place [] (map (λ (r : RawGoal). r.head.name) raws) j k h.name (names_after sig [] raws c) (name_at sig raws goals p j g a ∙ ap (λ n. Some n) same) (name_at sig raws goals p k h b)
 
 -- the specification that the parts make
-pub spec_made : (raw : RawSpec) (sig : Sig) (xs : List RawRule) (ys : List RawGoal) (rules : List Rule) (goals : List Goal) → xs ≡ raw.rules → ys ≡ raw.goals → Clean (declarations_tests raw) × ((sig ≡ sig_of raw) × IsDeclared sig × SignatureStands raw sig) → Clean (each_after (rule_tests sig) [] xs) × AllZip (RuleStands sig) xs rules → Clean (each_after (goal_tests sig) [] ys) × AllZip (GoalStands sig) ys goals → Clean (spec_tests raw) × IsNumbered raw (record { sig = sig; rules = rules; goals = goals })
-spec_made raw sig xs ys rules goals x y a b c =
+pub spec_made : (raw : RawSpec) (sig : Sig) (order : OrderInfo) → order ≡ order_by_number sig →
+    (xs : List RawRule) (ys : List RawGoal) (rules : List Rule) (goals : List Goal) → xs ≡ raw.rules →
+    ys ≡ raw.goals → Clean (declarations_tests raw)
+    × ((sig ≡ sig_of raw) × IsDeclared sig × SignatureStands raw sig) →
+    Clean (each_after (rule_tests sig) [] xs) × AllZip (RuleStands sig) xs rules →
+    Clean (each_after (goal_tests sig) [] ys) × AllZip (GoalStands sig) ys goals →
+    Clean (spec_tests raw) × IsNumbered raw (record { sig = sig; order = order; rules = rules; goals = goals })
+spec_made raw sig order ordered xs ys rules goals x y a b c =
     let r : Clean (each_after (rule_tests sig) [] raw.rules) × AllZip (RuleStands sig) raw.rules rules = subst (λ us. Clean (each_after (rule_tests sig) [] us) × AllZip (RuleStands sig) us rules) x b in
     let g : Clean (each_after (goal_tests sig) [] raw.goals) × AllZip (GoalStands sig) raw.goals goals = subst (λ us. Clean (each_after (goal_tests sig) [] us) × AllZip (GoalStands sig) us goals) y c in (
       (a.0, (subst (λ s. Clean (each_after (rule_tests s) [] raw.rules)) a.1.0 r.0, subst (λ s. Clean (each_after (goal_tests s) [] raw.goals)) a.1.0 g.0)),
       record {
         signature = a.1.2;
         declared = a.1.1;
+        order = ordered;
         rules = r.1;
         goals = g.1;
         names = goal_names_distinct sig raw.goals goals g.0 g.1;

@@ -93,6 +93,7 @@ naturals_are_numbered : IsNumbered raw_naturals naturals
 naturals_are_numbered = record {
   signature = signature_stands;
   declared = declared;
+  order = refl;
   rules = (zero_rule_stands, (succ_rule_stands, tt));
   goals = (same_goal_stands, (unit_goal_stands, tt));
   names = well_sorted.names;

@@ -1,8 +1,9 @@
 -- A raw specification has at most one numbering, and stands for at most one.
-use Rattle.std.proofs.Common.{◌≡◌, sym, subst}
+use Rattle.std.proofs.Common.{◌≡◌, ◌∙◌, ap, sym, subst}
 use Rattle.std.specs.List.{AllZip}
 use Rattle.spec_core.specs.declared.records.Spec.{Spec}
 use Rattle.spec_core.specs.Sig.{Sig}
+use Rattle.spec_core.specs.Orders.{order_by_number}
 use Rattle.spec_grammar.specs.declared.raw.RawSpec.{RawSpec}
 use Rattle.sort_check.specs.Rules.{RuleStands}
 use Rattle.sort_check.specs.Goals.{GoalStands}
@@ -17,7 +18,8 @@ one_numbering raw s t is too =
     let sig : s.sig ≡ t.sig = one_signature raw s.sig t.sig is.declared is.signature too.signature in
     let rules : s.rules ≡ t.rules = pairs_one (RuleStands s.sig) (one_rule s.sig is.declared) raw.rules s.rules t.rules is.rules (subst (λ (g : Sig). AllZip (RuleStands g) raw.rules t.rules) (sym sig) too.rules) in
     let goals : s.goals ≡ t.goals = pairs_one (GoalStands s.sig) (one_goal s.sig is.declared) raw.goals s.goals t.goals is.goals (subst (λ (g : Sig). AllZip (GoalStands g) raw.goals t.goals) (sym sig) too.goals) in
-    λ i. record { sig = sig i; rules = rules i; goals = goals i }
+    let order : s.order ≡ t.order = is.order ∙ ap order_by_number sig ∙ sym too.order in
+    λ i. record { sig = sig i; order = order i; rules = rules i; goals = goals i }
 
 pub one_spec : (raw : RawSpec) (s t : Spec) → StandsFor raw s → StandsFor raw t → s ≡ t
 one_spec raw s t is too = one_numbering raw s t is.numbered too.numbered

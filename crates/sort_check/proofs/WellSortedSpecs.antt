@@ -10,9 +10,12 @@ use Rattle.spec_core.specs.declared.records.Rule.{Rule}
 use Rattle.spec_core.specs.declared.records.Spec.{Spec}
 use Rattle.spec_core.specs.Sig.{Sig}
 use Rattle.spec_core.specs.Declarations.{all_symbols}
+use Rattle.spec_core.specs.Orders.{IsOrderOf}
+use Rattle.spec_core.proofs.ByNumber.{is_order_by_number}
 use Rattle.spec_core.specs.WellSorted.{RuleIsSorted, GoalIsSorted, IsShallow, HasFewArguments, IsWellSorted, sorts_of}
 use Rattle.spec_core.specs.TermText.{variable_names}
 use Rattle.spec_grammar.specs.RawTree.{RawTree}
+use Rattle.spec_grammar.proofs.KeepsLimits.{few_rules}
 use Rattle.spec_grammar.specs.KeepsLimits.{TermKeepsLimits, NamesKeepLimits, SortKeepsLimits, FunctionKeepsLimits, RuleKeepsLimits, GoalKeepsLimits, KeepsLimits}
 use Rattle.spec_grammar.specs.declared.raw.RawNames.{RawNames}
 use Rattle.spec_grammar.specs.declared.raw.RawSort.{RawSort}
@@ -83,11 +86,12 @@ module _ (sig : Sig) where
 
 pub numbered_well_sorted : (raw : RawSpec) (spec : Spec) → KeepsLimits raw → IsNumbered raw spec → IsWellSorted spec
 numbered_well_sorted raw spec keeps stands = record {
+  order = subst (λ o. IsOrderOf spec.sig o) (sym stands.order) (is_order_by_number spec.sig);
   signature = stands.declared;
   arities = few_arguments raw spec.sig keeps stands.signature;
   rules = all_at (RuleIsSorted spec.sig) spec.rules (pairs_have (RuleStands spec.sig) RuleKeepsLimits (RuleIsSorted spec.sig) (rule_is_sorted spec.sig) raw.rules spec.rules keeps.rules stands.rules);
   goals = all_at (GoalIsSorted spec.sig) spec.goals (pairs_have (GoalStands spec.sig) GoalKeepsLimits (GoalIsSorted spec.sig) (λ r g k p. p.sorted) raw.goals spec.goals keeps.goals stands.goals);
   names = stands.names;
-  few_rules = omega (arith, AllZip-long (RuleStands spec.sig) raw.rules spec.rules stands.rules, keeps.few_rules);
+  few_rules = omega (arith, AllZip-long (RuleStands spec.sig) raw.rules spec.rules stands.rules, keeps.few_rules, few_rules raw.version);
   few_goals = omega (arith, AllZip-long (GoalStands spec.sig) raw.goals spec.goals stands.goals, keeps.few_goals);
 }

@@ -1,6 +1,7 @@
 -- What the definitions say of raw naturals with addition, and of a few that have faults.
 use Rattle.std.specs.Prelude.{ℕ, List, [], ◌∷◌, codes}
 use Rattle.spec_core.specs.Naturals.{naturals}
+use Rattle.spec_grammar.specs.FormatOne.{format_one}
 use Rattle.spec_grammar.specs.RawTree.{RawTree, word, none, some}
 use Rattle.spec_grammar.specs.declared.raw.RawName.{RawName}
 use Rattle.spec_grammar.specs.declared.raw.RawNames.{RawNames}
@@ -86,7 +87,7 @@ concludes name bs e =
 -- naturals with addition, these rules and these goals
 abbrev pub naturals_with : List RawRule → List RawGoal → RawSpec
 naturals_with rules goals =
-    record { sorts = nat_sort ∷ []; funs = plus_function ∷ []; rules = rules; goals = goals }
+    format_one (nat_sort ∷ []) (plus_function ∷ []) rules goals
 
 -- goal same(x : Nat, y : Nat) : plus(x, y) = plus(x, x), and goal unit : plus(x, zero) = x, whose x has no binding
 abbrev pub raw_naturals : RawSpec
@@ -104,13 +105,9 @@ free_goal = concludes (codes "free") [] (record { left = x_at 3; right = y_at 4 
 
 -- naturals with that rule, and behind it a sort that is named Nat once more
 abbrev pub nat_twice : RawSpec
-nat_twice = record {
-  sorts = nat_sort ∷ record { head = name_at (codes "Nat") 9; constructors = [] }
-      ∷ [];
-  funs = plus_function ∷ [];
-  rules = loose_rule ∷ [];
-  goals = [];
-}
+nat_twice =
+    let again : RawSort = record { head = name_at (codes "Nat") 9; constructors = [] } in
+    format_one (nat_sort ∷ again ∷ []) (plus_function ∷ []) (loose_rule ∷ []) []
 
 pub record WorkedExamples : Type 0 where
   -- raw naturals stand for naturals

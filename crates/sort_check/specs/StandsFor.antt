@@ -1,10 +1,11 @@
 -- The specification that a raw one stands for.
-use Rattle.std.specs.Prelude.{[]}
+use Rattle.std.specs.Prelude.{◌≡◌, []}
 use Rattle.std.specs.List.{AllZip}
 use Rattle.term_core.specs.Tree.{Tree}
 use Rattle.spec_core.specs.declared.records.Spec.{Spec}
 use Rattle.spec_core.specs.Sig.{Sig}
 use Rattle.spec_core.specs.Declarations.{IsDeclared}
+use Rattle.spec_core.specs.Orders.{order_by_number}
 use Rattle.spec_core.specs.WellSorted.{GoalNamesAreDistinct}
 use Rattle.spec_grammar.specs.RawTree.{RawTree}
 use Rattle.spec_grammar.specs.declared.raw.RawSpec.{RawSpec}
@@ -14,10 +15,12 @@ use Rattle.sort_check.specs.Rules.{RuleStands}
 use Rattle.sort_check.specs.Goals.{GoalStands}
 use Rattle.sort_check.specs.FirstFault.{HasNoFault, TermHasNoFault}
 
--- each declaration stands for that of the same number; names of sorts, of symbols and of goals are distinct, and each sort has a small value
+-- each declaration stands for that of the same number; names of sorts, of symbols and of goals are distinct, each sort has
+-- a small value, and symbols are ordered by number
 pub record IsNumbered (raw : RawSpec) (spec : Spec) : Type 0 where
   pub signature : SignatureStands raw spec.sig
   pub declared : IsDeclared spec.sig
+  pub order : spec.order ≡ order_by_number spec.sig
   pub rules : AllZip (RuleStands spec.sig) raw.rules spec.rules
   pub goals : AllZip (GoalStands spec.sig) raw.goals spec.goals
   pub names : GoalNamesAreDistinct spec.goals

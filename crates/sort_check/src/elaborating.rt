@@ -18,14 +18,15 @@ use crate::faults::{Part, SortFault, SortKind};
 use crate::goals::goals_of;
 use crate::rules::rules_of;
 use crate::walk::Walk;
-use spec_core::{Signature, Spec};
+use spec_core::{Signature, Spec, order_by_number};
 use spec_grammar::{RawSpec, RawTerm};
 use std::alloc::Global;
 use term_core::Term;
 
 /// The specification that a raw one stands for, or the first of its faults: declarations come
 /// before rules, and these before goals. It is well sorted where the raw one keeps the limits of
-/// the grammar, as each one that a text derives does.
+/// the grammar, as each one that a text derives does. A symbol of more than 255 arguments is
+/// answered as want of memory.
 pub fn elaborate(alloc: Global, raw: &RawSpec) -> Result<Spec, SortFault>
     requires few { HasFewDeclarations raw.now }
     ensures stands { IfOk result (StandsFor raw.now) }
@@ -62,7 +63,13 @@ fn spec_of(alloc: Global, raw: &RawSpec) -> Result<Spec, SortFault>
     let sig = signature_of(alloc, raw)?;
     let rules = rules_of(alloc, &sig, raw.rules.as_slice())?;
     let goals = goals_of(alloc, &sig, raw.goals.as_slice())?;
-    Ok(Spec { sig, rules, goals })
+    let order = order_by_number(alloc, &sig)?;
+    Ok(Spec {
+        sig,
+        order,
+        rules,
+        goals,
+    })
 }
 
 fn ground_term(alloc: Global, sig: &Signature, raw: &RawTerm) -> Result<Term, SortFault>

@@ -17,7 +17,8 @@ pub fn accepted_are_true<O: TermOrder>(order: &O)
 pub fn worked_examples()
     ensures { WorkedExamples }
 {
-    accepted_are_true(&Lpo::by_number());
+    let order = Lpo::by_number();
+    accepted_are_true(&order);
     acceptance::worked_examples();
     clause_core::worked_examples();
     spec_core::worked_examples();

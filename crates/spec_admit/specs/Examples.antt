@@ -4,7 +4,8 @@ use Rattle.term_core.specs.Tree.{var, app, none}
 use Rattle.spec_core.specs.declared.records.Guard.{Guard}
 use Rattle.spec_core.specs.declared.records.Rule.{Rule}
 use Rattle.spec_core.specs.declared.records.Spec.{Spec}
-use Rattle.spec_core.specs.Naturals.{naturals_sig, variable, plus_succ_rule, zero_term, succ_term, plus_term}
+use Rattle.spec_core.specs.Naturals.{naturals, variable, plus_succ_rule, zero_term, succ_term, plus_term}
+use Rattle.term_core.specs.Precedence.{by_number}
 use Rattle.path_order.specs.Above.{Above}
 use Rattle.overlap_check.specs.Examples.{same_second, two_zeros}
 use Rattle.spec_admit.specs.FirstFault.{Tells}
@@ -20,7 +21,7 @@ growing_rule = record {
 }
 
 abbrev pub growing : Spec
-growing = record { sig = naturals_sig; rules = growing_rule ∷ []; goals = [] }
+growing = record naturals { rules = growing_rule ∷ []; goals = [] }
 
 -- rule plus(x, y) = x if true, with no rule for the other case
 abbrev pub if_true : Guard
@@ -35,20 +36,20 @@ half_rule = record {
 }
 
 abbrev pub half : Spec
-half = record { sig = naturals_sig; rules = half_rule ∷ []; goals = [] }
+half = record naturals { rules = half_rule ∷ []; goals = [] }
 
 -- plus with no rule for zero
 abbrev pub without_zero : Spec
-without_zero = record { sig = naturals_sig; rules = plus_succ_rule ∷ []; goals = [] }
+without_zero = record naturals { rules = plus_succ_rule ∷ []; goals = [] }
 
 pub record WorkedExamples : Type 0 where
   -- plus(x, x) has x twice, after plus(zero, y)
-  pub linear : Tells Above same_second (Linear 2 (codes "x"))
+  pub linear : Tells (Above by_number) same_second (Linear 2 (codes "x"))
   -- the right side of the rule that doesn't end isn't below its left side
-  pub order : Tells Above growing (Order 1 0)
+  pub order : Tells (Above by_number) growing (Order 1 0)
   -- (zero, zero) match plus(zero, y) and plus(x, zero)
-  pub overlap : Tells Above two_zeros (Overlap 1 2 (zero_term ∷ zero_term ∷ []))
+  pub overlap : Tells (Above by_number) two_zeros (Overlap 1 2 (zero_term ∷ zero_term ∷ []))
   -- nothing is said where the test isn't true
-  pub guards : Tells Above half (Guards 1)
+  pub guards : Tells (Above by_number) half (Guards 1)
   -- where there is no rule for zero, (zero, zero) is named as missing for plus, whose number is 4
-  pub coverage : Tells Above without_zero (Coverage (record { 0 = 4 }) (zero_term ∷ zero_term ∷ []))
+  pub coverage : Tells (Above by_number) without_zero (Coverage (record { 0 = 4 }) (zero_term ∷ zero_term ∷ []))

@@ -3,17 +3,17 @@ ghost use Rattle.spec_admit.specs.Laws.{FirstOfItsGroup, NoFaultWhereAdmitted, O
 
 use path_order::TermOrder;
 
-/// An admitted specification has no fault.
-pub fn no_fault_where_admitted<O: TermOrder>(order: &O)
-    ensures { NoFaultWhereAdmitted (O.above order.now) }
+/// By each order, an admitted specification has no fault.
+pub fn no_fault_where_admitted<O: TermOrder>()
+    ensures { (o : O) → NoFaultWhereAdmitted (O.above o) }
 {
     overlap_check::one_answer();
     overlap_check::both_overlap();
 }
 
-/// A specification has at most one first fault.
-pub fn one_fault<O: TermOrder>(order: &O)
-    ensures { OneFault (O.above order.now) }
+/// By each order, a specification has at most one first fault.
+pub fn one_fault<O: TermOrder>()
+    ensures { (o : O) → OneFault (O.above o) }
 {
     overlap_check::one_answer();
     overlap_check::both_overlap();

@@ -3,8 +3,8 @@
 //! It stands on clause_core for what is asked of an admitted specification, on path_order for the
 //! order's test, and on overlap_check and coverage_check for their tests and the values that they
 //! name. `specs/FirstFault.antt` says which fault is the first. The layers above use that a value of
-//! [`Admitted`] is a well sorted specification that is admitted by its own order, and that [`admit`]
-//! refuses with the first fault.
+//! [`Admitted`] is a well sorted specification that is admitted by the order with it, and that
+//! [`admit`] refuses with the first fault.
 #![tactic(auto)]
 
 mod admitted;

@@ -1,5 +1,5 @@
 -- What an instance tells of the entries, and what the entries tell of an instance.
-use Rattle.std.proofs.Common.{◌≡◌, ℕ, List, [], ◌∷◌, Some, inl, inr, refl, ap, sym, ◌∙◌}
+use Rattle.std.proofs.Common.{◌≡◌, ℕ, List, [], ◌∷◌, Some, inl, inr, sym, ◌∙◌}
 use Rattle.std.specs.Prelude.{slice_get}
 use Rattle.term_core.specs.Tree.{Tree, Trees, var, app, none, some, instance, instances}
 use Rattle.term_core.specs.declared.ids.SortId.{SortId}

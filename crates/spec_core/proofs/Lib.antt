@@ -15,6 +15,7 @@ pub mod Rounds
 pub mod SmallValues
 pub mod Ranges
 pub mod SortedNaturals
+pub mod ByNumber
 pub mod SmallShapes
 mod Covered
 pub mod Findings

@@ -12,6 +12,7 @@ use Rattle.spec_core.specs.Small.{HasSmallValue, AllHaveSmallValues, IsFirstWith
 use Rattle.spec_core.specs.Declarations.{AreFresh, IsDeclared, bool_symbol}
 use Rattle.term_core.specs.Variables.{Occurs}
 use Rattle.spec_core.specs.WellSorted.{RuleIsSorted, GoalIsSorted, GoalNamesAreDistinct, IsWellSorted, HasFewArguments}
+use Rattle.spec_core.proofs.ByNumber.{is_order_by_number}
 use Rattle.spec_core.specs.Naturals.{nat, declares, nat_sorts, nat_constructors, nat_function, naturals_sig, repeated_sig, endless_sig, naturals, twice, plus_zero_rule, plus_succ_rule, loose_rule, same_goal, unit_goal, mixed_goal, zero_term, plus_term}
 use Rattle.term_core.proofs.Items.{all_at}
 
@@ -177,6 +178,7 @@ names_differ (suc (suc j)) k g h a b e = absurd (let q : None ≡ Some g = a in 
 
 pub well_sorted : IsWellSorted naturals
 well_sorted = record {
+  order = is_order_by_number naturals_sig;
   signature = declared;
   arities = few_arguments;
   rules = all_at (RuleIsSorted naturals_sig) naturals.rules (zero_rule_is_sorted, (succ_rule_is_sorted, tt));

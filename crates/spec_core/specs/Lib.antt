@@ -3,6 +3,7 @@ pub mod Sig
 pub mod Sorts
 pub mod Small
 pub mod Declarations
+pub mod Orders
 pub mod WellSorted
 pub mod RuleSizes
 pub mod Gives

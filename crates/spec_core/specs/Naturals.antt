@@ -9,6 +9,7 @@ use Rattle.spec_core.specs.declared.records.Goal.{Goal}
 use Rattle.spec_core.specs.declared.records.Spec.{Spec}
 use Rattle.spec_core.specs.Sig.{Sig}
 use Rattle.spec_core.specs.Declarations.{declared_by}
+use Rattle.spec_core.specs.Orders.{order_by_number}
 
 abbrev pub nat : SortId
 nat = record { 0 = 1 }
@@ -119,17 +120,14 @@ mixed_goal = record {
 abbrev pub naturals : Spec
 naturals = record {
   sig = naturals_sig;
+  order = order_by_number naturals_sig;
   rules = plus_zero_rule ∷ plus_succ_rule ∷ [];
   goals = same_goal ∷ unit_goal ∷ [];
 }
 
 -- two goals of one name
 abbrev pub twice : Spec
-twice = record {
-  sig = naturals_sig;
-  rules = plus_zero_rule ∷ plus_succ_rule ∷ [];
-  goals = same_goal ∷ same_goal ∷ [];
-}
+twice = record naturals { goals = same_goal ∷ same_goal ∷ [] }
 
 -- rule plus(x, y) = x, whose left side every call of plus matches
 abbrev pub plus_any_rule : Rule
@@ -141,8 +139,8 @@ plus_any_rule = record {
 }
 
 abbrev pub overlapping : Spec
-overlapping = record { sig = naturals_sig; rules = plus_zero_rule ∷ plus_any_rule ∷ []; goals = [] }
+overlapping = record naturals { rules = plus_zero_rule ∷ plus_any_rule ∷ []; goals = [] }
 
 -- plus with no rule for a successor
 abbrev pub uncovered : Spec
-uncovered = record { sig = naturals_sig; rules = plus_zero_rule ∷ []; goals = [] }
+uncovered = record naturals { rules = plus_zero_rule ∷ []; goals = [] }

@@ -13,6 +13,7 @@ use Rattle.spec_core.specs.declared.records.Goal.{Goal}
 use Rattle.spec_core.specs.declared.records.Equation.{Equation}
 use Rattle.spec_core.specs.Sig.{Sig, info_of, IsConstructor, IsSort}
 use Rattle.spec_core.specs.Sorts.{Sorted}
+use Rattle.spec_core.specs.Orders.{IsOrderOf}
 use Rattle.spec_core.specs.Declarations.{IsDeclared, bool_sort}
 
 -- the symbols of a pattern are constructors
@@ -74,6 +75,7 @@ GoalNamesAreDistinct goals = (j k : ℕ) (g h : Goal) → slice_get goals j ≡ 
     → slice_get goals k ≡ Some h → g.name ≡ h.name → j ≡ k
 
 pub record IsWellSorted (spec : Spec) : Type 0 where
+  pub order : IsOrderOf spec.sig spec.order
   pub signature : IsDeclared spec.sig
   pub arities : HasFewArguments spec.sig
   pub rules : (k : ℕ) (rule : Rule) → slice_get spec.rules k ≡ Some rule

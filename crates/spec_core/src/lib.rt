@@ -10,6 +10,7 @@
 
 mod building;
 mod laws;
+mod orders;
 mod printing;
 mod records;
 mod rule_table;
@@ -20,8 +21,9 @@ mod tables;
 
 pub use building::BuildError;
 pub use laws::{one_small_value, one_value, worked_examples};
+pub use orders::order_by_number;
 pub use printing::append_decimal;
-pub use records::{Equation, Goal, Guard, Rule, Spec, SymInfo, VarInfo, Verdict};
+pub use records::{Equation, Goal, Guard, OrderInfo, Rule, Spec, SymInfo, VarInfo, Verdict};
 pub use rule_table::RuleTable;
 pub use small::SMALL_VALUE_SYMBOLS;
 pub use symbols::Signature;

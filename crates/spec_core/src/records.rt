@@ -46,9 +46,21 @@ pub struct Goal {
     pub conclusions: Seq<Equation>,
 }
 
+/// How the terms of a specification are ordered.
+#[derive(Drop)]
+pub enum OrderInfo {
+    /// By the path ordering: the level of each symbol, and the numbers of its arguments, from 1, in
+    /// the order in which they are compared.
+    Path {
+        levels: Seq<u32>,
+        statuses: Seq<Seq<u8>>,
+    },
+}
+
 #[derive(Drop)]
 pub struct Spec {
     pub sig: Signature,
+    pub order: OrderInfo,
     pub rules: Seq<Rule>,
     pub goals: Seq<Goal>,
 }

@@ -1,7 +1,7 @@
 -- A stack takes each token of a text with the limit that the grammar marks it with.
 use Rattle.std.proofs.Common.{◌≡◌, ◌≢◌, ℕ, suc, ◌+◌, List, [], ◌∷◌, ◌++◌, ◌⊎◌, inl, inr, Option, None, Bool, true, false, length, refl, ap, sym, subst, ◌∙◌, add-one, arith}
 use Rattle.spec_grammar.specs.declared.keys.Key.{Key}
-use Rattle.spec_grammar.specs.declared.keys.Key.TheVariants.{Spike, Sort, Fun, Rule, Goal, If, Unless, One, LeftPar, RightPar, Comma, Colon, Equals, Bar, Arrow}
+use Rattle.spec_grammar.specs.declared.keys.Key.TheVariants.{Spike, Sort, Fun, Rule, Goal, If, Unless, LeftPar, RightPar, Comma, Colon, Equals, Bar, Arrow}
 use Rattle.spec_grammar.specs.declared.limits.LimitKind.{LimitKind}
 use Rattle.spec_grammar.specs.declared.raw.RawName.{RawName}
 use Rattle.spec_grammar.specs.declared.raw.RawNames.{RawNames}
@@ -14,10 +14,10 @@ use Rattle.spec_grammar.specs.declared.raw.RawBind.{RawBind}
 use Rattle.spec_grammar.specs.declared.raw.RawGoal.{RawGoal}
 use Rattle.spec_grammar.specs.declared.raw.RawSpec.{RawSpec}
 use Rattle.spec_grammar.specs.RawTree.{RawTree, RawTrees, word, none, some}
-use Rattle.spec_grammar.specs.Items.{Item, Word, Sign}
+use Rattle.spec_grammar.specs.Items.{Item, Word, Sign, Number}
 use Rattle.spec_grammar.specs.Limits.{name_mark, sort_mark, constructor_mark, fun_mark, arity_mark, term_mark, rule_mark, guard_mark, goal_mark, variable_mark, premise_mark, conclusion_mark}
-use Rattle.spec_grammar.specs.Grammar.{Marked, sign, term_text, args_text, more_text, more_names_text, names_text, con_text, constructors_text, AreSorts, funs_text, guard_key, guards_text, sides_text, rules_text, commas_text, premises_text, bars_text, conclusions_text, IsClause, bind_text, more_binds_text, binds_text, AreGoals, IsSpecText, IsTermText}
-use Rattle.spec_grammar.specs.Symbols.{Symbol, key, name, args, more, names, more_names, sorts, funs, rules, guards, goals, binds, more_binds, clause, tail, commas, conclusions, bars, pass, react, react_key, react_word, term_then, right_then, sides_then, bind_then, take, is_empty, spec_symbols, term_symbols}
+use Rattle.spec_grammar.specs.Grammar.{Marked, sign, number, term_text, args_text, more_text, more_names_text, names_text, con_text, constructors_text, AreSorts, funs_text, guard_key, guards_text, sides_text, rules_text, commas_text, premises_text, bars_text, conclusions_text, IsClause, bind_text, more_binds_text, binds_text, AreGoals, IsFormat, definitions_text, IsSpecText, IsTermText}
+use Rattle.spec_grammar.specs.Symbols.{Symbol, key, name, args, more, names, more_names, format, body, sorts, funs, rules, guards, goals, binds, more_binds, clause, tail, commas, conclusions, bars, pass, react, react_key, react_word, term_then, right_then, sides_then, bind_then, take, is_empty, spec_symbols, term_symbols}
 use Rattle.spec_grammar.proofs.Stacks.{Agrees, Skips, agrees_take, agrees_pass}
 
 -- the stack agrees with the text, as a record, so that its parts are found
@@ -61,21 +61,21 @@ pub head_goals : (n : ℕ) (gs : List RawGoal) (w : List Marked) → AreGoals n 
 head_goals n [] w h = subst (HeadIn (Goal ∷ [])) (sym h) tt
 head_goals n (g ∷ gs) w h = subst (HeadIn (Goal ∷ [])) (sym h.2) (inl refl)
 
-pub head_rules : (n : ℕ) (rs : List RawRule) (v : List Marked) → HeadIn (Goal ∷ []) v → HeadIn (Rule ∷ Goal ∷ []) (rules_text n rs v)
-head_rules n [] v h = wider Rule (Goal ∷ []) v h
-head_rules n (r ∷ rs) v h = inl refl
+pub head_rules : (version n : ℕ) (rs : List RawRule) (v : List Marked) → HeadIn (Goal ∷ []) v → HeadIn (Rule ∷ Goal ∷ []) (rules_text version n rs v)
+head_rules version n [] v h = wider Rule (Goal ∷ []) v h
+head_rules version n (r ∷ rs) v h = inl refl
 
-pub head_funs : (n : ℕ) (fs : List RawFun) (v : List Marked) → HeadIn (Rule ∷ Goal ∷ []) v → HeadIn (Fun ∷ Rule ∷ Goal ∷ []) (funs_text n fs v)
-head_funs n [] v h = wider Fun (Rule ∷ Goal ∷ []) v h
-head_funs n (f ∷ fs) v h = inl refl
+pub head_funs : (version n : ℕ) (fs : List RawFun) (v : List Marked) → HeadIn (Rule ∷ Goal ∷ []) v → HeadIn (Fun ∷ Rule ∷ Goal ∷ []) (funs_text version n fs v)
+head_funs version n [] v h = wider Fun (Rule ∷ Goal ∷ []) v h
+head_funs version n (f ∷ fs) v h = inl refl
 
-pub head_sorts : (n t : ℕ) (ss : List RawSort) (w v : List Marked) → HeadIn (Fun ∷ Rule ∷ Goal ∷ []) v → AreSorts n t ss w v → HeadIn (Sort ∷ Fun ∷ Rule ∷ Goal ∷ []) w
-head_sorts n t [] w v h e = subst (HeadIn (Sort ∷ Fun ∷ Rule ∷ Goal ∷ [])) (sym e) (wider Sort (Fun ∷ Rule ∷ Goal ∷ []) v h)
-head_sorts n t (s ∷ ss) w v h e = subst (HeadIn (Sort ∷ Fun ∷ Rule ∷ Goal ∷ [])) (sym e.4) (inl refl)
+pub head_sorts : (version n t : ℕ) (ss : List RawSort) (w v : List Marked) → HeadIn (Fun ∷ Rule ∷ Goal ∷ []) v → AreSorts version n t ss w v → HeadIn (Sort ∷ Fun ∷ Rule ∷ Goal ∷ []) w
+head_sorts version n t [] w v h e = subst (HeadIn (Sort ∷ Fun ∷ Rule ∷ Goal ∷ [])) (sym e) (wider Sort (Fun ∷ Rule ∷ Goal ∷ []) v h)
+head_sorts version n t (s ∷ ss) w v h e = subst (HeadIn (Sort ∷ Fun ∷ Rule ∷ Goal ∷ [])) (sym e.4) (inl refl)
 
-pub head_constructors : (k t : ℕ) (cs : List RawNames) (v : List Marked) → HeadIn (Sort ∷ Fun ∷ Rule ∷ Goal ∷ []) v → HeadIn (Bar ∷ Sort ∷ Fun ∷ Rule ∷ Goal ∷ []) (constructors_text k t cs v)
-head_constructors k t [] v h = wider Bar (Sort ∷ Fun ∷ Rule ∷ Goal ∷ []) v h
-head_constructors k t (c ∷ cs) v h = inl refl
+pub head_constructors : (version k t : ℕ) (cs : List RawNames) (v : List Marked) → HeadIn (Sort ∷ Fun ∷ Rule ∷ Goal ∷ []) v → HeadIn (Bar ∷ Sort ∷ Fun ∷ Rule ∷ Goal ∷ []) (constructors_text version k t cs v)
+head_constructors version k t [] v h = wider Bar (Sort ∷ Fun ∷ Rule ∷ Goal ∷ []) v h
+head_constructors version k t (c ∷ cs) v h = inl refl
 
 head_guard : (b : Bool) → BeginsIn (If ∷ Unless ∷ Rule ∷ Goal ∷ []) (Sign (guard_key b))
 head_guard true = inl refl
@@ -150,46 +150,46 @@ guards_agree n [] st v h e = fits_pass (guards n) st v (skips (guards n) (Rule �
 guards_agree n (g ∷ gs) st v h e =
     guard_takes n g.wanted st _ (term_agrees 0 None g.test (guards (n + 1) ∷ st) (guards_text (n + 1) gs v) (guards_agree (n + 1) gs st v h e) (skips (args 0) (If ∷ Unless ∷ Rule ∷ Goal ∷ []) _ refl (refl, (refl, (refl, (refl, tt)))) (head_guards (n + 1) gs v e)))
 
-rules_agree : (n : ℕ) (rs : List RawRule) (st : List Symbol) (v : List Marked) → Fits st v → HeadIn (Goal ∷ []) v → Fits (rules n ∷ st) (rules_text n rs v)
-rules_agree n [] st v h e = fits_pass (rules n) st v (skips (rules n) (Goal ∷ []) v refl (refl, tt) e) h
-rules_agree n (r ∷ rs) st v h e =
-    let others = rules_agree (n + 1) rs st v h e in
-    let head = head_rules (n + 1) rs v e in
-    let tests = guards_agree 0 r.guards (rules (n + 1) ∷ st) (rules_text (n + 1) rs v) others head in
-    fits_take (rules n) st (sides_then None (guards 0 ∷ rules (n + 1) ∷ [])) (Sign Rule) (rule_mark n) _ refl (sides_agree None r.left r.right (guards 0 ∷ rules (n + 1) ∷ st) _ tests (skips (args 0) (If ∷ Unless ∷ Rule ∷ Goal ∷ []) _ refl (refl, (refl, (refl, (refl, tt)))) (head_guards 0 r.guards _ head)))
+rules_agree : (version n : ℕ) (rs : List RawRule) (st : List Symbol) (v : List Marked) → Fits st v → HeadIn (Goal ∷ []) v → Fits (rules version n ∷ st) (rules_text version n rs v)
+rules_agree version n [] st v h e = fits_pass (rules version n) st v (skips (rules version n) (Goal ∷ []) v refl (refl, tt) e) h
+rules_agree version n (r ∷ rs) st v h e =
+    let others = rules_agree version (n + 1) rs st v h e in
+    let head = head_rules version (n + 1) rs v e in
+    let tests = guards_agree 0 r.guards (rules version (n + 1) ∷ st) (rules_text version (n + 1) rs v) others head in
+    fits_take (rules version n) st (sides_then None (guards 0 ∷ rules version (n + 1) ∷ [])) (Sign Rule) (rule_mark version n) _ refl (sides_agree None r.left r.right (guards 0 ∷ rules version (n + 1) ∷ st) _ tests (skips (args 0) (If ∷ Unless ∷ Rule ∷ Goal ∷ []) _ refl (refl, (refl, (refl, (refl, tt)))) (head_guards 0 r.guards _ head)))
 
-funs_agree : (n : ℕ) (fs : List RawFun) (st : List Symbol) (v : List Marked) → Fits st v → HeadIn (Rule ∷ Goal ∷ []) v → Fits (funs n ∷ st) (funs_text n fs v)
-funs_agree n [] st v h e = fits_pass (funs n) st v (skips (funs n) (Rule ∷ Goal ∷ []) v refl (refl, (refl, tt)) e) h
-funs_agree n (f ∷ fs) st v h e =
-    let others = funs_agree (n + 1) fs st v h e in
-    let result = fits_take (key Colon) (name None ∷ funs (n + 1) ∷ st) [] (Sign Colon) None _ refl (fits_take (name None) (funs (n + 1) ∷ st) [] (Word f.result.name f.result.at) _ _ refl others) in
-    fits_take (funs n) st _ (Sign Fun) (fun_mark n) _ refl (con_agrees None f.head (key Colon ∷ name None ∷ funs (n + 1) ∷ st) _ result refl)
+funs_agree : (version n : ℕ) (fs : List RawFun) (st : List Symbol) (v : List Marked) → Fits st v → HeadIn (Rule ∷ Goal ∷ []) v → Fits (funs version n ∷ st) (funs_text version n fs v)
+funs_agree version n [] st v h e = fits_pass (funs version n) st v (skips (funs version n) (Rule ∷ Goal ∷ []) v refl (refl, (refl, tt)) e) h
+funs_agree version n (f ∷ fs) st v h e =
+    let others = funs_agree version (n + 1) fs st v h e in
+    let result = fits_take (key Colon) (name None ∷ funs version (n + 1) ∷ st) [] (Sign Colon) None _ refl (fits_take (name None) (funs version (n + 1) ∷ st) [] (Word f.result.name f.result.at) _ _ refl others) in
+    fits_take (funs version n) st _ (Sign Fun) (fun_mark version n) _ refl (con_agrees None f.head (key Colon ∷ name None ∷ funs version (n + 1) ∷ st) _ result refl)
 
 -- constructors and sorts
-sort_follows : (n k t : ℕ) (v : List Marked) → HeadIn (Fun ∷ Rule ∷ Goal ∷ []) v → Skips (sorts n k t) v
-sort_follows n k t v h = skips (sorts n k t) (Fun ∷ Rule ∷ Goal ∷ []) v refl (refl, (refl, (refl, tt))) h
+sort_follows : (version n k t : ℕ) (v : List Marked) → HeadIn (Fun ∷ Rule ∷ Goal ∷ []) v → Skips (sorts version n k t) v
+sort_follows version n k t v h = skips (sorts version n k t) (Fun ∷ Rule ∷ Goal ∷ []) v refl (refl, (refl, (refl, tt))) h
 
-constructors_agree : (n k t : ℕ) (cs : List RawNames) (st : List Symbol) (v : List Marked) → HeadIn (Sort ∷ Fun ∷ Rule ∷ Goal ∷ []) v → ((j : ℕ) → Fits (sorts n j (t + length cs) ∷ st) v) → Fits (sorts n (suc k) t ∷ st) (constructors_text (suc k) t cs v)
-constructors_agree n k t [] st v e h = subst (λ (u : ℕ). Fits (sorts n (suc k) u ∷ st) v) (omega arith) (h (suc k))
-constructors_agree n k t (c ∷ cs) st v e h =
+constructors_agree : (version n k t : ℕ) (cs : List RawNames) (st : List Symbol) (v : List Marked) → HeadIn (Sort ∷ Fun ∷ Rule ∷ Goal ∷ []) v → ((j : ℕ) → Fits (sorts version n j (t + length cs) ∷ st) v) → Fits (sorts version n (suc k) t ∷ st) (constructors_text version (suc k) t cs v)
+constructors_agree version n k t [] st v e h = subst (λ (u : ℕ). Fits (sorts version n (suc k) u ∷ st) v) (omega arith) (h (suc k))
+constructors_agree version n k t (c ∷ cs) st v e h =
     let sum : t + length (c ∷ cs) ≡ t + 1 + length cs = omega arith in
-    let others : Fits (sorts n (suc (suc k)) (t + 1) ∷ st) (constructors_text (suc (suc k)) (t + 1) cs v) = constructors_agree n (suc k) (t + 1) cs st v e (λ j. subst (λ (u : ℕ). Fits (sorts n j u ∷ st) v) sum (h j)) in
-    let next : Fits (sorts n (suc (suc k)) (t + 1) ∷ st) (constructors_text (suc k + 1) (t + 1) cs v) = subst (λ (u : ℕ). Fits (sorts n (suc (suc k)) (t + 1) ∷ st) (constructors_text u (t + 1) cs v)) (sym (add-one (suc k))) others in
-    fits_take (sorts n (suc k) t) st _ (Sign Bar) None _ refl (con_agrees (constructor_mark (suc k) t) c (sorts n (suc (suc k)) (t + 1) ∷ st) _ next (skips names (Bar ∷ Sort ∷ Fun ∷ Rule ∷ Goal ∷ []) _ refl (refl, (refl, (refl, (refl, (refl, tt))))) (head_constructors (suc k + 1) (t + 1) cs v e)))
+    let others : Fits (sorts version n (suc (suc k)) (t + 1) ∷ st) (constructors_text version (suc (suc k)) (t + 1) cs v) = constructors_agree version n (suc k) (t + 1) cs st v e (λ j. subst (λ (u : ℕ). Fits (sorts version n j u ∷ st) v) sum (h j)) in
+    let next : Fits (sorts version n (suc (suc k)) (t + 1) ∷ st) (constructors_text version (suc k + 1) (t + 1) cs v) = subst (λ (u : ℕ). Fits (sorts version n (suc (suc k)) (t + 1) ∷ st) (constructors_text version u (t + 1) cs v)) (sym (add-one (suc k))) others in
+    fits_take (sorts version n (suc k) t) st _ (Sign Bar) None _ refl (con_agrees (constructor_mark version (suc k) t) c (sorts version n (suc (suc k)) (t + 1) ∷ st) _ next (skips names (Bar ∷ Sort ∷ Fun ∷ Rule ∷ Goal ∷ []) _ refl (refl, (refl, (refl, (refl, (refl, tt))))) (head_constructors version (suc k + 1) (t + 1) cs v e)))
 
-sorts_agree : (n k t : ℕ) (ss : List RawSort) (st : List Symbol) (w v : List Marked) → Fits st v → HeadIn (Fun ∷ Rule ∷ Goal ∷ []) v → AreSorts n t ss w v → Fits (sorts n k t ∷ st) w
-sorts_agree n k t [] st w v h e a = subst (Fits (sorts n k t ∷ st)) (sym a) (fits_pass (sorts n k t) st v (sort_follows n k t v e) h)
-sorts_agree n k t (s ∷ ss) st w v h e a =
+sorts_agree : (version n k t : ℕ) (ss : List RawSort) (st : List Symbol) (w v : List Marked) → Fits st v → HeadIn (Fun ∷ Rule ∷ Goal ∷ []) v → AreSorts version n t ss w v → Fits (sorts version n k t ∷ st) w
+sorts_agree version n k t [] st w v h e a = subst (Fits (sorts version n k t ∷ st)) (sym a) (fits_pass (sorts version n k t) st v (sort_follows version n k t v e) h)
+sorts_agree version n k t (s ∷ ss) st w v h e a =
     let first = a.0 in
     let others = a.1 in
     let after = a.2 in
-    let next : (j : ℕ) → Fits (sorts (n + 1) j (t + 1 + length others) ∷ st) after = λ j. sorts_agree (n + 1) j (t + 1 + length others) ss st after v h e a.5 in
-    let head = head_sorts (n + 1) (t + 1 + length others) ss after v e a.5 in
-    let rest : Fits (sorts (n + 1) 1 (t + 1) ∷ st) (constructors_text 1 (t + 1) others after) = constructors_agree (n + 1) 0 (t + 1) others st after head next in
-    let con = con_agrees (constructor_mark 0 t) first (sorts (n + 1) 1 (t + 1) ∷ st) _ rest (skips names (Bar ∷ Sort ∷ Fun ∷ Rule ∷ Goal ∷ []) _ refl (refl, (refl, (refl, (refl, (refl, tt))))) (head_constructors 1 (t + 1) others after head)) in
-    let equals = fits_take (key Equals) (name (constructor_mark 0 t) ∷ names ∷ sorts (n + 1) 1 (t + 1) ∷ st) [] (Sign Equals) None _ refl con in
-    let named = fits_take (name None) (key Equals ∷ name (constructor_mark 0 t) ∷ names ∷ sorts (n + 1) 1 (t + 1) ∷ st) [] (Word s.head.name s.head.at) _ _ refl equals in
-    subst (Fits (sorts n k t ∷ st)) (sym a.4) (fits_take (sorts n k t) st _ (Sign Sort) (sort_mark n) _ refl named)
+    let next : (j : ℕ) → Fits (sorts version (n + 1) j (t + 1 + length others) ∷ st) after = λ j. sorts_agree version (n + 1) j (t + 1 + length others) ss st after v h e a.5 in
+    let head = head_sorts version (n + 1) (t + 1 + length others) ss after v e a.5 in
+    let rest : Fits (sorts version (n + 1) 1 (t + 1) ∷ st) (constructors_text version 1 (t + 1) others after) = constructors_agree version (n + 1) 0 (t + 1) others st after head next in
+    let con = con_agrees (constructor_mark version 0 t) first (sorts version (n + 1) 1 (t + 1) ∷ st) _ rest (skips names (Bar ∷ Sort ∷ Fun ∷ Rule ∷ Goal ∷ []) _ refl (refl, (refl, (refl, (refl, (refl, tt))))) (head_constructors version 1 (t + 1) others after head)) in
+    let equals = fits_take (key Equals) (name (constructor_mark version 0 t) ∷ names ∷ sorts version (n + 1) 1 (t + 1) ∷ st) [] (Sign Equals) None _ refl con in
+    let named = fits_take (name None) (key Equals ∷ name (constructor_mark version 0 t) ∷ names ∷ sorts version (n + 1) 1 (t + 1) ∷ st) [] (Word s.head.name s.head.at) _ _ refl equals in
+    subst (Fits (sorts version n k t ∷ st)) (sym a.4) (fits_take (sorts version n k t) st _ (Sign Sort) (sort_mark n) _ refl named)
 
 -- clauses
 args_before : (ks : List Key) (v : List Marked) → PassAll (args 0) ks → HeadIn ks v → Skips (args 0) v
@@ -263,15 +263,23 @@ goals_agree n (g ∷ gs) w h =
     let named = fits_take (name None) (binds ∷ key Colon ∷ clause ∷ goals (n + 1) ∷ []) [] (Word g.head.name g.head.at) _ _ refl bound in
     subst (Fits (goals n ∷ [])) (sym h.2) (fits_take (goals n) [] _ (Sign Goal) (goal_mark n) _ refl named)
 
+-- a format that there is begins its declarations
+format_takes : (raw : RawSpec) → IsFormat raw → react format (Number raw.version) ≡ take None (body raw.version)
+format_takes raw e = rw e refl
+
 pub spec_agrees : (raw : RawSpec) (w : List Marked) → IsSpecText raw w → Agrees spec_symbols w
 spec_agrees raw w h =
+    let version = raw.version in
     let goals_head = head_goals 0 raw.goals h.1 h.4 in
-    let rules_head = head_rules 0 raw.rules h.1 goals_head in
+    let rules_head = head_rules version 0 raw.rules h.1 goals_head in
     let ends = goals_agree 0 raw.goals h.1 h.4 in
-    let ruled = rules_agree 0 raw.rules (goals 0 ∷ []) h.1 ends goals_head in
-    let declared = funs_agree 0 raw.funs (rules 0 ∷ goals 0 ∷ []) _ ruled rules_head in
-    let sorted = sorts_agree 0 0 0 raw.sorts (funs 0 ∷ rules 0 ∷ goals 0 ∷ []) h.0 _ declared (head_funs 0 raw.funs _ rules_head) h.3 in
-    let whole = fits_take (key Spike) _ [] (Sign Spike) None _ refl (fits_take (key One) (sorts 0 0 0 ∷ funs 0 ∷ rules 0 ∷ goals 0 ∷ []) [] (Sign One) None h.0 refl sorted) in
+    let ruled = rules_agree version 0 raw.rules (goals 0 ∷ []) h.1 ends goals_head in
+    let declared = funs_agree version 0 raw.funs (rules version 0 ∷ goals 0 ∷ []) _ ruled rules_head in
+    let funs_head = head_funs version 0 raw.funs _ rules_head in
+    let after = funs version 0 ∷ rules version 0 ∷ goals 0 ∷ [] in
+    let sorted = sorts_agree version 0 0 0 raw.sorts after h.0 _ declared funs_head h.3 in
+    let numbered = fits_take format [] (body version) (Number version) None h.0 (format_takes raw h.5) sorted in
+    let whole = fits_take (key Spike) (format ∷ []) [] (Sign Spike) None _ refl numbered in
     (subst (Fits spec_symbols) (sym h.2) whole).agrees
 
 pub term_text_agrees : (t : RawTree) (w : List Marked) → IsTermText t w → Agrees term_symbols w

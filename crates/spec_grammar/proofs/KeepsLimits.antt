@@ -1,6 +1,6 @@
 -- What a text derives keeps the limits: none of its tokens has a mark, so that each count of the grammar stays below its limit.
 use Rattle.std.proofs.Common.{◌≡◌, ℕ, ◌+◌, ◌<◌, ◌≤◌, List, [], ◌∷◌, inl, inr, Option, Some, None, Bool, true, false, cond, nat_le, length, refl, ap, sym, subst, arith}
-use Rattle.std.specs.Prelude.{sum_by}
+use Rattle.std.specs.Prelude.{sum_by, ◌==◌}
 use Rattle.std.specs.List.{AllByRecursion}
 use Rattle.std.proofs.lemmas.Bool.{leb-true, leb-false}
 use Rattle.std.proofs.lemmas.List.Sums.{sum_by-cons}
@@ -20,7 +20,7 @@ use Rattle.spec_grammar.specs.declared.raw.RawGoal.{RawGoal}
 use Rattle.spec_grammar.specs.declared.raw.RawSpec.{RawSpec}
 use Rattle.spec_grammar.specs.RawTree.{RawTree, RawTrees, word, none, some}
 use Rattle.spec_grammar.specs.Items.{Item, items_of}
-use Rattle.spec_grammar.specs.Limits.{over, or_else, name_mark, constructor_mark, arity_mark, term_mark, variable_mark}
+use Rattle.spec_grammar.specs.Limits.{most_constructors, most_functions, most_rules, over, or_else, name_mark, constructor_mark, arity_mark, term_mark, variable_mark}
 use Rattle.spec_grammar.specs.Grammar.{Marked, sign, name_text, term_text, args_text, more_text, more_names_text, names_text, con_text, constructors_text, AreSorts, funs_text, guards_text, sides_text, rules_text, commas_text, premises_text, bars_text, conclusions_text, IsClause, bind_text, more_binds_text, binds_text, AreGoals, IsSpecText, IsTermText}
 use Rattle.spec_grammar.specs.Derives.{clean, Derives, TextDerives}
 use Rattle.spec_grammar.specs.KeepsLimits.{raw_depth, raw_depths, raw_count, WordsKeepLimits, AllWordsKeepLimits, TermKeepsLimits, NameKeepsLimits, NamesKeepLimits, SortKeepsLimits, FunctionKeepsLimits, RuleKeepsLimits, EquationKeepsLimits, BindKeepsLimits, GoalKeepsLimits, KeepsLimits}
@@ -53,9 +53,23 @@ name_test false n m e h = absurd (limit_none h)
 name_none : (name : List ℕ) (m : Option LimitKind) → name_mark name m ≡ None → (length name ≤ 64) × (m ≡ None)
 name_none name m h = name_test (nat_le (length name) 64) (length name) m refl h
 
+-- the limits of each format
+one_of : (b : Bool) (m n k : ℕ) → m ≤ k → n ≤ k → cond b m n ≤ k
+one_of true m n k a b = a
+one_of false m n k a b = b
+
+pub few_constructors : (version : ℕ) → most_constructors version ≤ 1000
+few_constructors version = one_of (version == 2) 1000 500 1000 (omega arith) (omega arith)
+
+pub few_functions : (version : ℕ) → most_functions version ≤ 1000
+few_functions version = one_of (version == 2) 1000 500 1000 (omega arith) (omega arith)
+
+pub few_rules : (version : ℕ) → most_rules version ≤ 4000
+few_rules version = one_of (version == 2) 4000 1000 4000 (omega arith) (omega arith)
+
 -- a constructor that passes no limit
-pub constructor_none : (k t : ℕ) → constructor_mark k t ≡ None → (k < 64) × (t < 500)
-constructor_none k t h = let both = or_else_none (over k 64 limit.Constructors) (over t 500 limit.Constructors) h in (over_none k 64 limit.Constructors both.0, over_none t 500 limit.Constructors both.1)
+pub constructor_none : (version k t : ℕ) → constructor_mark version k t ≡ None → (k < 64) × (t < most_constructors version)
+constructor_none version k t h = let both = or_else_none (over k 64 limit.Constructors) (over t (most_constructors version) limit.Constructors) h in (over_none k 64 limit.Constructors both.0, over_none t (most_constructors version) limit.Constructors both.1)
 
 term_none : (d n : ℕ) → term_mark d n ≡ None → (n < 8) × (d < 64)
 term_none d n h = let both = or_else_none (arity_mark n) (over d 64 limit.Nesting) h in (over_none n 8 limit.Arity both.0, over_none d 64 limit.Nesting both.1)
@@ -118,40 +132,40 @@ con_kept m c v h =
     (name.1, record { name = name.0; few_arguments = args.0; arguments = args.1 }, args.2)
 
 -- sorts
-constructors_kept : (k t : ℕ) (cs : List RawNames) (v : List Marked) → k ≤ 64 → t ≤ 500 → HasNoMark (constructors_text k t cs v) → (k + length cs ≤ 64) × (t + length cs ≤ 500) × AllByRecursion NamesKeepLimits cs × HasNoMark v
-constructors_kept k t [] v le few h = (omega arith, omega arith, tt, h)
-constructors_kept k t (c ∷ cs) v le few h =
-    let first = con_kept (constructor_mark k t) c (constructors_text (k + 1) (t + 1) cs v) h.1 in
-    let below = constructor_none k t first.0 in
-    let others = constructors_kept (k + 1) (t + 1) cs v (omega (arith, below.0)) (omega (arith, below.1)) first.2 in
+constructors_kept : (version k t : ℕ) (cs : List RawNames) (v : List Marked) → k ≤ 64 → t ≤ most_constructors version → HasNoMark (constructors_text version k t cs v) → (k + length cs ≤ 64) × (t + length cs ≤ most_constructors version) × AllByRecursion NamesKeepLimits cs × HasNoMark v
+constructors_kept version k t [] v le few h = (omega arith, omega arith, tt, h)
+constructors_kept version k t (c ∷ cs) v le few h =
+    let first = con_kept (constructor_mark version k t) c (constructors_text version (k + 1) (t + 1) cs v) h.1 in
+    let below = constructor_none version k t first.0 in
+    let others = constructors_kept version (k + 1) (t + 1) cs v (omega (arith, below.0)) (omega (arith, below.1)) first.2 in
     (omega (arith, others.0), omega (arith, others.1), (first.1, others.2), others.3)
 
 abbrev in_all : List RawSort → ℕ
 in_all ss = sum_by (λ (s : RawSort). length s.constructors) ss
 
-sorts_kept : (n t : ℕ) (ss : List RawSort) (text v : List Marked) → n ≤ 200 → t ≤ 500 → AreSorts n t ss text v → HasNoMark text → (n + length ss ≤ 200) × (t + in_all ss ≤ 500) × AllByRecursion SortKeepsLimits ss × HasNoMark v
-sorts_kept n t [] text v le few are h = (omega arith, omega arith, tt, subst HasNoMark are h)
-sorts_kept n t (s ∷ ss) text v le few (first, others, after, cs, is, are) h =
+sorts_kept : (version n t : ℕ) (ss : List RawSort) (text v : List Marked) → n ≤ 200 → t ≤ most_constructors version → AreSorts version n t ss text v → HasNoMark text → (n + length ss ≤ 200) × (t + in_all ss ≤ most_constructors version) × AllByRecursion SortKeepsLimits ss × HasNoMark v
+sorts_kept version n t [] text v le few are h = (omega arith, omega arith, tt, subst HasNoMark are h)
+sorts_kept version n t (s ∷ ss) text v le few (first, others, after, cs, is, are) h =
     let marks = subst HasNoMark is h in
     let below = over_none n 200 limit.Sorts marks.0 in
     let name = name_none s.head.name None marks.1.0 in
-    let con = con_kept (constructor_mark 0 t) first (constructors_text 1 (t + 1) others after) marks.1.1.1 in
-    let room = (constructor_none 0 t con.0).1 in
-    let cons = constructors_kept 1 (t + 1) others after (omega arith) (omega (arith, room)) con.2 in
-    let rest = sorts_kept (n + 1) (t + 1 + length others) ss after v (omega (arith, below)) (omega (arith, cons.1)) are cons.3 in
+    let con = con_kept (constructor_mark version 0 t) first (constructors_text version 1 (t + 1) others after) marks.1.1.1 in
+    let room = (constructor_none version 0 t con.0).1 in
+    let cons = constructors_kept version 1 (t + 1) others after (omega arith) (omega (arith, room)) con.2 in
+    let rest = sorts_kept version (n + 1) (t + 1 + length others) ss after v (omega (arith, below)) (omega (arith, cons.1)) are cons.3 in
     let number : length s.constructors ≡ length (first ∷ others) = ap (λ (xs : List RawNames). length xs) cs in
     let sum = sum_by-cons (λ (x : RawSort). length x.constructors) s ss in
     let sort : SortKeepsLimits s = record { name = name.0; few_constructors = omega (arith, number, cons.0); constructors = subst (AllByRecursion NamesKeepLimits) (sym cs) (con.1, cons.2) } in
     (omega (arith, rest.0), omega (arith, rest.1, number, sum), (sort, rest.2), rest.3)
 
 -- functions and rules
-funs_kept : (n : ℕ) (fs : List RawFun) (v : List Marked) → n ≤ 500 → HasNoMark (funs_text n fs v) → (n + length fs ≤ 500) × AllByRecursion FunctionKeepsLimits fs × HasNoMark v
-funs_kept n [] v le h = (omega arith, tt, h)
-funs_kept n (f ∷ fs) v le h =
-    let below = over_none n 500 limit.Functions h.0 in
-    let head = con_kept None f.head (sign Colon ∷ name_text None f.result (funs_text (n + 1) fs v)) h.1 in
+funs_kept : (version n : ℕ) (fs : List RawFun) (v : List Marked) → n ≤ most_functions version → HasNoMark (funs_text version n fs v) → (n + length fs ≤ most_functions version) × AllByRecursion FunctionKeepsLimits fs × HasNoMark v
+funs_kept version n [] v le h = (omega arith, tt, h)
+funs_kept version n (f ∷ fs) v le h =
+    let below = over_none n (most_functions version) limit.Functions h.0 in
+    let head = con_kept None f.head (sign Colon ∷ name_text None f.result (funs_text version (n + 1) fs v)) h.1 in
     let result = name_none f.result.name None head.2.1.0 in
-    let rest = funs_kept (n + 1) fs v (omega (arith, below)) head.2.1.1 in
+    let rest = funs_kept version (n + 1) fs v (omega (arith, below)) head.2.1.1 in
     (omega (arith, rest.0), (record { head = head.1; result = result.0 }, rest.1), rest.2)
 
 guards_kept : (n : ℕ) (gs : List RawGuard) (v : List Marked) → n ≤ 8 → HasNoMark (guards_text n gs v) → (n + length gs ≤ 8) × AllByRecursion (λ (g : RawGuard). TermKeepsLimits g.test) gs × HasNoMark v
@@ -162,13 +176,13 @@ guards_kept n (g ∷ gs) v le h =
     let rest = guards_kept (n + 1) gs v (omega (arith, below)) test.2 in
     (omega (arith, rest.0), (test.1, rest.1), rest.2)
 
-rules_kept : (n : ℕ) (rs : List RawRule) (v : List Marked) → n ≤ 1000 → HasNoMark (rules_text n rs v) → (n + length rs ≤ 1000) × AllByRecursion RuleKeepsLimits rs × HasNoMark v
-rules_kept n [] v le h = (omega arith, tt, h)
-rules_kept n (r ∷ rs) v le h =
-    let below = over_none n 1000 limit.Rules h.0 in
-    let sides = sides_kept None r.left r.right (guards_text 0 r.guards (rules_text (n + 1) rs v)) h.1 in
-    let guards = guards_kept 0 r.guards (rules_text (n + 1) rs v) (omega arith) sides.2 in
-    let rest = rules_kept (n + 1) rs v (omega (arith, below)) guards.2 in
+rules_kept : (version n : ℕ) (rs : List RawRule) (v : List Marked) → n ≤ most_rules version → HasNoMark (rules_text version n rs v) → (n + length rs ≤ most_rules version) × AllByRecursion RuleKeepsLimits rs × HasNoMark v
+rules_kept version n [] v le h = (omega arith, tt, h)
+rules_kept version n (r ∷ rs) v le h =
+    let below = over_none n (most_rules version) limit.Rules h.0 in
+    let sides = sides_kept None r.left r.right (guards_text 0 r.guards (rules_text version (n + 1) rs v)) h.1 in
+    let guards = guards_kept 0 r.guards (rules_text version (n + 1) rs v) (omega arith) sides.2 in
+    let rest = rules_kept version (n + 1) rs v (omega (arith, below)) guards.2 in
     let rule : RuleKeepsLimits r = record { left = sides.1.0; right = sides.1.1; few_guards = omega (arith, guards.0); guards = guards.1 } in
     (omega (arith, rest.0), (rule, rest.1), rest.2)
 
@@ -247,11 +261,11 @@ goals_kept n (g ∷ gs) text v le (clause, after, is, are_clause, are) h =
 
 -- a specification, and a term alone
 pub derived_keeps_limits : (items : List Item) (raw : RawSpec) → Derives IsSpecText items raw → KeepsLimits raw
-derived_keeps_limits items raw (sorts_text, goals_text, is, are_sorts, are_goals) =
+derived_keeps_limits items raw (sorts_text, goals_text, is, are_sorts, are_goals, known) =
     let marks = subst HasNoMark is (HasNoMark-clean items) in
-    let sorts = sorts_kept 0 0 raw.sorts sorts_text (funs_text 0 raw.funs (rules_text 0 raw.rules goals_text)) (omega arith) (omega arith) are_sorts marks.1.1 in
-    let funs = funs_kept 0 raw.funs (rules_text 0 raw.rules goals_text) (omega arith) sorts.3 in
-    let rules = rules_kept 0 raw.rules goals_text (omega arith) funs.2 in
+    let sorts = sorts_kept raw.version 0 0 raw.sorts sorts_text (funs_text raw.version 0 raw.funs (rules_text raw.version 0 raw.rules goals_text)) (omega arith) (omega arith) are_sorts marks.1.1 in
+    let funs = funs_kept raw.version 0 raw.funs (rules_text raw.version 0 raw.rules goals_text) (omega arith) sorts.3 in
+    let rules = rules_kept raw.version 0 raw.rules goals_text (omega arith) funs.2 in
     let goals = goals_kept 0 raw.goals goals_text [] (omega arith) are_goals rules.2 in
     record {
       few_sorts = omega (arith, sorts.0);

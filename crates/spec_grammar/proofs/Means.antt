@@ -3,7 +3,7 @@ use Rattle.std.proofs.Common.{◌≡◌, ◌≢◌, ℕ, zero, suc, ◌+◌, Lis
 use Rattle.std.proofs.lemmas.Bool.{eqb-true}
 use Rattle.std.specs.Prelude.{◌==◌}
 use Rattle.spec_grammar.specs.declared.keys.Key.{Key}
-use Rattle.spec_grammar.specs.declared.keys.Key.TheVariants.{Spike, Sort, Fun, Rule, Goal, If, Unless, One, LeftPar, RightPar, Comma, Colon, Equals, Bar, Arrow, Stray}
+use Rattle.spec_grammar.specs.declared.keys.Key.TheVariants.{Spike, Sort, Fun, Rule, Goal, If, Unless, Equal, Status, Order, LeftPar, RightPar, Comma, Colon, Equals, Bar, Arrow, Stray}
 use Rattle.spec_grammar.specs.declared.limits.LimitKind.{LimitKind}
 use Rattle.spec_grammar.specs.declared.raw.RawName.{RawName}
 use Rattle.spec_grammar.specs.declared.raw.RawNames.{RawNames}
@@ -16,10 +16,17 @@ use Rattle.spec_grammar.specs.declared.raw.RawBind.{RawBind}
 use Rattle.spec_grammar.specs.declared.raw.RawGoal.{RawGoal}
 use Rattle.spec_grammar.specs.declared.raw.RawSpec.{RawSpec}
 use Rattle.spec_grammar.specs.RawTree.{RawTree, RawTrees, word, none, some}
-use Rattle.spec_grammar.specs.Items.{Item, Word, Sign}
+use Rattle.spec_grammar.specs.FormatOne.{format_one}
+use Rattle.spec_grammar.specs.Items.{Item, Word, Sign, Number}
 use Rattle.spec_grammar.specs.Limits.{name_mark, sort_mark, constructor_mark, fun_mark, arity_mark, term_mark, rule_mark, guard_mark, goal_mark, variable_mark, premise_mark, conclusion_mark}
-use Rattle.spec_grammar.specs.Grammar.{Marked, sign, name_text, term_text, args_text, more_text, more_names_text, names_text, con_text, constructors_text, AreSorts, funs_text, guard_key, guards_text, sides_text, rules_text, commas_text, bars_text, conclusions_text, IsClause, bind_text, more_binds_text, binds_text, AreGoals, IsSpecText, IsTermText}
-use Rattle.spec_grammar.specs.Symbols.{Reaction, fail, key_code, react_args, react_more, react_names, react_more_names, react_bar, react_sorts, react_funs, react_rules, react_guards, react_goals, react_binds, react_more_binds, react_clause, react_tail, react_commas, react_bars, joined, feed, ends, Symbol, key, name, args, more, names, more_names, sorts, funs, rules, guards, goals, binds, more_binds, clause, tail, commas, conclusions, bars, pass, react, react_key, react_word, term_then, right_then, sides_then, bind_then, take, is_empty, spec_symbols, term_symbols}
+use Rattle.spec_grammar.specs.Grammar.{Marked, sign, number, name_text, term_text, args_text, more_text, more_names_text, names_text, con_text, constructors_text, AreSorts, funs_text, guard_key, guards_text, sides_text, rules_text, commas_text, bars_text, conclusions_text, IsClause, bind_text, more_binds_text, binds_text, AreGoals, IsSpecText, IsTermText}
+use Rattle.spec_grammar.specs.Symbols.{Reaction, fail, key_code, react_args, react_more, react_names, react_more_names, react_bar, react_sorts, react_funs, react_rules, react_guards, react_goals, react_binds, react_more_binds, react_clause, react_tail, react_number, react_commas, react_bars, joined, feed, ends, Symbol, key, name, args, more, names, more_names, format, body, sorts, funs, rules, guards, goals, binds, more_binds, clause, tail, commas, conclusions, bars, pass, react, react_key, react_word, term_then, right_then, sides_then, bind_then, take, is_empty, spec_symbols, term_symbols}
+
+-- the texts of the declarations of a format
+abbrev pub Declared : ℕ → List Marked → List Marked → Type 0
+Declared version w v =
+    (ss : List RawSort) × (fs : List RawFun) × (rs : List RawRule) × (gs : List RawGoal) × (u : List Marked)
+    × AreSorts version 0 0 ss w (funs_text version 0 fs (rules_text version 0 rs u)) × AreGoals 0 gs u v
 
 -- the texts of a symbol, before what stands behind it
 abbrev pub Means : Symbol → List Marked → List Marked → Type 0
@@ -29,10 +36,11 @@ Means (args d) w v = (ts : RawTrees) × (w ≡ args_text d ts v)
 Means (more d n) w v = (ts : RawTrees) × (w ≡ more_text d n ts v)
 Means names w v = (xs : List RawName) × (w ≡ names_text xs v)
 Means (more_names n) w v = (xs : List RawName) × (w ≡ more_names_text n xs v)
-Means (sorts n zero t) w v = (ss : List RawSort) × AreSorts n t ss w v
-Means (sorts n (suc k) t) w v = (cs : List RawNames) × (ss : List RawSort) × (u : List Marked) × (w ≡ constructors_text (suc k) t cs u) × AreSorts n (t + length cs) ss u v
-Means (funs n) w v = (fs : List RawFun) × (w ≡ funs_text n fs v)
-Means (rules n) w v = (rs : List RawRule) × (w ≡ rules_text n rs v)
+Means format w v = (u : List Marked) × (w ≡ number 1 ∷ u) × Declared 1 u v
+Means (sorts version n zero t) w v = (ss : List RawSort) × AreSorts version n t ss w v
+Means (sorts version n (suc k) t) w v = (cs : List RawNames) × (ss : List RawSort) × (u : List Marked) × (w ≡ constructors_text version (suc k) t cs u) × AreSorts version n (t + length cs) ss u v
+Means (funs version n) w v = (fs : List RawFun) × (w ≡ funs_text version n fs v)
+Means (rules version n) w v = (rs : List RawRule) × (w ≡ rules_text version n rs v)
 Means (guards n) w v = (gs : List RawGuard) × (w ≡ guards_text n gs v)
 Means (goals n) w v = (gs : List RawGoal) × AreGoals n gs w v
 Means binds w v = (bs : List RawBind) × (w ≡ binds_text bs v)
@@ -55,15 +63,17 @@ key_from (suc (suc (suc zero))) = Rule
 key_from (suc (suc (suc (suc zero)))) = Goal
 key_from (suc (suc (suc (suc (suc zero))))) = If
 key_from (suc (suc (suc (suc (suc (suc zero)))))) = Unless
-key_from (suc (suc (suc (suc (suc (suc (suc zero))))))) = One
-key_from (suc (suc (suc (suc (suc (suc (suc (suc zero)))))))) = LeftPar
-key_from (suc (suc (suc (suc (suc (suc (suc (suc (suc zero))))))))) = RightPar
-key_from (suc (suc (suc (suc (suc (suc (suc (suc (suc (suc zero)))))))))) = Comma
-key_from (suc (suc (suc (suc (suc (suc (suc (suc (suc (suc (suc zero))))))))))) = Colon
-key_from (suc (suc (suc (suc (suc (suc (suc (suc (suc (suc (suc (suc zero)))))))))))) = Equals
-key_from (suc (suc (suc (suc (suc (suc (suc (suc (suc (suc (suc (suc (suc zero))))))))))))) = Bar
-key_from (suc (suc (suc (suc (suc (suc (suc (suc (suc (suc (suc (suc (suc (suc zero)))))))))))))) = Arrow
-key_from (suc (suc (suc (suc (suc (suc (suc (suc (suc (suc (suc (suc (suc (suc (suc n))))))))))))))) = Stray
+key_from (suc (suc (suc (suc (suc (suc (suc zero))))))) = Equal
+key_from (suc (suc (suc (suc (suc (suc (suc (suc zero)))))))) = Status
+key_from (suc (suc (suc (suc (suc (suc (suc (suc (suc zero))))))))) = Order
+key_from (suc (suc (suc (suc (suc (suc (suc (suc (suc (suc zero)))))))))) = LeftPar
+key_from (suc (suc (suc (suc (suc (suc (suc (suc (suc (suc (suc zero))))))))))) = RightPar
+key_from (suc (suc (suc (suc (suc (suc (suc (suc (suc (suc (suc (suc zero)))))))))))) = Comma
+key_from (suc (suc (suc (suc (suc (suc (suc (suc (suc (suc (suc (suc (suc zero))))))))))))) = Colon
+key_from (suc (suc (suc (suc (suc (suc (suc (suc (suc (suc (suc (suc (suc (suc zero)))))))))))))) = Equals
+key_from (suc (suc (suc (suc (suc (suc (suc (suc (suc (suc (suc (suc (suc (suc (suc zero))))))))))))))) = Bar
+key_from (suc (suc (suc (suc (suc (suc (suc (suc (suc (suc (suc (suc (suc (suc (suc (suc zero)))))))))))))))) = Arrow
+key_from (suc (suc (suc (suc (suc (suc (suc (suc (suc (suc (suc (suc (suc (suc (suc (suc (suc n))))))))))))))))) = Stray
 
 key_from-key_code : (k : Key) → key_from (key_code k) ≡ k
 key_from-key_code Spike = refl
@@ -73,7 +83,9 @@ key_from-key_code Rule = refl
 key_from-key_code Goal = refl
 key_from-key_code If = refl
 key_from-key_code Unless = refl
-key_from-key_code One = refl
+key_from-key_code Equal = refl
+key_from-key_code Status = refl
+key_from-key_code Order = refl
 key_from-key_code LeftPar = refl
 key_from-key_code RightPar = refl
 key_from-key_code Comma = refl
@@ -138,37 +150,47 @@ built_more_names : (n : ℕ) (w v : List Marked) → MeansTo (name (arity_mark n
 built_more_names n w v h =
     (h.1.0 ∷ h.2.1.0, ap (λ (x : List Marked). sign Comma ∷ x) (h.1.1 ∙ ap (name_text (arity_mark n) h.1.0) (h.2.1.1 ∙ ap (more_names_text (n + 1) h.2.1.0) h.2.2)))
 
-built_bar : (n k t : ℕ) (w v : List Marked) → MeansTo (name (constructor_mark (suc k) t) ∷ names ∷ sorts n (suc (suc k)) (t + 1) ∷ []) w v → Means (sorts n (suc k) t) (sign Bar ∷ w) v
-built_bar n k t w v h =
-    let c = con_of (constructor_mark (suc k) t) (sorts n (suc (suc k)) (t + 1) ∷ []) w v h in
+built_format : (w v : List Marked) → MeansTo (body 1) w v → Means format (number 1 ∷ w) v
+built_format w v h =
+    let fs = h.2.1 in
+    let rs = h.2.2.1 in
+    let gs = h.2.2.2.1 in
+    let behind = fs.1 ∙ ap (funs_text 1 0 fs.0) rs.1 in
+    let goals = subst (AreGoals 0 gs.0 h.2.2.0) h.2.2.2.2 gs.1 in
+    let sorts = subst (AreSorts 1 0 0 h.1.0 w) behind h.1.1 in
+    (w, refl, (h.1.0, fs.0, rs.0, gs.0, h.2.2.0, sorts, goals))
+
+built_bar : (version n k t : ℕ) (w v : List Marked) → MeansTo (name (constructor_mark version (suc k) t) ∷ names ∷ sorts version n (suc (suc k)) (t + 1) ∷ []) w v → Means (sorts version n (suc k) t) (sign Bar ∷ w) v
+built_bar version n k t w v h =
+    let c = con_of (constructor_mark version (suc k) t) (sorts version n (suc (suc k)) (t + 1) ∷ []) w v h in
     let s = c.3.1 in
     let cs = s.0 in
     let sum : t + 1 + length cs ≡ t + length (c.0 ∷ cs) = omega arith in
-    let end : AreSorts n (t + length (c.0 ∷ cs)) s.1 s.2 v = subst (λ (x : List Marked). AreSorts n (t + length (c.0 ∷ cs)) s.1 s.2 x) c.3.2 (subst (λ (u : ℕ). AreSorts n u s.1 s.2 c.3.0) sum s.4) in
-    let counted : constructors_text (suc (suc k)) (t + 1) cs s.2 ≡ constructors_text (suc k + 1) (t + 1) cs s.2 = ap (λ (j : ℕ). constructors_text j (t + 1) cs s.2) (sym (add-one (suc k))) in
-    (c.0 ∷ cs, s.1, s.2, ap (λ (x : List Marked). sign Bar ∷ x) (c.2 ∙ ap (con_text (constructor_mark (suc k) t) c.0) (s.3 ∙ counted)), end)
+    let end : AreSorts version n (t + length (c.0 ∷ cs)) s.1 s.2 v = subst (λ (x : List Marked). AreSorts version n (t + length (c.0 ∷ cs)) s.1 s.2 x) c.3.2 (subst (λ (u : ℕ). AreSorts version n u s.1 s.2 c.3.0) sum s.4) in
+    let counted : constructors_text version (suc (suc k)) (t + 1) cs s.2 ≡ constructors_text version (suc k + 1) (t + 1) cs s.2 = ap (λ (j : ℕ). constructors_text version j (t + 1) cs s.2) (sym (add-one (suc k))) in
+    (c.0 ∷ cs, s.1, s.2, ap (λ (x : List Marked). sign Bar ∷ x) (c.2 ∙ ap (con_text (constructor_mark version (suc k) t) c.0) (s.3 ∙ counted)), end)
 
-sort_read : (n t : ℕ) (w v : List Marked) → MeansTo (name None ∷ key Equals ∷ name (constructor_mark 0 t) ∷ names ∷ sorts (n + 1) 1 (t + 1) ∷ []) w v → (ss : List RawSort) × AreSorts n t ss ((Sign Sort, sort_mark n) ∷ w) v
-sort_read n t w v h =
-    let k = key_then Equals (name (constructor_mark 0 t) ∷ names ∷ sorts (n + 1) 1 (t + 1) ∷ []) h.0 v h.2 in
-    let c = con_of (constructor_mark 0 t) (sorts (n + 1) 1 (t + 1) ∷ []) k.0 v k.2 in
+sort_read : (version n t : ℕ) (w v : List Marked) → MeansTo (name None ∷ key Equals ∷ name (constructor_mark version 0 t) ∷ names ∷ sorts version (n + 1) 1 (t + 1) ∷ []) w v → (ss : List RawSort) × AreSorts version n t ss ((Sign Sort, sort_mark n) ∷ w) v
+sort_read version n t w v h =
+    let k = key_then Equals (name (constructor_mark version 0 t) ∷ names ∷ sorts version (n + 1) 1 (t + 1) ∷ []) h.0 v h.2 in
+    let c = con_of (constructor_mark version 0 t) (sorts version (n + 1) 1 (t + 1) ∷ []) k.0 v k.2 in
     let s = c.3.1 in
     let made : RawSort = record { head = h.1.0; constructors = c.0 ∷ s.0 } in
-    (made ∷ s.1, (c.0, s.0, s.2, refl, ap (λ (x : List Marked). (Sign Sort, sort_mark n) ∷ x) (h.1.1 ∙ ap (name_text None h.1.0) (k.1 ∙ ap (λ (x : List Marked). sign Equals ∷ x) (c.2 ∙ ap (con_text (constructor_mark 0 t) c.0) s.3))), subst (AreSorts (n + 1) (t + 1 + length s.0) s.1 s.2) c.3.2 s.4))
+    (made ∷ s.1, (c.0, s.0, s.2, refl, ap (λ (x : List Marked). (Sign Sort, sort_mark n) ∷ x) (h.1.1 ∙ ap (name_text None h.1.0) (k.1 ∙ ap (λ (x : List Marked). sign Equals ∷ x) (c.2 ∙ ap (con_text (constructor_mark version 0 t) c.0) s.3))), subst (AreSorts version (n + 1) (t + 1 + length s.0) s.1 s.2) c.3.2 s.4))
 
-built_sort : (n k t : ℕ) (w v : List Marked) → MeansTo (name None ∷ key Equals ∷ name (constructor_mark 0 t) ∷ names ∷ sorts (n + 1) 1 (t + 1) ∷ []) w v → Means (sorts n k t) ((Sign Sort, sort_mark n) ∷ w) v
-built_sort n zero t w v h = sort_read n t w v h
-built_sort n (suc k) t w v h =
-    let s = sort_read n t w v h in
-    ([], s.0, (Sign Sort, sort_mark n) ∷ w, refl, subst (λ (u : ℕ). AreSorts n u s.0 ((Sign Sort, sort_mark n) ∷ w) v) (sym (add-zero t)) s.1)
+built_sort : (version n k t : ℕ) (w v : List Marked) → MeansTo (name None ∷ key Equals ∷ name (constructor_mark version 0 t) ∷ names ∷ sorts version (n + 1) 1 (t + 1) ∷ []) w v → Means (sorts version n k t) ((Sign Sort, sort_mark n) ∷ w) v
+built_sort version n zero t w v h = sort_read version n t w v h
+built_sort version n (suc k) t w v h =
+    let s = sort_read version n t w v h in
+    ([], s.0, (Sign Sort, sort_mark n) ∷ w, refl, subst (λ (u : ℕ). AreSorts version n u s.0 ((Sign Sort, sort_mark n) ∷ w) v) (sym (add-zero t)) s.1)
 
-built_funs : (n : ℕ) (w v : List Marked) → MeansTo (name None ∷ names ∷ key Colon ∷ name None ∷ funs (n + 1) ∷ []) w v → Means (funs n) ((Sign Fun, fun_mark n) ∷ w) v
-built_funs n w v h =
-    let c = con_of None (key Colon ∷ name None ∷ funs (n + 1) ∷ []) w v h in
-    let k = key_then Colon (name None ∷ funs (n + 1) ∷ []) c.1 v c.3 in
+built_funs : (version n : ℕ) (w v : List Marked) → MeansTo (name None ∷ names ∷ key Colon ∷ name None ∷ funs version (n + 1) ∷ []) w v → Means (funs version n) ((Sign Fun, fun_mark version n) ∷ w) v
+built_funs version n w v h =
+    let c = con_of None (key Colon ∷ name None ∷ funs version (n + 1) ∷ []) w v h in
+    let k = key_then Colon (name None ∷ funs version (n + 1) ∷ []) c.1 v c.3 in
     let made : RawFun = record { head = c.0; result = k.2.1.0 } in
     let fs = k.2.2.1 in
-    (made ∷ fs.0, ap (λ (x : List Marked). (Sign Fun, fun_mark n) ∷ x) (c.2 ∙ ap (con_text None c.0) (k.1 ∙ ap (λ (x : List Marked). sign Colon ∷ x) (k.2.1.1 ∙ ap (name_text None k.2.1.0) (fs.1 ∙ ap (funs_text (n + 1) fs.0) k.2.2.2)))))
+    (made ∷ fs.0, ap (λ (x : List Marked). (Sign Fun, fun_mark version n) ∷ x) (c.2 ∙ ap (con_text None c.0) (k.1 ∙ ap (λ (x : List Marked). sign Colon ∷ x) (k.2.1.1 ∙ ap (name_text None k.2.1.0) (fs.1 ∙ ap (funs_text version (n + 1) fs.0) k.2.2.2)))))
 
 built_guard : (n : ℕ) (b : Bool) (w v : List Marked) → MeansTo (term_then 0 None (guards (n + 1) ∷ [])) w v → Means (guards n) ((Sign (guard_key b), guard_mark n) ∷ w) v
 built_guard n b w v h =
@@ -176,13 +198,13 @@ built_guard n b w v h =
     let made : RawGuard = record { test = t.0; wanted = b } in
     (made ∷ t.3.1.0, ap (λ (x : List Marked). (Sign (guard_key b), guard_mark n) ∷ x) (t.2 ∙ ap (term_text 0 None t.0) (t.3.1.1 ∙ ap (guards_text (n + 1) t.3.1.0) t.3.2)))
 
-built_rules : (n : ℕ) (w v : List Marked) → MeansTo (sides_then None (guards 0 ∷ rules (n + 1) ∷ [])) w v → Means (rules n) ((Sign Rule, rule_mark n) ∷ w) v
-built_rules n w v h =
-    let s = sides_of None (guards 0 ∷ rules (n + 1) ∷ []) w v h in
+built_rules : (version n : ℕ) (w v : List Marked) → MeansTo (sides_then None (guards 0 ∷ rules version (n + 1) ∷ [])) w v → Means (rules version n) ((Sign Rule, rule_mark version n) ∷ w) v
+built_rules version n w v h =
+    let s = sides_of None (guards 0 ∷ rules version (n + 1) ∷ []) w v h in
     let gs = s.4.1 in
     let rs = s.4.2.1 in
     let made : RawRule = record { left = s.0; right = s.1; guards = gs.0 } in
-    (made ∷ rs.0, ap (λ (x : List Marked). (Sign Rule, rule_mark n) ∷ x) (s.3 ∙ ap (sides_text None s.0 s.1) (gs.1 ∙ ap (guards_text 0 gs.0) (rs.1 ∙ ap (rules_text (n + 1) rs.0) s.4.2.2))))
+    (made ∷ rs.0, ap (λ (x : List Marked). (Sign Rule, rule_mark version n) ∷ x) (s.3 ∙ ap (sides_text None s.0 s.1) (gs.1 ∙ ap (guards_text 0 gs.0) (rs.1 ∙ ap (rules_text version (n + 1) rs.0) s.4.2.2))))
 
 built_goals : (n : ℕ) (w v : List Marked) → MeansTo (name None ∷ binds ∷ key Colon ∷ clause ∷ goals (n + 1) ∷ []) w v → Means (goals n) ((Sign Goal, goal_mark n) ∷ w) v
 built_goals n w v h =
@@ -284,22 +306,22 @@ module _ (v : List Marked) where
   more_names_mean n Comma m ss w e h = takes (more_names n) (Sign Comma) None m _ ss w e h (λ u k. built_more_names n u v k)
   more_names_mean n _ m ss w e h = absurd (pass_take e)
 
-  bar_means : (n k t : ℕ) (m : Option LimitKind) (ss : List Symbol) (w : List Marked) → react_bar n k t ≡ take m ss → MeansTo ss w v → Means (sorts n k t) ((Sign Bar, m) ∷ w) v
-  bar_means n zero t m ss w e h = absurd (pass_take e)
-  bar_means n (suc k) t m ss w e h = takes (sorts n (suc k) t) (Sign Bar) None m _ ss w e h (λ u q. built_bar n k t u v q)
+  bar_means : (version n k t : ℕ) (m : Option LimitKind) (ss : List Symbol) (w : List Marked) → react_bar version n k t ≡ take m ss → MeansTo ss w v → Means (sorts version n k t) ((Sign Bar, m) ∷ w) v
+  bar_means version n zero t m ss w e h = absurd (pass_take e)
+  bar_means version n (suc k) t m ss w e h = takes (sorts version n (suc k) t) (Sign Bar) None m _ ss w e h (λ u q. built_bar version n k t u v q)
 
-  sorts_mean : (n k t : ℕ) (j : Key) (m : Option LimitKind) (ss : List Symbol) (w : List Marked) → react_sorts n k t j ≡ take m ss → MeansTo ss w v → Means (sorts n k t) ((Sign j, m) ∷ w) v
-  sorts_mean n k t Sort m ss w e h = takes (sorts n k t) (Sign Sort) (sort_mark n) m _ ss w e h (λ u q. built_sort n k t u v q)
-  sorts_mean n k t Bar m ss w e h = bar_means n k t m ss w e h
-  sorts_mean n k t _ m ss w e h = absurd (pass_take e)
+  sorts_mean : (version n k t : ℕ) (j : Key) (m : Option LimitKind) (ss : List Symbol) (w : List Marked) → react_sorts version n k t j ≡ take m ss → MeansTo ss w v → Means (sorts version n k t) ((Sign j, m) ∷ w) v
+  sorts_mean version n k t Sort m ss w e h = takes (sorts version n k t) (Sign Sort) (sort_mark n) m _ ss w e h (λ u q. built_sort version n k t u v q)
+  sorts_mean version n k t Bar m ss w e h = bar_means version n k t m ss w e h
+  sorts_mean version n k t _ m ss w e h = absurd (pass_take e)
 
-  funs_mean : (n : ℕ) (j : Key) (m : Option LimitKind) (ss : List Symbol) (w : List Marked) → react_funs n j ≡ take m ss → MeansTo ss w v → Means (funs n) ((Sign j, m) ∷ w) v
-  funs_mean n Fun m ss w e h = takes (funs n) (Sign Fun) (fun_mark n) m _ ss w e h (λ u k. built_funs n u v k)
-  funs_mean n _ m ss w e h = absurd (pass_take e)
+  funs_mean : (version n : ℕ) (j : Key) (m : Option LimitKind) (ss : List Symbol) (w : List Marked) → react_funs version n j ≡ take m ss → MeansTo ss w v → Means (funs version n) ((Sign j, m) ∷ w) v
+  funs_mean version n Fun m ss w e h = takes (funs version n) (Sign Fun) (fun_mark version n) m _ ss w e h (λ u k. built_funs version n u v k)
+  funs_mean version n _ m ss w e h = absurd (pass_take e)
 
-  rules_mean : (n : ℕ) (j : Key) (m : Option LimitKind) (ss : List Symbol) (w : List Marked) → react_rules n j ≡ take m ss → MeansTo ss w v → Means (rules n) ((Sign j, m) ∷ w) v
-  rules_mean n Rule m ss w e h = takes (rules n) (Sign Rule) (rule_mark n) m _ ss w e h (λ u k. built_rules n u v k)
-  rules_mean n _ m ss w e h = absurd (pass_take e)
+  rules_mean : (version n : ℕ) (j : Key) (m : Option LimitKind) (ss : List Symbol) (w : List Marked) → react_rules version n j ≡ take m ss → MeansTo ss w v → Means (rules version n) ((Sign j, m) ∷ w) v
+  rules_mean version n Rule m ss w e h = takes (rules version n) (Sign Rule) (rule_mark version n) m _ ss w e h (λ u k. built_rules version n u v k)
+  rules_mean version n _ m ss w e h = absurd (pass_take e)
 
   guards_mean : (n : ℕ) (j : Key) (m : Option LimitKind) (ss : List Symbol) (w : List Marked) → react_guards n j ≡ take m ss → MeansTo ss w v → Means (guards n) ((Sign j, m) ∷ w) v
   guards_mean n If m ss w e h = takes (guards n) (Sign If) (guard_mark n) m _ ss w e h (λ u k. built_guard n true u v k)
@@ -344,9 +366,10 @@ module _ (v : List Marked) where
   key_means (more d n) j m ss w e h = more_means d n j m ss w e h
   key_means names j m ss w e h = names_mean j m ss w e h
   key_means (more_names n) j m ss w e h = more_names_mean n j m ss w e h
-  key_means (sorts n k t) j m ss w e h = sorts_mean n k t j m ss w e h
-  key_means (funs n) j m ss w e h = funs_mean n j m ss w e h
-  key_means (rules n) j m ss w e h = rules_mean n j m ss w e h
+  key_means format j m ss w e h = absurd (fail_take e)
+  key_means (sorts version n k t) j m ss w e h = sorts_mean version n k t j m ss w e h
+  key_means (funs version n) j m ss w e h = funs_mean version n j m ss w e h
+  key_means (rules version n) j m ss w e h = rules_mean version n j m ss w e h
   key_means (guards n) j m ss w e h = guards_mean n j m ss w e h
   key_means (goals n) j m ss w e h = goals_mean n j m ss w e h
   key_means binds j m ss w e h = binds_mean j m ss w e h
@@ -360,14 +383,32 @@ module _ (v : List Marked) where
   word_means : (s : Symbol) (b : List ℕ) (a : ℕ) (m : Option LimitKind) (ss : List Symbol) (w : List Marked) → react_word s b ≡ take m ss → MeansTo ss w v → Means s ((Word b a, m) ∷ w) v
   word_means (key k) b a m ss w e h = absurd (fail_take e)
   word_means (name n) b a m ss w e h = takes (name n) (Word b a) (name_mark b n) m [] ss w e h (λ u none. (record { name = b; at = a }, ap (λ (x : List Marked). (Word b a, name_mark b n) ∷ x) none))
+  word_means format b a m ss w e h = absurd (fail_take e)
   word_means clause b a m ss w e h = takes clause (Word b a) (name_mark b None) m _ ss w e h (λ u k. built_clause b a u v k)
   word_means (commas n) b a m ss w e h = absurd (fail_take e)
   word_means conclusions b a m ss w e h = takes conclusions (Word b a) (name_mark b None) m _ ss w e h (λ u k. built_conclusions b a u v k)
   word_means _ b a m ss w e h = absurd (pass_take e)
 
+  format_means : (n : ℕ) (b : Bool) (m : Option LimitKind) (ss : List Symbol) (w : List Marked) → (b ≡ true → n ≡ 1) → cond b (take None (body n)) fail ≡ take m ss → MeansTo ss w v → Means format ((Number n, m) ∷ w) v
+  format_means n true m ss w one e h =
+      let body_is : ss ≡ body 1 = sym (stacks e) ∙ ap body (one refl) in
+      let built = built_format w v (subst (λ (st : List Symbol). MeansTo st w v) body_is h) in
+      subst (λ (k : Option LimitKind). Means format ((Number n, k) ∷ w) v) (marks e)
+      (subst (λ (i : ℕ). Means format (number i ∷ w) v) (sym (one refl)) built)
+  format_means n false m ss w one e h = absurd (fail_take e)
+
+  number_means : (s : Symbol) (n : ℕ) (m : Option LimitKind) (ss : List Symbol) (w : List Marked) → react_number s n ≡ take m ss → MeansTo ss w v → Means s ((Number n, m) ∷ w) v
+  number_means (key k) n m ss w e h = absurd (fail_take e)
+  number_means (name o) n m ss w e h = absurd (fail_take e)
+  number_means format n m ss w e h = format_means n (n == 1) m ss w (eqb-true n 1) e h
+  number_means clause n m ss w e h = absurd (fail_take e)
+  number_means (commas k) n m ss w e h = absurd (fail_take e)
+  number_means _ n m ss w e h = absurd (pass_take e)
+
   take_means : (s : Symbol) (x : Item) (m : Option LimitKind) (ss : List Symbol) (w : List Marked) → react s x ≡ take m ss → MeansTo ss w v → Means s ((x, m) ∷ w) v
   take_means s (Word b a) m ss w e h = word_means s b a m ss w e h
   take_means s (Sign j) m ss w e h = key_means s j m ss w e h
+  take_means s (Number n) m ss w e h = number_means s n m ss w e h
 
 -- a symbol that may be empty
 empty_means : (s : Symbol) (v : List Marked) → is_empty s ≡ true → Means s v v
@@ -377,10 +418,11 @@ empty_means (args d) v e = (none, refl)
 empty_means (more d n) v e = (none, refl)
 empty_means names v e = ([], refl)
 empty_means (more_names n) v e = ([], refl)
-empty_means (sorts n zero t) v e = ([], refl)
-empty_means (sorts n (suc k) t) v e = ([], [], v, refl, refl)
-empty_means (funs n) v e = ([], refl)
-empty_means (rules n) v e = ([], refl)
+empty_means format v e = absurd (let q : false ≡ true = e in cc)
+empty_means (sorts version n zero t) v e = ([], refl)
+empty_means (sorts version n (suc k) t) v e = ([], [], v, refl, refl)
+empty_means (funs version n) v e = ([], refl)
+empty_means (rules version n) v e = ([], refl)
 empty_means (guards n) v e = ([], refl)
 empty_means (goals n) v e = ([], refl)
 empty_means binds v e = ([], refl)
@@ -397,9 +439,9 @@ fail_pass e = cc
 take_pass : {m : Option LimitKind} {ss : List Symbol} → take m ss ≡ pass → ⊥
 take_pass e = cc
 
-key_pass : (b : Bool) → cond b (take None []) fail ≡ pass → ⊥
-key_pass true e = take_pass e
-key_pass false e = fail_pass e
+key_pass : (b : Bool) (ss : List Symbol) → cond b (take None ss) fail ≡ pass → ⊥
+key_pass true ss e = take_pass e
+key_pass false ss e = fail_pass e
 
 clause_pass : (j : Key) → react_clause j ≡ pass → ⊥
 clause_pass Arrow e = take_pass e
@@ -412,19 +454,27 @@ commas_pass n _ e = fail_pass e
 
 pass_empty : (s : Symbol) (x : Item) → react s x ≡ pass → is_empty s ≡ true
 pass_empty (key k) (Word b a) e = absurd (fail_pass e)
-pass_empty (key k) (Sign j) e = absurd (key_pass (key_code j == key_code k) e)
+pass_empty (key k) (Sign j) e = absurd (key_pass (key_code j == key_code k) [] e)
+pass_empty (key k) (Number n) e = absurd (fail_pass e)
 pass_empty (name m) (Word b a) e = absurd (take_pass e)
 pass_empty (name m) (Sign j) e = absurd (fail_pass e)
+pass_empty (name m) (Number n) e = absurd (fail_pass e)
+pass_empty format (Word b a) e = absurd (fail_pass e)
+pass_empty format (Sign j) e = absurd (fail_pass e)
+pass_empty format (Number n) e = absurd (key_pass (n == 1) (body n) e)
 pass_empty clause (Word b a) e = absurd (take_pass e)
 pass_empty clause (Sign j) e = absurd (clause_pass j e)
+pass_empty clause (Number n) e = absurd (fail_pass e)
 pass_empty (commas n) (Word b a) e = absurd (fail_pass e)
 pass_empty (commas n) (Sign j) e = absurd (commas_pass n j e)
+pass_empty (commas n) (Number k) e = absurd (fail_pass e)
 pass_empty _ x e = refl
 
 -- each symbol has a text
 least : (s : Symbol) (v : List Marked) → (w : List Marked) × Means s w v
 least (key k) v = (sign k ∷ v, (k, refl, refl))
 least (name m) v = (name_text m (record { name = []; at = 0 }) v, (record { name = []; at = 0 }, refl))
+least format v = (number 1 ∷ v, (v, refl, ([], [], [], [], v, refl, refl)))
 least clause v = (sign Arrow ∷ v, ([], [], inl refl))
 least (commas n) v = (sign Arrow ∷ v, ([], [], refl))
 least s v = (v, empty_means s v refl)
@@ -458,15 +508,11 @@ ends_mean (s ∷ st) h = let b = ends_step s st (is_empty s) refl h in ([], empt
 
 pub spec_means : (w : List Marked) → MeansTo spec_symbols w [] → (raw : RawSpec) × IsSpecText raw w
 spec_means w h =
-    let a = key_then Spike (key One ∷ sorts 0 0 0 ∷ funs 0 ∷ rules 0 ∷ goals 0 ∷ []) w [] h in
-    let b = key_then One (sorts 0 0 0 ∷ funs 0 ∷ rules 0 ∷ goals 0 ∷ []) a.0 [] a.2 in
-    let ss = b.2.1 in
-    let fs = b.2.2.1 in
-    let rs = b.2.2.2.1 in
-    let gs = b.2.2.2.2.1 in
-    let goals_text = b.2.2.2.0 in
-    let after : b.2.0 ≡ funs_text 0 fs.0 (rules_text 0 rs.0 goals_text) = fs.1 ∙ ap (funs_text 0 fs.0) rs.1 in
-    (record { sorts = ss.0; funs = fs.0; rules = rs.0; goals = gs.0 }, (b.0, goals_text, a.1 ∙ ap (λ (x : List Marked). sign Spike ∷ x) b.1, subst (AreSorts 0 0 ss.0 b.0) after ss.1, subst (AreGoals 0 gs.0 goals_text) b.2.2.2.2.2 gs.1))
+    let a = key_then Spike (format ∷ []) w [] h in
+    let b = a.2.1 in
+    let d = subst (Declared 1 b.0) a.2.2 b.2 in
+    let raw : RawSpec = format_one d.0 d.1 d.2 d.3 in
+    (raw, (b.0, d.4, a.1 ∙ ap (λ (x : List Marked). sign Spike ∷ x) b.1, d.5, d.6, refl))
 
 pub term_means : (w : List Marked) → MeansTo term_symbols w [] → (t : RawTree) × IsTermText t w
 term_means w h = let t = term_of 0 None [] w [] h in (t.0, t.2 ∙ ap (term_text 0 None t.0) t.3)

@@ -62,14 +62,14 @@ guards_len n (g ∷ gs) v =
     let le : length (guards_text (n + 1) gs v) ≤ length (guards_text n (g ∷ gs) v) = omega (arith, t) in
     (omega (arith, le, r.0), (omega (arith, t), guards_more _ _ gs le r.1))
 
-rules_len : (n : ℕ) (rs : List RawRule) (v : List Marked) → (length v ≤ length (rules_text n rs v)) × AllByRecursion (RuleHasFewWords (length (rules_text n rs v))) rs
-rules_len n [] v = (omega arith, tt)
-rules_len n (r ∷ rs) v =
-    let rest = rules_len (n + 1) rs v in
-    let tests = guards_len 0 r.guards (rules_text (n + 1) rs v) in
-    let sides = sides_len None r.left r.right (guards_text 0 r.guards (rules_text (n + 1) rs v)) in
-    let le : length (rules_text (n + 1) rs v) ≤ length (rules_text n (r ∷ rs) v) = omega (arith, tests.0, sides) in
-    let inner : length (guards_text 0 r.guards (rules_text (n + 1) rs v)) ≤ length (rules_text n (r ∷ rs) v) = omega (arith, sides) in
+rules_len : (version n : ℕ) (rs : List RawRule) (v : List Marked) → (length v ≤ length (rules_text version n rs v)) × AllByRecursion (RuleHasFewWords (length (rules_text version n rs v))) rs
+rules_len version n [] v = (omega arith, tt)
+rules_len version n (r ∷ rs) v =
+    let rest = rules_len version (n + 1) rs v in
+    let tests = guards_len 0 r.guards (rules_text version (n + 1) rs v) in
+    let sides = sides_len None r.left r.right (guards_text 0 r.guards (rules_text version (n + 1) rs v)) in
+    let le : length (rules_text version (n + 1) rs v) ≤ length (rules_text version n (r ∷ rs) v) = omega (arith, tests.0, sides) in
+    let inner : length (guards_text 0 r.guards (rules_text version (n + 1) rs v)) ≤ length (rules_text version n (r ∷ rs) v) = omega (arith, sides) in
     (omega (arith, le, rest.0), ((omega (arith, sides), omega (arith, sides), guards_more _ _ r.guards inner tests.1), rules_more _ _ rs le rest.1))
 
 commas_len : (n : ℕ) (es : List RawEq) (v : List Marked) → (length v ≤ length (commas_text n es v)) × AllByRecursion (EquationHasFewWords (length (commas_text n es v))) es
@@ -145,28 +145,28 @@ names_len : (xs : List RawName) (v : List Marked) → length v ≤ length (names
 names_len [] v = omega arith
 names_len (x ∷ xs) v = omega (arith, more_names_len 1 xs (sign RightPar ∷ v))
 
-funs_len : (n : ℕ) (fs : List RawFun) (v : List Marked) → length v ≤ length (funs_text n fs v)
-funs_len n [] v = omega arith
-funs_len n (f ∷ fs) v = omega (arith, funs_len (n + 1) fs v, names_len f.head.args (sign Colon ∷ name_text None f.result (funs_text (n + 1) fs v)))
+funs_len : (version n : ℕ) (fs : List RawFun) (v : List Marked) → length v ≤ length (funs_text version n fs v)
+funs_len version n [] v = omega arith
+funs_len version n (f ∷ fs) v = omega (arith, funs_len version (n + 1) fs v, names_len f.head.args (sign Colon ∷ name_text None f.result (funs_text version (n + 1) fs v)))
 
-constructors_len : (k t : ℕ) (cs : List RawNames) (v : List Marked) → length v ≤ length (constructors_text k t cs v)
-constructors_len k t [] v = omega arith
-constructors_len k t (c ∷ cs) v = omega (arith, constructors_len (k + 1) (t + 1) cs v, names_len c.args (constructors_text (k + 1) (t + 1) cs v))
+constructors_len : (version k t : ℕ) (cs : List RawNames) (v : List Marked) → length v ≤ length (constructors_text version k t cs v)
+constructors_len version k t [] v = omega arith
+constructors_len version k t (c ∷ cs) v = omega (arith, constructors_len version (k + 1) (t + 1) cs v, names_len c.args (constructors_text version (k + 1) (t + 1) cs v))
 
-sorts_len : (n t : ℕ) (ss : List RawSort) (w v : List Marked) → AreSorts n t ss w v → length v ≤ length w
-sorts_len n t [] w v h = omega (arith, ap (λ (x : List Marked). length x) h)
-sorts_len n t (s ∷ ss) w v h =
-    let rest = sorts_len (n + 1) (t + 1 + length h.1) ss h.2 v h.5 in
-    let cons = constructors_len 1 (t + 1) h.1 h.2 in
-    let first = names_len h.0.args (constructors_text 1 (t + 1) h.1 h.2) in
+sorts_len : (version n t : ℕ) (ss : List RawSort) (w v : List Marked) → AreSorts version n t ss w v → length v ≤ length w
+sorts_len version n t [] w v h = omega (arith, ap (λ (x : List Marked). length x) h)
+sorts_len version n t (s ∷ ss) w v h =
+    let rest = sorts_len version (n + 1) (t + 1 + length h.1) ss h.2 v h.5 in
+    let cons = constructors_len version 1 (t + 1) h.1 h.2 in
+    let first = names_len h.0.args (constructors_text version 1 (t + 1) h.1 h.2) in
     omega (arith, rest, cons, first, ap (λ (x : List Marked). length x) h.4)
 
 pub spec_words : (raw : RawSpec) (w : List Marked) → IsSpecText raw w → HasFewWords (length w) raw
 spec_words raw w h =
     let whole = ap (λ (x : List Marked). length x) h.2 in
-    let sorted = sorts_len 0 0 raw.sorts h.0 (funs_text 0 raw.funs (rules_text 0 raw.rules h.1)) h.3 in
-    let declared = funs_len 0 raw.funs (rules_text 0 raw.rules h.1) in
-    let ruled = rules_len 0 raw.rules h.1 in
+    let sorted = sorts_len raw.version 0 0 raw.sorts h.0 (funs_text raw.version 0 raw.funs (rules_text raw.version 0 raw.rules h.1)) h.3 in
+    let declared = funs_len raw.version 0 raw.funs (rules_text raw.version 0 raw.rules h.1) in
+    let ruled = rules_len raw.version 0 raw.rules h.1 in
     let goals = goals_len 0 raw.goals h.1 [] h.4 in
     (rules_more _ _ raw.rules (omega (arith, whole, sorted, declared)) ruled.1, goals_more _ _ raw.goals (omega (arith, whole, sorted, declared, ruled.0)) goals)
 

@@ -16,7 +16,7 @@ use Rattle.spec_grammar.specs.declared.raw.RawBind.{RawBind}
 use Rattle.spec_grammar.specs.declared.raw.RawGoal.{RawGoal}
 use Rattle.spec_grammar.specs.declared.raw.RawSpec.{RawSpec}
 use Rattle.spec_grammar.specs.RawTree.{RawTree, RawTrees, word, none, some}
-use Rattle.spec_grammar.specs.Items.{Item, Word, Sign}
+use Rattle.spec_grammar.specs.Items.{Item, Word, Sign, Number}
 use Rattle.spec_grammar.specs.Limits.{constructor_mark, arity_mark, term_mark, guard_mark, variable_mark, premise_mark, conclusion_mark}
 use Rattle.spec_grammar.specs.Grammar.{Marked, sign, name_text, term_text, args_text, more_text, more_names_text, names_text, con_text, constructors_text, AreSorts, funs_text, guard_key, guards_text, sides_text, rules_text, commas_text, premises_text, bars_text, conclusions_text, IsClause, bind_text, more_binds_text, binds_text, AreGoals, IsSpecText, IsTermText}
 use Rattle.spec_grammar.specs.Symbols.{key_code}
@@ -36,6 +36,9 @@ word_place e = cc
 
 sign_key : {j k : Key} → Sign j ≡ Sign k → j ≡ k
 sign_key e = cc
+
+number_is : {m n : ℕ} → Number m ≡ Number n → m ≡ n
+number_is e = cc
 
 word_sign : {b : List ℕ} {a : ℕ} {k : Key} → Word b a ≡ Sign k → ⊥
 word_sign e = cc
@@ -153,16 +156,16 @@ one_sides m l r p q u v hu hv e =
     (a.0, b.0, b.1)
 
 -- constructors and sorts
-no_names : (i j : ℕ) (es : List RawNames) (w : List Marked) → HeadIn (Sort ∷ Fun ∷ Rule ∷ Goal ∷ []) w → Apart LeftPar (constructors_text i j es w)
-no_names i j es w h = apart_head LeftPar (Bar ∷ Sort ∷ Fun ∷ Rule ∷ Goal ∷ []) _ (refl, (refl, (refl, (refl, (refl, tt))))) (head_constructors i j es w h)
+no_names : (version i j : ℕ) (es : List RawNames) (w : List Marked) → HeadIn (Sort ∷ Fun ∷ Rule ∷ Goal ∷ []) w → Apart LeftPar (constructors_text version i j es w)
+no_names version i j es w h = apart_head LeftPar (Bar ∷ Sort ∷ Fun ∷ Rule ∷ Goal ∷ []) _ (refl, (refl, (refl, (refl, (refl, tt))))) (head_constructors version i j es w h)
 
-one_constructors : (k t : ℕ) (cs ds : List RawNames) (u v : List Marked) → HeadIn (Sort ∷ Fun ∷ Rule ∷ Goal ∷ []) u → HeadIn (Sort ∷ Fun ∷ Rule ∷ Goal ∷ []) v → constructors_text k t cs u ≡ constructors_text k t ds v → (cs ≡ ds) × (u ≡ v)
-one_constructors k t [] [] u v hu hv e = (refl, e)
-one_constructors k t [] (d ∷ ds) u v hu hv e = absurd (apart_head Bar (Sort ∷ Fun ∷ Rule ∷ Goal ∷ []) u (refl, (refl, (refl, (refl, tt)))) hu None _ e)
-one_constructors k t (c ∷ cs) [] u v hu hv e = absurd (apart_head Bar (Sort ∷ Fun ∷ Rule ∷ Goal ∷ []) v (refl, (refl, (refl, (refl, tt)))) hv None _ (sym e))
-one_constructors k t (c ∷ cs) (d ∷ ds) u v hu hv e =
-    let a = one_con (constructor_mark k t) c d _ _ (no_names (k + 1) (t + 1) cs u hu) (no_names (k + 1) (t + 1) ds v hv) (tails e) in
-    let b = one_constructors (k + 1) (t + 1) cs ds u v hu hv a.1 in
+one_constructors : (version k t : ℕ) (cs ds : List RawNames) (u v : List Marked) → HeadIn (Sort ∷ Fun ∷ Rule ∷ Goal ∷ []) u → HeadIn (Sort ∷ Fun ∷ Rule ∷ Goal ∷ []) v → constructors_text version k t cs u ≡ constructors_text version k t ds v → (cs ≡ ds) × (u ≡ v)
+one_constructors version k t [] [] u v hu hv e = (refl, e)
+one_constructors version k t [] (d ∷ ds) u v hu hv e = absurd (apart_head Bar (Sort ∷ Fun ∷ Rule ∷ Goal ∷ []) u (refl, (refl, (refl, (refl, tt)))) hu None _ e)
+one_constructors version k t (c ∷ cs) [] u v hu hv e = absurd (apart_head Bar (Sort ∷ Fun ∷ Rule ∷ Goal ∷ []) v (refl, (refl, (refl, (refl, tt)))) hv None _ (sym e))
+one_constructors version k t (c ∷ cs) (d ∷ ds) u v hu hv e =
+    let a = one_con (constructor_mark version k t) c d _ _ (no_names version (k + 1) (t + 1) cs u hu) (no_names version (k + 1) (t + 1) ds v hv) (tails e) in
+    let b = one_constructors version (k + 1) (t + 1) cs ds u v hu hv a.1 in
     (both a.0 b.0, b.1)
 
 sort_is : (s r : RawSort) → s.head ≡ r.head → s.constructors ≡ r.constructors → s ≡ r
@@ -171,20 +174,20 @@ sort_is s r a b = λ i. record { head = a i; constructors = b i }
 no_sort : (v : List Marked) → HeadIn (Fun ∷ Rule ∷ Goal ∷ []) v → Apart Sort v
 no_sort v h = apart_head Sort (Fun ∷ Rule ∷ Goal ∷ []) v (refl, (refl, (refl, tt))) h
 
-one_sorts : (n t : ℕ) (ss rs : List RawSort) (w u v : List Marked) → HeadIn (Fun ∷ Rule ∷ Goal ∷ []) u → HeadIn (Fun ∷ Rule ∷ Goal ∷ []) v → AreSorts n t ss w u → AreSorts n t rs w v → (ss ≡ rs) × (u ≡ v)
-one_sorts n t [] [] w u v hu hv a b = (refl, sym a ∙ b)
-one_sorts n t [] (r ∷ rs) w u v hu hv a b = absurd (no_sort u hu _ _ (sym a ∙ b.4))
-one_sorts n t (s ∷ ss) [] w u v hu hv a b = absurd (no_sort v hv _ _ (sym b ∙ a.4))
-one_sorts n t (s ∷ ss) (r ∷ rs) w u v hu hv a b =
+one_sorts : (version n t : ℕ) (ss rs : List RawSort) (w u v : List Marked) → HeadIn (Fun ∷ Rule ∷ Goal ∷ []) u → HeadIn (Fun ∷ Rule ∷ Goal ∷ []) v → AreSorts version n t ss w u → AreSorts version n t rs w v → (ss ≡ rs) × (u ≡ v)
+one_sorts version n t [] [] w u v hu hv a b = (refl, sym a ∙ b)
+one_sorts version n t [] (r ∷ rs) w u v hu hv a b = absurd (no_sort u hu _ _ (sym a ∙ b.4))
+one_sorts version n t (s ∷ ss) [] w u v hu hv a b = absurd (no_sort v hv _ _ (sym b ∙ a.4))
+one_sorts version n t (s ∷ ss) (r ∷ rs) w u v hu hv a b =
     let e = tails (sym a.4 ∙ b.4) in
     let named = one_name None s.head r.head _ _ e in
-    let ha = head_sorts (n + 1) (t + 1 + length a.1) ss a.2 u hu a.5 in
-    let hb = head_sorts (n + 1) (t + 1 + length b.1) rs b.2 v hv b.5 in
-    let con = one_con (constructor_mark 0 t) a.0 b.0 _ _ (no_names 1 (t + 1) a.1 a.2 ha) (no_names 1 (t + 1) b.1 b.2 hb) (tails named.1) in
-    let cons = one_constructors 1 (t + 1) a.1 b.1 a.2 b.2 ha hb con.1 in
+    let ha = head_sorts version (n + 1) (t + 1 + length a.1) ss a.2 u hu a.5 in
+    let hb = head_sorts version (n + 1) (t + 1 + length b.1) rs b.2 v hv b.5 in
+    let con = one_con (constructor_mark version 0 t) a.0 b.0 _ _ (no_names version 1 (t + 1) a.1 a.2 ha) (no_names version 1 (t + 1) b.1 b.2 hb) (tails named.1) in
+    let cons = one_constructors version 1 (t + 1) a.1 b.1 a.2 b.2 ha hb con.1 in
     let same : s.constructors ≡ r.constructors = a.3 ∙ both con.0 cons.0 ∙ sym b.3 in
-    let moved : AreSorts (n + 1) (t + 1 + length a.1) rs a.2 v = subst (λ (x : List Marked). AreSorts (n + 1) (t + 1 + length a.1) rs x v) (sym cons.1) (subst (λ (cs : List RawNames). AreSorts (n + 1) (t + 1 + length cs) rs b.2 v) (sym cons.0) b.5) in
-    let others = one_sorts (n + 1) (t + 1 + length a.1) ss rs a.2 u v hu hv a.5 moved in
+    let moved : AreSorts version (n + 1) (t + 1 + length a.1) rs a.2 v = subst (λ (x : List Marked). AreSorts version (n + 1) (t + 1 + length a.1) rs x v) (sym cons.1) (subst (λ (cs : List RawNames). AreSorts version (n + 1) (t + 1 + length cs) rs b.2 v) (sym cons.0) b.5) in
+    let others = one_sorts version (n + 1) (t + 1 + length a.1) ss rs a.2 u v hu hv a.5 moved in
     (both (sort_is s r named.0 same) others.0, others.1)
 
 fun_is : (f g : RawFun) → f.head ≡ g.head → f.result ≡ g.result → f ≡ g
@@ -193,14 +196,14 @@ fun_is f g a b = λ i. record { head = a i; result = b i }
 no_fun : (v : List Marked) → HeadIn (Rule ∷ Goal ∷ []) v → Apart Fun v
 no_fun v h = apart_head Fun (Rule ∷ Goal ∷ []) v (refl, (refl, tt)) h
 
-one_funs : (n : ℕ) (fs gs : List RawFun) (u v : List Marked) → HeadIn (Rule ∷ Goal ∷ []) u → HeadIn (Rule ∷ Goal ∷ []) v → funs_text n fs u ≡ funs_text n gs v → (fs ≡ gs) × (u ≡ v)
-one_funs n [] [] u v hu hv e = (refl, e)
-one_funs n [] (g ∷ gs) u v hu hv e = absurd (no_fun u hu _ _ e)
-one_funs n (f ∷ fs) [] u v hu hv e = absurd (no_fun v hv _ _ (sym e))
-one_funs n (f ∷ fs) (g ∷ gs) u v hu hv e =
+one_funs : (version n : ℕ) (fs gs : List RawFun) (u v : List Marked) → HeadIn (Rule ∷ Goal ∷ []) u → HeadIn (Rule ∷ Goal ∷ []) v → funs_text version n fs u ≡ funs_text version n gs v → (fs ≡ gs) × (u ≡ v)
+one_funs version n [] [] u v hu hv e = (refl, e)
+one_funs version n [] (g ∷ gs) u v hu hv e = absurd (no_fun u hu _ _ e)
+one_funs version n (f ∷ fs) [] u v hu hv e = absurd (no_fun v hv _ _ (sym e))
+one_funs version n (f ∷ fs) (g ∷ gs) u v hu hv e =
     let con = one_con None f.head g.head _ _ (apart_sign Colon LeftPar _ refl) (apart_sign Colon LeftPar _ refl) (tails e) in
     let result = one_name None f.result g.result _ _ (tails con.1) in
-    let others = one_funs (n + 1) fs gs u v hu hv result.1 in
+    let others = one_funs version (n + 1) fs gs u v hu hv result.1 in
     (both (fun_is f g con.0 result.0) others.0, others.1)
 
 -- rules
@@ -235,16 +238,16 @@ rule_is r q a b c = λ i. record { left = a i; right = b i; guards = c i }
 no_rule : (v : List Marked) → HeadIn (Goal ∷ []) v → Apart Rule v
 no_rule v h = apart_head Rule (Goal ∷ []) v (refl, tt) h
 
-one_rules : (n : ℕ) (rs qs : List RawRule) (u v : List Marked) → HeadIn (Goal ∷ []) u → HeadIn (Goal ∷ []) v → rules_text n rs u ≡ rules_text n qs v → (rs ≡ qs) × (u ≡ v)
-one_rules n [] [] u v hu hv e = (refl, e)
-one_rules n [] (q ∷ qs) u v hu hv e = absurd (no_rule u hu _ _ e)
-one_rules n (r ∷ rs) [] u v hu hv e = absurd (no_rule v hv _ _ (sym e))
-one_rules n (r ∷ rs) (q ∷ qs) u v hu hv e =
-    let ha = head_rules (n + 1) rs u hu in
-    let hb = head_rules (n + 1) qs v hv in
+one_rules : (version n : ℕ) (rs qs : List RawRule) (u v : List Marked) → HeadIn (Goal ∷ []) u → HeadIn (Goal ∷ []) v → rules_text version n rs u ≡ rules_text version n qs v → (rs ≡ qs) × (u ≡ v)
+one_rules version n [] [] u v hu hv e = (refl, e)
+one_rules version n [] (q ∷ qs) u v hu hv e = absurd (no_rule u hu _ _ e)
+one_rules version n (r ∷ rs) [] u v hu hv e = absurd (no_rule v hv _ _ (sym e))
+one_rules version n (r ∷ rs) (q ∷ qs) u v hu hv e =
+    let ha = head_rules version (n + 1) rs u hu in
+    let hb = head_rules version (n + 1) qs v hv in
     let s = one_sides None r.left r.right q.left q.right _ _ (guards_apart 0 r.guards _ ha) (guards_apart 0 q.guards _ hb) (tails e) in
     let g = one_guards 0 r.guards q.guards _ _ ha hb s.2 in
-    let others = one_rules (n + 1) rs qs u v hu hv g.1 in
+    let others = one_rules version (n + 1) rs qs u v hu hv g.1 in
     (both (rule_is r q s.0 s.1 g.0) others.0, others.1)
 
 -- clauses
@@ -379,22 +382,34 @@ one_goals n (g ∷ gs) (h ∷ hs) w a b =
     let others = one_goals (n + 1) gs hs a.1 a.4 (subst (λ (x : List Marked). AreGoals (n + 1) hs x []) (sym body.2) b.4) in
     both (goal_is g h named.0 bound.0 body.0 body.1) others
 
-spec_is : (r q : RawSpec) → r.sorts ≡ q.sorts → r.funs ≡ q.funs → r.rules ≡ q.rules → r.goals ≡ q.goals → r ≡ q
-spec_is r q a b c d = λ i. record { sorts = a i; funs = b i; rules = c i; goals = d i }
+spec_is : (r q : RawSpec) → r.version ≡ q.version → r.sorts ≡ q.sorts → r.funs ≡ q.funs → r.rules ≡ q.rules → r.goals ≡ q.goals → r ≡ q
+spec_is r q n a b c d = λ i. record { version = n i; sorts = a i; funs = b i; rules = c i; goals = d i }
+
+-- the declarations of a format, with goals before the end
+abbrev HasDeclarations : ℕ → RawSpec → List Marked → List Marked → Type 0
+HasDeclarations version raw sorts goals =
+    AreSorts version 0 0 raw.sorts sorts (funs_text version 0 raw.funs (rules_text version 0 raw.rules goals))
 
 -- a text is that of one raw specification, and of one term, at most
 pub one_spec : (r q : RawSpec) (w : List Marked) → IsSpecText r w → IsSpecText q w → r ≡ q
 one_spec r q w a b =
+    let version = r.version in
+    let behind = tails (sym a.2 ∙ b.2) in
+    let n = number_is (ap (λ (x : Marked). x.0) (heads behind)) in
+    let e : a.0 ≡ b.0 = tails behind in
+    let there = subst (λ (k : ℕ). HasDeclarations k q b.0 b.1) (sym n) b.3 in
+    let here = subst (λ (x : List Marked). HasDeclarations version q x b.1) (sym e) there in
     let ga = head_goals 0 r.goals a.1 a.4 in
     let gb = head_goals 0 q.goals b.1 b.4 in
-    let ra = head_rules 0 r.rules a.1 ga in
-    let rb = head_rules 0 q.rules b.1 gb in
-    let e : a.0 ≡ b.0 = tails (tails (sym a.2 ∙ b.2)) in
-    let s = one_sorts 0 0 r.sorts q.sorts a.0 _ _ (head_funs 0 r.funs _ ra) (head_funs 0 q.funs _ rb) a.3 (subst (λ (x : List Marked). AreSorts 0 0 q.sorts x _) (sym e) b.3) in
-    let f = one_funs 0 r.funs q.funs _ _ ra rb s.1 in
-    let u = one_rules 0 r.rules q.rules a.1 b.1 ga gb f.1 in
+    let ra = head_rules version 0 r.rules a.1 ga in
+    let rb = head_rules version 0 q.rules b.1 gb in
+    let fa = head_funs version 0 r.funs _ ra in
+    let fb = head_funs version 0 q.funs _ rb in
+    let s = one_sorts version 0 0 r.sorts q.sorts a.0 _ _ fa fb a.3 here in
+    let f = one_funs version 0 r.funs q.funs _ _ ra rb s.1 in
+    let u = one_rules version 0 r.rules q.rules a.1 b.1 ga gb f.1 in
     let g = one_goals 0 r.goals q.goals a.1 a.4 (subst (λ (x : List Marked). AreGoals 0 q.goals x []) (sym u.1) b.4) in
-    spec_is r q s.0 f.0 u.0 g
+    spec_is r q n s.0 f.0 u.0 g
 
 pub one_term_text : (s t : RawTree) (w : List Marked) → IsTermText s w → IsTermText t w → s ≡ t
 one_term_text s t w a b = (one_term 0 None s t [] [] (λ m v e. nil_cons e) (λ m v e. nil_cons e) (sym a ∙ b)).0

@@ -1,14 +1,15 @@
 -- Small texts and faults.
 use Rattle.std.specs.Prelude.{◌≡◌, ℕ, zero, suc, List, [], ◌∷◌, Some, None, codes}
-use Rattle.spec_grammar.specs.declared.keys.Key.TheVariants.{Spike, Goal, One, LeftPar, RightPar, Comma, Colon, Equals, Arrow}
+use Rattle.spec_grammar.specs.declared.keys.Key.TheVariants.{Spike, Goal, LeftPar, RightPar, Comma, Colon, Equals, Arrow}
 use Rattle.spec_grammar.specs.declared.limits.LimitKind.TheVariants as limit
 use Rattle.spec_grammar.specs.declared.raw.RawEq.{RawEq}
 use Rattle.spec_grammar.specs.declared.raw.RawGoal.{RawGoal}
 use Rattle.spec_grammar.specs.declared.raw.RawName.{RawName}
 use Rattle.spec_grammar.specs.declared.raw.RawSpec.{RawSpec}
 use Rattle.spec_grammar.specs.RawTree.{RawTree, word, none, some}
-use Rattle.spec_grammar.specs.Items.{Item, Word, Sign}
-use Rattle.spec_grammar.specs.Limits.{term_mark, conclusion_mark}
+use Rattle.spec_grammar.specs.FormatOne.{format_one}
+use Rattle.spec_grammar.specs.Items.{Item, Word, Sign, Number}
+use Rattle.spec_grammar.specs.Limits.{term_mark, rule_mark, conclusion_mark}
 use Rattle.spec_grammar.specs.Grammar.{IsSpecText, IsTermText}
 use Rattle.spec_grammar.specs.Derives.{Derives, IsFault}
 use Rattle.spec_grammar.specs.KeepsLimits.{raw_depth, TermKeepsLimits}
@@ -37,10 +38,10 @@ one_goal conclusions =
     let head : RawName = record { name = codes "g"; at = 13 } in
     let goal : RawGoal =
     record { head = head; binds = []; premises = []; conclusions = conclusions } in
-    record { sorts = []; funs = []; rules = []; goals = goal ∷ [] }
+    format_one [] [] [] (goal ∷ [])
 
 abbrev pub goal_items : List Item → List Item
-goal_items clause = Sign Spike ∷ Sign One ∷ Sign Goal ∷ Word (codes "g") 13 ∷ Sign Colon ∷ clause
+goal_items clause = Sign Spike ∷ Number 1 ∷ Sign Goal ∷ Word (codes "g") 13 ∷ Sign Colon ∷ clause
 
 -- `x = y` at these places, as tokens
 abbrev pub equation_items : ℕ → ℕ → List Item
@@ -48,8 +49,9 @@ equation_items x y = Word (codes "x") x ∷ Sign Equals ∷ Word (codes "y") y �
 
 pub record WorkedExamples : Type 0 where
   -- the header alone
-  pub header : Derives IsSpecText (Sign Spike ∷ Sign One ∷ [])
-      (record { sorts = []; funs = []; rules = []; goals = [] })
+  pub header : Derives IsSpecText (Sign Spike ∷ Number 1 ∷ []) (format_one [] [] [] [])
+  -- format 1 is the only one
+  pub other_format : IsFault IsSpecText (Sign Spike ∷ []) (Number 2 ∷ []) None
   -- a conclusion without the arrow and with it, and no equation at all
   pub without_arrow :
       Derives IsSpecText (goal_items (equation_items 17 21)) (one_goal (equation 17 21 ∷ []))
@@ -65,6 +67,10 @@ pub record WorkedExamples : Type 0 where
   pub ninth : term_mark 1 8 ≡ Some limit.Arity
   pub deep : term_mark 64 0 ≡ Some limit.Nesting
   pub fifth : conclusion_mark 4 ≡ Some limit.Conclusions
+  -- format 1 has 1,000 rules at most, and format 2 has more
+  pub last_rule : rule_mark 1 999 ≡ None
+  pub rule_too_many : rule_mark 1 1000 ≡ Some limit.Rules
+  pub more_rules : rule_mark 2 1000 ≡ None
   -- a word alone has the depth 1; the deepest term has 63 words above its last, and with 64 it is
   -- too deep
   pub depth_of_word : raw_depth (word (codes "x") 0 none) ≡ 1

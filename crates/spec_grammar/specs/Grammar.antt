@@ -3,7 +3,7 @@
 -- many items stand before.
 use Rattle.std.specs.Prelude.{◌≡◌, ◌≢◌, ℕ, ◌+◌, ◌⊎◌, List, [], ◌∷◌, Option, None, Bool, true, false, length}
 use Rattle.spec_grammar.specs.declared.keys.Key.{Key}
-use Rattle.spec_grammar.specs.declared.keys.Key.TheVariants.{Spike, Sort, Fun, Rule, Goal, If, Unless, One, LeftPar, RightPar, Comma, Colon, Equals, Bar, Arrow}
+use Rattle.spec_grammar.specs.declared.keys.Key.TheVariants.{Spike, Sort, Fun, Rule, Goal, If, Unless, LeftPar, RightPar, Comma, Colon, Equals, Bar, Arrow}
 use Rattle.spec_grammar.specs.declared.limits.LimitKind.{LimitKind}
 use Rattle.spec_grammar.specs.declared.raw.RawName.{RawName}
 use Rattle.spec_grammar.specs.declared.raw.RawNames.{RawNames}
@@ -16,7 +16,7 @@ use Rattle.spec_grammar.specs.declared.raw.RawBind.{RawBind}
 use Rattle.spec_grammar.specs.declared.raw.RawGoal.{RawGoal}
 use Rattle.spec_grammar.specs.declared.raw.RawSpec.{RawSpec}
 use Rattle.spec_grammar.specs.RawTree.{RawTree, RawTrees, word, none, some}
-use Rattle.spec_grammar.specs.Items.{Item, Word, Sign}
+use Rattle.spec_grammar.specs.Items.{Item, Word, Sign, Number}
 use Rattle.spec_grammar.specs.Limits.{name_mark, sort_mark, constructor_mark, fun_mark, arity_mark, term_mark, rule_mark, guard_mark, goal_mark, variable_mark, premise_mark, conclusion_mark}
 
 -- a token with the limit that it passes
@@ -25,6 +25,9 @@ Marked = Item × Option LimitKind
 
 abbrev pub sign : Key → Marked
 sign key = (Sign key, None)
+
+abbrev pub number : ℕ → Marked
+number n = (Number n, None)
 
 abbrev pub name_text : Option LimitKind → RawName → List Marked → List Marked
 name_text mark n rest = (Word n.name n.at, name_mark n.name mark) ∷ rest
@@ -59,26 +62,27 @@ names_text (x ∷ xs) rest =
 abbrev pub con_text : Option LimitKind → RawNames → List Marked → List Marked
 con_text mark c rest = (Word c.name c.at, name_mark c.name mark) ∷ names_text c.args rest
 
--- sort = "sort" NAME "=" con {"|" con}; t constructors stand before in all
-abbrev pub constructors_text : ℕ → ℕ → List RawNames → List Marked → List Marked
-constructors_text k t [] rest = rest
-constructors_text k t (c ∷ cs) rest = sign Bar
-    ∷ con_text (constructor_mark k t) c (constructors_text (k + 1) (t + 1) cs rest)
+-- sort = "sort" NAME "=" con {"|" con}, of a format; t constructors stand before in all
+abbrev pub constructors_text : ℕ → ℕ → ℕ → List RawNames → List Marked → List Marked
+constructors_text version k t [] rest = rest
+constructors_text version k t (c ∷ cs) rest = sign Bar ∷ con_text (constructor_mark version k t) c
+    (constructors_text version (k + 1) (t + 1) cs rest)
 
-abbrev pub AreSorts : ℕ → ℕ → List RawSort → List Marked → List Marked → Type 0
-AreSorts n t [] text rest = text ≡ rest
-AreSorts n t (s ∷ ss) text rest =
+abbrev pub AreSorts : ℕ → ℕ → ℕ → List RawSort → List Marked → List Marked → Type 0
+AreSorts version n t [] text rest = text ≡ rest
+AreSorts version n t (s ∷ ss) text rest =
     (first : RawNames) × (others : List RawNames) × (after : List Marked)
     × (s.constructors ≡ first ∷ others)
     × (text ≡ (Sign Sort, sort_mark n) ∷ name_text None s.head (sign Equals
-    ∷ con_text (constructor_mark 0 t) first (constructors_text 1 (t + 1) others after)))
-    × AreSorts (n + 1) (t + 1 + length others) ss after rest
+    ∷ con_text (constructor_mark version 0 t) first
+    (constructors_text version 1 (t + 1) others after)))
+    × AreSorts version (n + 1) (t + 1 + length others) ss after rest
 
 -- fun = "fun" NAME ["(" NAME {"," NAME} ")"] ":" NAME
-abbrev pub funs_text : ℕ → List RawFun → List Marked → List Marked
-funs_text n [] rest = rest
-funs_text n (f ∷ fs) rest = (Sign Fun, fun_mark n)
-    ∷ con_text None f.head (sign Colon ∷ name_text None f.result (funs_text (n + 1) fs rest))
+abbrev pub funs_text : ℕ → ℕ → List RawFun → List Marked → List Marked
+funs_text version n [] rest = rest
+funs_text version n (f ∷ fs) rest = (Sign Fun, fun_mark version n)
+    ∷ con_text None f.head (sign Colon ∷ name_text None f.result (funs_text version (n + 1) fs rest))
 
 -- rule = "rule" term "=" term {("if" | "unless") term}
 abbrev pub guard_key : Bool → Key
@@ -94,10 +98,10 @@ guards_text n (g ∷ gs) rest = (Sign (guard_key g.wanted), guard_mark n)
 abbrev pub sides_text : Option LimitKind → RawTree → RawTree → List Marked → List Marked
 sides_text mark left right rest = term_text 0 mark left (sign Equals ∷ term_text 0 None right rest)
 
-abbrev pub rules_text : ℕ → List RawRule → List Marked → List Marked
-rules_text n [] rest = rest
-rules_text n (r ∷ rs) rest = (Sign Rule, rule_mark n)
-    ∷ sides_text None r.left r.right (guards_text 0 r.guards (rules_text (n + 1) rs rest))
+abbrev pub rules_text : ℕ → ℕ → List RawRule → List Marked → List Marked
+rules_text version n [] rest = rest
+rules_text version n (r ∷ rs) rest = (Sign Rule, rule_mark version n)
+    ∷ sides_text None r.left r.right (guards_text 0 r.guards (rules_text version (n + 1) rs rest))
 
 -- clause = eq {"|" eq} | [eq {"," eq}] "=>" [eq {"|" eq}]
 abbrev pub commas_text : ℕ → List RawEq → List Marked → List Marked
@@ -147,12 +151,22 @@ AreGoals n (g ∷ gs) text rest =
     ∷ name_text None g.head (binds_text g.binds (sign Colon ∷ clause)))
     × IsClause g.premises g.conclusions clause after × AreGoals (n + 1) gs after rest
 
+-- the raw specification is one of a format that there is
+abbrev pub IsFormat : RawSpec → Type 0
+IsFormat raw = raw.version ≡ 1
+
+-- the functions, and the rules that define them
+abbrev pub definitions_text : RawSpec → List Marked → List Marked
+definitions_text raw rest =
+    funs_text raw.version 0 raw.funs (rules_text raw.version 0 raw.rules rest)
+
 -- file = "spike" "1" {sort} {fun} {rule} {goal}
 abbrev pub IsSpecText : RawSpec → List Marked → Type 0
 IsSpecText raw text =
-    (sorts : List Marked) × (goals : List Marked) × (text ≡ sign Spike ∷ sign One ∷ sorts)
-    × AreSorts 0 0 raw.sorts sorts (funs_text 0 raw.funs (rules_text 0 raw.rules goals))
-    × AreGoals 0 raw.goals goals []
+    (sorts : List Marked) × (goals : List Marked)
+    × (text ≡ sign Spike ∷ number raw.version ∷ sorts)
+    × AreSorts raw.version 0 0 raw.sorts sorts (definitions_text raw goals)
+    × AreGoals 0 raw.goals goals [] × IsFormat raw
 
 -- one term alone
 abbrev pub IsTermText : RawTree → List Marked → Type 0

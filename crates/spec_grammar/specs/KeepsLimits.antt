@@ -12,6 +12,7 @@ use Rattle.spec_grammar.specs.declared.raw.RawBind.{RawBind}
 use Rattle.spec_grammar.specs.declared.raw.RawGoal.{RawGoal}
 use Rattle.spec_grammar.specs.declared.raw.RawSpec.{RawSpec}
 use Rattle.spec_grammar.specs.RawTree.{RawTree, RawTrees, word, none, some}
+use Rattle.spec_grammar.specs.Limits.{most_constructors, most_functions, most_rules}
 
 -- the depth of a term, 1 for a word alone, and that of the deepest of several terms
 abbrev mutual
@@ -92,11 +93,11 @@ pub record GoalKeepsLimits (g : RawGoal) : Type 0 where
 pub record KeepsLimits (raw : RawSpec) : Type 0 where
   pub few_sorts : length raw.sorts ≤ 200
   pub few_constructors :
-      sum_by (λ (s : RawSort). length s.constructors) raw.sorts ≤ 500
+      sum_by (λ (s : RawSort). length s.constructors) raw.sorts ≤ most_constructors raw.version
   pub sorts : AllByRecursion SortKeepsLimits raw.sorts
-  pub few_functions : length raw.funs ≤ 500
+  pub few_functions : length raw.funs ≤ most_functions raw.version
   pub functions : AllByRecursion FunctionKeepsLimits raw.funs
-  pub few_rules : length raw.rules ≤ 1000
+  pub few_rules : length raw.rules ≤ most_rules raw.version
   pub rules : AllByRecursion RuleKeepsLimits raw.rules
   pub few_goals : length raw.goals ≤ 200
   pub goals : AllByRecursion GoalKeepsLimits raw.goals

@@ -1,5 +1,6 @@
 -- The grammar of specifications, in the order in which to read it.
 pub mod RawTree
+pub mod FormatOne
 pub mod Items
 pub mod Limits
 pub mod Grammar

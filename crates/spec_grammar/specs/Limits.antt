@@ -1,7 +1,17 @@
 -- The limits of the grammar. Each says which limit a token passes, if any.
-use Rattle.std.specs.Prelude.{ℕ, List, Option, Some, None, nat_le, length, codes, if◌then◌else◌}
+use Rattle.std.specs.Prelude.{ℕ, List, Option, Some, None, nat_le, ◌==◌, length, codes, if◌then◌else◌}
 use Rattle.spec_grammar.specs.declared.limits.LimitKind.{LimitKind}
 use Rattle.spec_grammar.specs.declared.limits.LimitKind.TheVariants as limit
+
+-- the most constructors in all, functions and rules of a format, 1 or 2
+abbrev pub most_constructors : ℕ → ℕ
+most_constructors version = if version == 2 then 1000 else 500
+
+abbrev pub most_functions : ℕ → ℕ
+most_functions version = if version == 2 then 1000 else 500
+
+abbrev pub most_rules : ℕ → ℕ
+most_rules version = if version == 2 then 4000 else 1000
 
 -- the item of this number, from 0, of at most so many
 abbrev pub over : ℕ → ℕ → LimitKind → Option LimitKind
@@ -20,12 +30,12 @@ abbrev pub sort_mark : ℕ → Option LimitKind
 sort_mark n = over n 200 limit.Sorts
 
 -- k constructors of the sort stand before this one, and n in all
-abbrev pub constructor_mark : ℕ → ℕ → Option LimitKind
-constructor_mark k n =
-    or_else (over k 64 limit.Constructors) (over n 500 limit.Constructors)
+abbrev pub constructor_mark : ℕ → ℕ → ℕ → Option LimitKind
+constructor_mark version k n =
+    or_else (over k 64 limit.Constructors) (over n (most_constructors version) limit.Constructors)
 
-abbrev pub fun_mark : ℕ → Option LimitKind
-fun_mark n = over n 500 limit.Functions
+abbrev pub fun_mark : ℕ → ℕ → Option LimitKind
+fun_mark version n = over n (most_functions version) limit.Functions
 
 abbrev pub arity_mark : ℕ → Option LimitKind
 arity_mark n = over n 8 limit.Arity
@@ -34,8 +44,8 @@ arity_mark n = over n 8 limit.Arity
 abbrev pub term_mark : ℕ → ℕ → Option LimitKind
 term_mark d n = or_else (arity_mark n) (over d 64 limit.Nesting)
 
-abbrev pub rule_mark : ℕ → Option LimitKind
-rule_mark n = over n 1000 limit.Rules
+abbrev pub rule_mark : ℕ → ℕ → Option LimitKind
+rule_mark version n = over n (most_rules version) limit.Rules
 
 abbrev pub guard_mark : ℕ → Option LimitKind
 guard_mark n = over n 8 limit.Guards

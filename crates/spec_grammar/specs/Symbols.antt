@@ -1,12 +1,13 @@
 -- The grammar as a stack of symbols, of which the first reacts to the next token.
 use Rattle.std.specs.Prelude.{ℕ, zero, suc, ◌+◌, List, [], ◌∷◌, ◌++◌, Option, Some, None, Bool, true, false, if◌then◌else◌, ◌==◌, length}
 use Rattle.spec_grammar.specs.declared.keys.Key.{Key}
-use Rattle.spec_grammar.specs.declared.keys.Key.TheVariants.{Spike, Sort, Fun, Rule, Goal, If, Unless, One, LeftPar, RightPar, Comma, Colon, Equals, Bar, Arrow, Stray}
+use Rattle.spec_grammar.specs.declared.keys.Key.TheVariants.{Spike, Sort, Fun, Rule, Goal, If, Unless, Equal, Status, Order, LeftPar, RightPar, Comma, Colon, Equals, Bar, Arrow, Stray}
 use Rattle.spec_grammar.specs.declared.limits.LimitKind.{LimitKind}
-use Rattle.spec_grammar.specs.Items.{Item, Word, Sign}
+use Rattle.spec_grammar.specs.Items.{Item, Word, Sign, Number}
 use Rattle.spec_grammar.specs.Limits.{name_mark, sort_mark, constructor_mark, fun_mark, arity_mark, term_mark, rule_mark, guard_mark, goal_mark, variable_mark, premise_mark, conclusion_mark}
 
--- The symbols. A number says how many items of its list were read, d how many words stand above.
+-- The symbols. A number says how many items of its list were read, d how many words stand above; the
+-- first number of sorts, functions and rules is their format.
 pub data Symbol : Type 0 where
   key : Key → Symbol
   name : Option LimitKind → Symbol
@@ -14,10 +15,12 @@ pub data Symbol : Type 0 where
   more : ℕ → ℕ → Symbol
   names : Symbol
   more_names : ℕ → Symbol
+  -- the number of a format, and all that follows it
+  format : Symbol
   -- n sorts were read, the last one with k constructors, and t constructors in all
-  sorts : ℕ → ℕ → ℕ → Symbol
-  funs : ℕ → Symbol
-  rules : ℕ → Symbol
+  sorts : ℕ → ℕ → ℕ → ℕ → Symbol
+  funs : ℕ → ℕ → Symbol
+  rules : ℕ → ℕ → Symbol
   guards : ℕ → Symbol
   goals : ℕ → Symbol
   binds : Symbol
@@ -43,15 +46,17 @@ key_code Rule = 3
 key_code Goal = 4
 key_code If = 5
 key_code Unless = 6
-key_code One = 7
-key_code LeftPar = 8
-key_code RightPar = 9
-key_code Comma = 10
-key_code Colon = 11
-key_code Equals = 12
-key_code Bar = 13
-key_code Arrow = 14
-key_code Stray = 15
+key_code Equal = 7
+key_code Status = 8
+key_code Order = 9
+key_code LeftPar = 10
+key_code RightPar = 11
+key_code Comma = 12
+key_code Colon = 13
+key_code Equals = 14
+key_code Bar = 15
+key_code Arrow = 16
+key_code Stray = 17
 
 -- a term whose first word may pass a limit, and an equation, before other symbols
 abbrev pub term_then : ℕ → Option LimitKind → List Symbol → List Symbol
@@ -84,24 +89,26 @@ abbrev pub react_more_names : ℕ → Key → Reaction
 react_more_names n Comma = take None (name (arity_mark n) ∷ more_names (n + 1) ∷ [])
 react_more_names n _ = pass
 
-abbrev pub react_bar : ℕ → ℕ → ℕ → Reaction
-react_bar n zero t = pass
-react_bar n (suc k) t =
-    take None (name (constructor_mark (suc k) t) ∷ names ∷ sorts n (suc (suc k)) (t + 1) ∷ [])
+abbrev pub react_bar : ℕ → ℕ → ℕ → ℕ → Reaction
+react_bar version n zero t = pass
+react_bar version n (suc k) t = take None (name (constructor_mark version (suc k) t) ∷ names
+    ∷ sorts version n (suc (suc k)) (t + 1) ∷ [])
 
-abbrev pub react_sorts : ℕ → ℕ → ℕ → Key → Reaction
-react_sorts n k t Sort = take (sort_mark n) (name None ∷ key Equals
-    ∷ name (constructor_mark 0 t) ∷ names ∷ sorts (n + 1) 1 (t + 1) ∷ [])
-react_sorts n k t Bar = react_bar n k t
-react_sorts n k t _ = pass
+abbrev pub react_sorts : ℕ → ℕ → ℕ → ℕ → Key → Reaction
+react_sorts version n k t Sort = take (sort_mark n) (name None ∷ key Equals
+    ∷ name (constructor_mark version 0 t) ∷ names ∷ sorts version (n + 1) 1 (t + 1) ∷ [])
+react_sorts version n k t Bar = react_bar version n k t
+react_sorts version n k t _ = pass
 
-abbrev pub react_funs : ℕ → Key → Reaction
-react_funs n Fun = take (fun_mark n) (name None ∷ names ∷ key Colon ∷ name None ∷ funs (n + 1) ∷ [])
-react_funs n _ = pass
+abbrev pub react_funs : ℕ → ℕ → Key → Reaction
+react_funs version n Fun = take (fun_mark version n)
+    (name None ∷ names ∷ key Colon ∷ name None ∷ funs version (n + 1) ∷ [])
+react_funs version n _ = pass
 
-abbrev pub react_rules : ℕ → Key → Reaction
-react_rules n Rule = take (rule_mark n) (sides_then None (guards 0 ∷ rules (n + 1) ∷ []))
-react_rules n _ = pass
+abbrev pub react_rules : ℕ → ℕ → Key → Reaction
+react_rules version n Rule =
+    take (rule_mark version n) (sides_then None (guards 0 ∷ rules version (n + 1) ∷ []))
+react_rules version n _ = pass
 
 abbrev pub react_guards : ℕ → Key → Reaction
 react_guards n If = take (guard_mark n) (term_then 0 None (guards (n + 1) ∷ []))
@@ -148,9 +155,10 @@ react_key (args d) j = react_args d j
 react_key (more d n) j = react_more d n j
 react_key names j = react_names j
 react_key (more_names n) j = react_more_names n j
-react_key (sorts n k t) j = react_sorts n k t j
-react_key (funs n) j = react_funs n j
-react_key (rules n) j = react_rules n j
+react_key format j = fail
+react_key (sorts version n k t) j = react_sorts version n k t j
+react_key (funs version n) j = react_funs version n j
+react_key (rules version n) j = react_rules version n j
 react_key (guards n) j = react_guards n j
 react_key (goals n) j = react_goals n j
 react_key binds j = react_binds j
@@ -165,14 +173,28 @@ react_key (bars n) j = react_bars n j
 abbrev pub react_word : Symbol → List ℕ → Reaction
 react_word (key k) b = fail
 react_word (name m) b = take (name_mark b m) []
+react_word format b = fail
 react_word clause b = take (name_mark b None) (args 0 ∷ right_then (tail ∷ []))
 react_word (commas n) b = fail
 react_word conclusions b = take (name_mark b None) (args 0 ∷ right_then (bars 1 ∷ []))
 react_word _ b = pass
 
+-- the declarations of a format
+abbrev pub body : ℕ → List Symbol
+body version = sorts version 0 0 0 ∷ funs version 0 ∷ rules version 0 ∷ goals 0 ∷ []
+
+abbrev pub react_number : Symbol → ℕ → Reaction
+react_number (key k) m = fail
+react_number (name mark) m = fail
+react_number format m = if m == 1 then take None (body m) else fail
+react_number clause m = fail
+react_number (commas n) m = fail
+react_number _ m = pass
+
 abbrev pub react : Symbol → Item → Reaction
 react s (Word b a) = react_word s b
 react s (Sign j) = react_key s j
+react s (Number n) = react_number s n
 
 abbrev pub joined : Reaction → List Symbol → Reaction → Reaction
 joined (take m ss) st other = take m (ss ++ st)
@@ -187,6 +209,7 @@ feed (s ∷ st) token = joined (react s token) st (feed st token)
 abbrev pub is_empty : Symbol → Bool
 is_empty (key k) = false
 is_empty (name m) = false
+is_empty format = false
 is_empty clause = false
 is_empty (commas n) = false
 is_empty _ = true
@@ -211,7 +234,7 @@ run st [] = if ends st then None else Some (0, None)
 run st (token ∷ tokens) = after (feed st token) (length (token ∷ tokens)) (λ s. run s tokens)
 
 abbrev pub spec_symbols : List Symbol
-spec_symbols = key Spike ∷ key One ∷ sorts 0 0 0 ∷ funs 0 ∷ rules 0 ∷ goals 0 ∷ []
+spec_symbols = key Spike ∷ format ∷ []
 
 abbrev pub term_symbols : List Symbol
 term_symbols = name None ∷ args 0 ∷ []

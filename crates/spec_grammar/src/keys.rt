@@ -1,4 +1,4 @@
-/// A token that the grammar writes out: a reserved word, the format's number or a sign.
+/// A token that the grammar writes out: a reserved word or a sign.
 #[derive(Clone, Copy, Debug, PartialEq, Eq)]
 pub enum Key {
     Spike,
@@ -8,8 +8,9 @@ pub enum Key {
     Goal,
     If,
     Unless,
-    /// The number 1.
-    One,
+    Equal,
+    Status,
+    Order,
     LeftPar,
     RightPar,
     Comma,
@@ -17,6 +18,6 @@ pub enum Key {
     Equals,
     Bar,
     Arrow,
-    /// A token that stands nowhere: another number, or a word that is reserved for later formats.
+    /// `_`, which is no name and stands nowhere.
     Stray,
 }

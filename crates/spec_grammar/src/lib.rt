@@ -1,13 +1,13 @@
 //! Raw specifications and their grammar.
 //!
 //! It stands on spec_text, whose tokens the grammar speaks of. A raw specification is a text's
-//! declarations in their order, with each name as it stands there and its place. The folder
-//! `specs/` has the grammar with its limits as relations on whole token lists, what a fault of a
-//! text is, and a stack of grammar symbols that a reader goes along. The definitions have the
-//! limits' numbers themselves; the constants beside [`LimitKind`] are for code, which is proved
-//! against the definitions. The layers above use what a text derives, that it derives one raw
-//! specification at most, which keeps the limits, and that it has one fault at most, and none where
-//! it derives one.
+//! format and declarations in their order, with each name as it stands there and its place. The
+//! folder `specs/` has the grammar with its limits as relations on whole token lists, what a fault
+//! of a text is, and a stack of grammar symbols that a reader goes along. The definitions have the
+//! limits' numbers themselves; the constants and functions beside [`LimitKind`] are for code, which
+//! is proved against the definitions. The layers above use what a text derives, that it derives one
+//! raw specification at most, which keeps the limits, and that it has one fault at most, and none
+//! where it derives one.
 #![tactic(auto)]
 
 mod keys;
@@ -19,9 +19,9 @@ mod terms;
 pub use keys::Key;
 pub use laws::{one_reading, within_limits, worked_examples};
 pub use limits::{
-    LimitKind, MAX_ARGUMENTS, MAX_CONCLUSIONS, MAX_CONSTRUCTORS, MAX_DEPTH, MAX_FILE_BYTES,
-    MAX_FUNCTIONS, MAX_GOALS, MAX_GUARDS, MAX_NAME_BYTES, MAX_PREMISES, MAX_RULES,
-    MAX_SORT_CONSTRUCTORS, MAX_SORTS, MAX_VARIABLES,
+    LimitKind, MAX_ARGUMENTS, MAX_CONCLUSIONS, MAX_DEPTH, MAX_FILE_BYTES, MAX_GOALS, MAX_GUARDS,
+    MAX_NAME_BYTES, MAX_PREMISES, MAX_SORT_CONSTRUCTORS, MAX_SORTS, MAX_VARIABLES,
+    max_constructors, max_functions, max_rules,
 };
 pub use raw::{
     RawBind, RawEq, RawFun, RawGoal, RawGuard, RawName, RawNames, RawRule, RawSort, RawSpec,

@@ -1,3 +1,6 @@
+ghost use Rattle.std.specs.Prelude.{◌≡◌};
+ghost use Rattle.spec_grammar.specs.Limits.{most_constructors, most_functions, most_rules};
+
 use std::fmt;
 
 /// The most bytes of a file that is read as a specification.
@@ -12,20 +15,11 @@ pub const MAX_SORTS: usize = 200;
 /// The most constructors of one sort.
 pub const MAX_SORT_CONSTRUCTORS: usize = 64;
 
-/// The most constructors of all sorts.
-pub const MAX_CONSTRUCTORS: usize = 500;
-
-/// The most functions of a specification.
-pub const MAX_FUNCTIONS: usize = 500;
-
 /// The most arguments of a word, and the most argument sorts of a symbol.
 pub const MAX_ARGUMENTS: usize = 8;
 
 /// The greatest depth of a term; a word alone has the depth 1.
 pub const MAX_DEPTH: usize = 64;
-
-/// The most rules of a specification.
-pub const MAX_RULES: usize = 1000;
 
 /// The most guards of a rule.
 pub const MAX_GUARDS: usize = 8;
@@ -42,6 +36,27 @@ pub const MAX_PREMISES: usize = 8;
 /// The most conclusions of a goal.
 pub const MAX_CONCLUSIONS: usize = 4;
 
+/// The most constructors of all sorts, in a text of this format.
+pub fn max_constructors(version: u32) -> usize
+    ensures { result ≡ most_constructors version }
+{
+    if version == 2 { 1000 } else { 500 }
+}
+
+/// The most functions of a specification, in a text of this format.
+pub fn max_functions(version: u32) -> usize
+    ensures { result ≡ most_functions version }
+{
+    if version == 2 { 1000 } else { 500 }
+}
+
+/// The most rules of a specification, in a text of this format.
+pub fn max_rules(version: u32) -> usize
+    ensures { result ≡ most_rules version }
+{
+    if version == 2 { 4000 } else { 1000 }
+}
+
 /// Which limit of the grammar a token passes.
 #[derive(Clone, Copy, Debug, PartialEq, Eq)]
 pub enum LimitKind {
@@ -49,13 +64,13 @@ pub enum LimitKind {
     Name,
     /// More than [`MAX_SORTS`].
     Sorts,
-    /// More than [`MAX_SORT_CONSTRUCTORS`] of one sort, or more than [`MAX_CONSTRUCTORS`] in all.
+    /// More than [`MAX_SORT_CONSTRUCTORS`] of one sort, or more than [`max_constructors`] in all.
     Constructors,
-    /// More than [`MAX_FUNCTIONS`].
+    /// More than [`max_functions`].
     Functions,
     /// More than [`MAX_ARGUMENTS`].
     Arity,
-    /// More than [`MAX_RULES`].
+    /// More than [`max_rules`].
     Rules,
     /// More than [`MAX_GUARDS`] of a rule.
     Guards,

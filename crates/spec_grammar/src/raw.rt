@@ -68,9 +68,10 @@ pub struct RawGoal {
     pub conclusions: Seq<RawEq>,
 }
 
-/// The declarations of a text, in their order.
+/// The number of a text's format, and its declarations in their order.
 #[derive(Drop)]
 pub struct RawSpec {
+    pub version: u32,
     pub sorts: Seq<RawSort>,
     pub funs: Seq<RawFun>,
     pub rules: Seq<RawRule>,

@@ -3,7 +3,7 @@ use Rattle.std.proofs.Common.{◌≡◌, ℕ, ◌+◌, List, [], ◌∷◌, Opti
 use Rattle.std.specs.List.{AllZip}
 use Rattle.std.proofs.lemmas.List.Elements.{length_all_zip}
 use Rattle.spec_grammar.specs.declared.keys.Key.{Key}
-use Rattle.spec_grammar.specs.declared.keys.Key.TheVariants.{Spike, One, Sort, Fun, Rule, Goal, LeftPar, RightPar, Comma, Colon, Equals, Bar, Arrow}
+use Rattle.spec_grammar.specs.declared.keys.Key.TheVariants.{Spike, Sort, Fun, Rule, Goal, LeftPar, RightPar, Comma, Colon, Equals, Bar, Arrow}
 use Rattle.spec_grammar.specs.declared.limits.LimitKind.{LimitKind}
 use Rattle.spec_grammar.specs.declared.raw.RawName.{RawName}
 use Rattle.spec_grammar.specs.declared.raw.RawNames.{RawNames}
@@ -16,9 +16,9 @@ use Rattle.spec_grammar.specs.declared.raw.RawBind.{RawBind}
 use Rattle.spec_grammar.specs.declared.raw.RawGoal.{RawGoal}
 use Rattle.spec_grammar.specs.declared.raw.RawSpec.{RawSpec}
 use Rattle.spec_grammar.specs.RawTree.{RawTree, RawTrees, word, none, some}
-use Rattle.spec_grammar.specs.Items.{Item, Word, Sign}
+use Rattle.spec_grammar.specs.Items.{Item, Word, Sign, Number}
 use Rattle.spec_grammar.specs.Limits.{name_mark, sort_mark, constructor_mark, fun_mark, arity_mark, term_mark, rule_mark, guard_mark, goal_mark, variable_mark, premise_mark, conclusion_mark}
-use Rattle.spec_grammar.specs.Grammar.{Marked, sign, name_text, term_text, args_text, more_text, more_names_text, names_text, con_text, constructors_text, AreSorts, funs_text, guard_key, guards_text, sides_text, rules_text, commas_text, bars_text, bind_text, more_binds_text, binds_text}
+use Rattle.spec_grammar.specs.Grammar.{Marked, sign, number, name_text, term_text, args_text, more_text, more_names_text, names_text, con_text, constructors_text, AreSorts, funs_text, guard_key, guards_text, sides_text, rules_text, commas_text, bars_text, bind_text, more_binds_text, binds_text}
 use Rattle.spec_printing.specs.SamePlaces.{SameName, SameNames, SameTerm, SameTerms, SameSort, SameFun, SameEquation, SameGuard, SameRule, SameBind, SameGoal, IsSameButPlaces}
 use Rattle.spec_printing.proofs.Plain.{clause_text, goals_text, IsPlainText}
 
@@ -26,6 +26,7 @@ use Rattle.spec_printing.proofs.Plain.{clause_text, goals_text, IsPlainText}
 abbrev pub Step : Item → Option LimitKind → (List Marked → Type 0) → List Marked → Type 0
 Step (Word name at) mark Next v = (place : ℕ) × (u : List Marked) × (v ≡ (Word name place, mark) ∷ u) × Next u
 Step (Sign key) mark Next v = (u : List Marked) × (v ≡ (Sign key, mark) ∷ u) × Next u
+Step (Number n) mark Next v = (u : List Marked) × (v ≡ (Number n, mark) ∷ u) × Next u
 
 -- the second are the first, with names at other places
 abbrev pub Moved : List Marked → List Marked → Type 0
@@ -98,15 +99,15 @@ con_moves mark c rest v h =
       moved = a.moved;
     }
 
-constructors_moves : (k t : ℕ) (cs : List RawNames) (rest v : List Marked) → Moved (constructors_text k t cs rest) v → Moves (constructors_text k t) (AllZip SameNames) cs rest v
-constructors_moves k t [] rest v h = record { it = []; after = v; whole = refl; same = tt; moved = h }
-constructors_moves k t (c ∷ cs) rest v h =
-    let a = con_moves (constructor_mark k t) c (constructors_text (k + 1) (t + 1) cs rest) h.0 h.2 in
-    let b = constructors_moves (k + 1) (t + 1) cs rest a.after a.moved in
+constructors_moves : (version k t : ℕ) (cs : List RawNames) (rest v : List Marked) → Moved (constructors_text version k t cs rest) v → Moves (constructors_text version k t) (AllZip SameNames) cs rest v
+constructors_moves version k t [] rest v h = record { it = []; after = v; whole = refl; same = tt; moved = h }
+constructors_moves version k t (c ∷ cs) rest v h =
+    let a = con_moves (constructor_mark version k t) c (constructors_text version (k + 1) (t + 1) cs rest) h.0 h.2 in
+    let b = constructors_moves version (k + 1) (t + 1) cs rest a.after a.moved in
     record {
       it = a.it ∷ b.it;
       after = b.after;
-      whole = h.1 ∙ ap (λ (w : List Marked). sign Bar ∷ w) (a.whole ∙ ap (con_text (constructor_mark k t) a.it) b.whole);
+      whole = h.1 ∙ ap (λ (w : List Marked). sign Bar ∷ w) (a.whole ∙ ap (con_text (constructor_mark version k t) a.it) b.whole);
       same = (a.same, b.same);
       moved = b.moved;
     }
@@ -118,44 +119,44 @@ record Declared : Type 0 where
   first : RawNames
   others : List RawNames
 
-abbrev declared_text : ℕ → ℕ → Declared → List Marked → List Marked
-declared_text n t s rest = (Sign Sort, sort_mark n) ∷ name_text None s.head (sign Equals ∷ con_text (constructor_mark 0 t) s.first (constructors_text 1 (t + 1) s.others rest))
+abbrev declared_text : ℕ → ℕ → ℕ → Declared → List Marked → List Marked
+declared_text version n t s rest = (Sign Sort, sort_mark n) ∷ name_text None s.head (sign Equals ∷ con_text (constructor_mark version 0 t) s.first (constructors_text version 1 (t + 1) s.others rest))
 
 abbrev SameDeclared : Declared → Declared → Type 0
 SameDeclared s u = SameName s.head u.head × SameNames s.first u.first × AllZip SameNames s.others u.others
 
-declared_moves : (n t : ℕ) (s : Declared) (rest v : List Marked) → Moved (declared_text n t s rest) v → Moves (declared_text n t) SameDeclared s rest v
-declared_moves n t s rest v h =
-    let constructors : List Marked = constructors_text 1 (t + 1) s.others rest in
-    let a = name_moves None s.head (sign Equals ∷ con_text (constructor_mark 0 t) s.first constructors) h.0 h.2 in
+declared_moves : (version n t : ℕ) (s : Declared) (rest v : List Marked) → Moved (declared_text version n t s rest) v → Moves (declared_text version n t) SameDeclared s rest v
+declared_moves version n t s rest v h =
+    let constructors : List Marked = constructors_text version 1 (t + 1) s.others rest in
+    let a = name_moves None s.head (sign Equals ∷ con_text (constructor_mark version 0 t) s.first constructors) h.0 h.2 in
     let equals = a.moved in
-    let b = con_moves (constructor_mark 0 t) s.first constructors equals.0 equals.2 in
-    let c = constructors_moves 1 (t + 1) s.others rest b.after b.moved in
+    let b = con_moves (constructor_mark version 0 t) s.first constructors equals.0 equals.2 in
+    let c = constructors_moves version 1 (t + 1) s.others rest b.after b.moved in
     record {
       it = record { head = a.it; first = b.it; others = c.it };
       after = c.after;
-      whole = h.1 ∙ ap (λ (w : List Marked). (Sign Sort, sort_mark n) ∷ w) (a.whole ∙ ap (name_text None a.it) (equals.1 ∙ ap (λ (w : List Marked). sign Equals ∷ w) (b.whole ∙ ap (con_text (constructor_mark 0 t) b.it) c.whole)));
+      whole = h.1 ∙ ap (λ (w : List Marked). (Sign Sort, sort_mark n) ∷ w) (a.whole ∙ ap (name_text None a.it) (equals.1 ∙ ap (λ (w : List Marked). sign Equals ∷ w) (b.whole ∙ ap (con_text (constructor_mark version 0 t) b.it) c.whole)));
       same = (a.same, b.same, c.same);
       moved = c.moved;
     }
 
 -- The tokens begin with a text of sorts that are the same apart from places.
-record SortsMove (n t : ℕ) (ss : List RawSort) (rest v : List Marked) : Type 0 where
+record SortsMove (version n t : ℕ) (ss : List RawSort) (rest v : List Marked) : Type 0 where
   it : List RawSort
   after : List Marked
-  whole : AreSorts n t it v after
+  whole : AreSorts version n t it v after
   same : AllZip SameSort it ss
   moved : Moved rest after
 
-sorts_move : (n t : ℕ) (ss : List RawSort) (w rest v : List Marked) → AreSorts n t ss w rest → Moved w v → SortsMove n t ss rest v
-sorts_move n t [] w rest v s h = record { it = []; after = v; whole = refl; same = tt; moved = subst (λ (x : List Marked). Moved x v) s h }
-sorts_move n t (s ∷ ss) w rest v a h =
+sorts_move : (version n t : ℕ) (ss : List RawSort) (w rest v : List Marked) → AreSorts version n t ss w rest → Moved w v → SortsMove version n t ss rest v
+sorts_move version n t [] w rest v s h = record { it = []; after = v; whole = refl; same = tt; moved = subst (λ (x : List Marked). Moved x v) s h }
+sorts_move version n t (s ∷ ss) w rest v a h =
     let declared : Declared = record { head = s.head; first = a.0; others = a.1 } in
-    let m : Moves (declared_text n t) SameDeclared declared a.2 v = declared_moves n t declared a.2 v (subst (λ (x : List Marked). Moved x v) a.4 h) in
+    let m : Moves (declared_text version n t) SameDeclared declared a.2 v = declared_moves version n t declared a.2 v (subst (λ (x : List Marked). Moved x v) a.4 h) in
     let count : length a.1 ≡ length m.it.others = sym (length_all_zip SameNames m.it.others a.1 m.same.2) in
     let k : ℕ = t + 1 + length m.it.others in
-    let next : AreSorts (n + 1) k ss a.2 rest = subst (λ (i : ℕ). AreSorts (n + 1) (t + 1 + i) ss a.2 rest) count a.5 in
-    let b : SortsMove (n + 1) k ss rest m.after = sorts_move (n + 1) k ss a.2 rest m.after next m.moved in
+    let next : AreSorts version (n + 1) k ss a.2 rest = subst (λ (i : ℕ). AreSorts version (n + 1) (t + 1 + i) ss a.2 rest) count a.5 in
+    let b : SortsMove version (n + 1) k ss rest m.after = sorts_move version (n + 1) k ss a.2 rest m.after next m.moved in
     let constructors : List RawNames = m.it.first ∷ m.it.others in
     let same : AllZip SameNames constructors s.constructors = subst (λ (cs : List RawNames). AllZip SameNames constructors cs) (sym a.3) (m.same.1, m.same.2) in
     record {
@@ -167,17 +168,17 @@ sorts_move n t (s ∷ ss) w rest v a h =
     }
 
 -- functions
-funs_moves : (n : ℕ) (fs : List RawFun) (rest v : List Marked) → Moved (funs_text n fs rest) v → Moves (funs_text n) (AllZip SameFun) fs rest v
-funs_moves n [] rest v h = record { it = []; after = v; whole = refl; same = tt; moved = h }
-funs_moves n (f ∷ fs) rest v h =
-    let a = con_moves None f.head (sign Colon ∷ name_text None f.result (funs_text (n + 1) fs rest)) h.0 h.2 in
+funs_moves : (version n : ℕ) (fs : List RawFun) (rest v : List Marked) → Moved (funs_text version n fs rest) v → Moves (funs_text version n) (AllZip SameFun) fs rest v
+funs_moves version n [] rest v h = record { it = []; after = v; whole = refl; same = tt; moved = h }
+funs_moves version n (f ∷ fs) rest v h =
+    let a = con_moves None f.head (sign Colon ∷ name_text None f.result (funs_text version (n + 1) fs rest)) h.0 h.2 in
     let colon = a.moved in
-    let b = name_moves None f.result (funs_text (n + 1) fs rest) colon.0 colon.2 in
-    let c = funs_moves (n + 1) fs rest b.after b.moved in
+    let b = name_moves None f.result (funs_text version (n + 1) fs rest) colon.0 colon.2 in
+    let c = funs_moves version (n + 1) fs rest b.after b.moved in
     record {
       it = record { head = a.it; result = b.it } ∷ c.it;
       after = c.after;
-      whole = h.1 ∙ ap (λ (w : List Marked). (Sign Fun, fun_mark n) ∷ w) (a.whole ∙ ap (con_text None a.it) (colon.1 ∙ ap (λ (w : List Marked). sign Colon ∷ w) (b.whole ∙ ap (name_text None b.it) c.whole)));
+      whole = h.1 ∙ ap (λ (w : List Marked). (Sign Fun, fun_mark version n) ∷ w) (a.whole ∙ ap (con_text None a.it) (colon.1 ∙ ap (λ (w : List Marked). sign Colon ∷ w) (b.whole ∙ ap (name_text None b.it) c.whole)));
       same = ((a.same, b.same), c.same);
       moved = c.moved;
     }
@@ -253,16 +254,16 @@ guards_moves n (g ∷ gs) rest v h =
       moved = b.moved;
     }
 
-rules_moves : (n : ℕ) (rs : List RawRule) (rest v : List Marked) → Moved (rules_text n rs rest) v → Moves (rules_text n) (AllZip SameRule) rs rest v
-rules_moves n [] rest v h = record { it = []; after = v; whole = refl; same = tt; moved = h }
-rules_moves n (r ∷ rs) rest v h =
-    let a = equation_moves None (record { left = r.left; right = r.right }) (guards_text 0 r.guards (rules_text (n + 1) rs rest)) h.0 h.2 in
-    let b = guards_moves 0 r.guards (rules_text (n + 1) rs rest) a.after a.moved in
-    let c = rules_moves (n + 1) rs rest b.after b.moved in
+rules_moves : (version n : ℕ) (rs : List RawRule) (rest v : List Marked) → Moved (rules_text version n rs rest) v → Moves (rules_text version n) (AllZip SameRule) rs rest v
+rules_moves version n [] rest v h = record { it = []; after = v; whole = refl; same = tt; moved = h }
+rules_moves version n (r ∷ rs) rest v h =
+    let a = equation_moves None (record { left = r.left; right = r.right }) (guards_text 0 r.guards (rules_text version (n + 1) rs rest)) h.0 h.2 in
+    let b = guards_moves 0 r.guards (rules_text version (n + 1) rs rest) a.after a.moved in
+    let c = rules_moves version (n + 1) rs rest b.after b.moved in
     record {
       it = record { left = a.it.left; right = a.it.right; guards = b.it } ∷ c.it;
       after = c.after;
-      whole = h.1 ∙ ap (λ (w : List Marked). (Sign Rule, rule_mark n) ∷ w) (a.whole ∙ ap (equation_text None a.it) (b.whole ∙ ap (guards_text 0 b.it) c.whole));
+      whole = h.1 ∙ ap (λ (w : List Marked). (Sign Rule, rule_mark version n) ∷ w) (a.whole ∙ ap (equation_text None a.it) (b.whole ∙ ap (guards_text 0 b.it) c.whole));
       same = ((a.same.0, a.same.1, b.same), c.same);
       moved = c.moved;
     }
@@ -370,20 +371,22 @@ goals_moves n (g ∷ gs) rest v h =
 -- tokens of a raw specification with names at other places are those of one that is the same apart from places
 pub spec_moves : (raw : RawSpec) (w v : List Marked) → IsPlainText raw w → Moved w v → (again : RawSpec) × IsPlainText again v × IsSameButPlaces again raw
 spec_moves raw w v p h =
-    let m : Moved (sign Spike ∷ sign One ∷ p.sorts) v = subst (λ (x : List Marked). Moved x v) p.whole h in
-    let one = m.2 in
+    let version = raw.version in
+    let m : Moved (sign Spike ∷ number version ∷ p.sorts) v = subst (λ (x : List Marked). Moved x v) p.whole h in
+    let after = m.2 in
     let goals : List Marked = goals_text 0 raw.goals [] in
-    let rules : List Marked = rules_text 0 raw.rules goals in
-    let s = sorts_move 0 0 raw.sorts p.sorts (funs_text 0 raw.funs rules) one.0 p.are one.2 in
-    let f = funs_moves 0 raw.funs rules s.after s.moved in
-    let r = rules_moves 0 raw.rules goals f.after f.moved in
+    let rules : List Marked = rules_text version 0 raw.rules goals in
+    let s = sorts_move version 0 0 raw.sorts p.sorts (funs_text version 0 raw.funs rules) after.0 p.are after.2 in
+    let f = funs_moves version 0 raw.funs rules s.after s.moved in
+    let r = rules_moves version 0 raw.rules goals f.after f.moved in
     let g = goals_moves 0 raw.goals [] r.after r.moved in
-    let rest : s.after ≡ funs_text 0 f.it (rules_text 0 r.it (goals_text 0 g.it [])) = f.whole ∙ ap (funs_text 0 f.it) (r.whole ∙ ap (rules_text 0 r.it) (g.whole ∙ ap (goals_text 0 g.it) g.moved)) in (
-      record { sorts = s.it; funs = f.it; rules = r.it; goals = g.it },
+    let rest : s.after ≡ funs_text version 0 f.it (rules_text version 0 r.it (goals_text 0 g.it [])) = f.whole ∙ ap (funs_text version 0 f.it) (r.whole ∙ ap (rules_text version 0 r.it) (g.whole ∙ ap (goals_text 0 g.it) g.moved)) in (
+      record { version = version; sorts = s.it; funs = f.it; rules = r.it; goals = g.it },
       record {
-        sorts = one.0;
-        whole = m.1 ∙ ap (λ (x : List Marked). sign Spike ∷ x) one.1;
-        are = subst (λ (x : List Marked). AreSorts 0 0 s.it one.0 x) rest s.whole;
+        sorts = after.0;
+        whole = m.1 ∙ ap (λ (x : List Marked). sign Spike ∷ x) after.1;
+        format = p.format;
+        are = subst (λ (x : List Marked). AreSorts version 0 0 s.it after.0 x) rest s.whole;
       },
-      record { sorts = s.same; funs = f.same; rules = r.same; goals = g.same },
+      record { version = refl; sorts = s.same; funs = f.same; rules = r.same; goals = g.same },
     )

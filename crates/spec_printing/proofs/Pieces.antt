@@ -1,11 +1,14 @@
 -- The pieces that the printed form writes of marked tokens: a gap depends on the token and on the one before it.
-use Rattle.std.proofs.Common.{◌≡◌, ℕ, ◌+◌, ◌<◌, List, [], ◌∷◌, ◌++◌, Bool, true, false, ◌&&◌, Option, Some, None, length, take, drop, refl, ap, sym, subst, ◌∙◌, append_assoc, length-append, arith, lit<, lit≤}
+use Rattle.std.proofs.Common.{◌≡◌, ℕ, ◌+◌, ◌<◌, ◌^◌, List, [], ◌∷◌, ◌++◌, Bool, true, false, ◌&&◌, Option, Some, None, length, take, drop, refl, ap, sym, subst, ◌∙◌, append_assoc, length-append, arith, lit<}
 use Rattle.std.specs.Prelude.{◌==◌, ◌||◌, IsTrue, codes, nat_lt}
 use Rattle.std.specs.Char.{is_ascii_alphabetic, is_ascii_alphanumeric}
+use Rattle.std.specs.Fmt.{decimal}
 use Rattle.std.specs.List.{AllByRecursion}
+use Rattle.std.specs.Str.Parse.{AllDigits, digits_value}
 use Rattle.std.specs.Str.{chars, IsUtf8, IsAscii}
 use Rattle.std.proofs.Math.Seq.{drop-append_seam, take-append_seam}
 use Rattle.std.proofs.lemmas.Bool.{ltb-true}
+use Rattle.std.proofs.lemmas.Str.Parse.{IsNumeralModel, digits_value_short}
 use Rattle.std.proofs.lemmas.Str.{chars-IsAscii, IsUtf8-from_ascii}
 use Rattle.std.proofs.lemmas.Str.Ascii.{IsAscii-nil, IsAscii-cons}
 use Rattle.unicode_ident.specs.Ident.{is_xid_continue}
@@ -17,20 +20,19 @@ use Rattle.spec_text.specs.Written.{Written, written, placed, AllBlank, IsSignKi
 use Rattle.spec_text.specs.declared.tokens.Token.{Token}
 use Rattle.spec_text.specs.declared.tokens.TokenKind.{TokenKind}
 use Rattle.spec_text.specs.declared.tokens.TokenKind.TheVariants as kinds
-use Rattle.spec_text.proofs.WrittenLemmas.{word_sound, sign_sound}
+use Rattle.spec_text.proofs.WrittenLemmas.{word_sound, sign_sound, number_sound}
 use Rattle.spec_grammar.specs.declared.keys.Key.{Key}
-use Rattle.spec_grammar.specs.declared.keys.Key.TheVariants.{Spike, Sort, Fun, Rule, Goal, If, Unless, One, LeftPar, RightPar, Comma, Colon, Equals, Bar, Arrow, Stray}
+use Rattle.spec_grammar.specs.declared.keys.Key.TheVariants.{Spike, Sort, Fun, Rule, Goal, If, Unless, Equal, Status, Order, LeftPar, RightPar, Comma, Colon, Equals, Bar, Arrow, Stray}
 use Rattle.spec_grammar.specs.declared.limits.LimitKind.{LimitKind}
-use Rattle.spec_grammar.specs.Items.{Item, Word, Sign, reserved, key_of, key_or_name, items_of, text_of}
+use Rattle.spec_grammar.specs.Items.{Item, Word, Sign, Number, reserved, key_of, key_or_name, item_as, items_of, text_of}
 use Rattle.spec_grammar.specs.Grammar.{Marked}
 use Rattle.spec_grammar.specs.Derives.{clean}
 use Rattle.spec_printing.proofs.Plain.{IsGood, AllGood}
 use Rattle.spec_printing.proofs.Moved.{Step, Moved}
 use Rattle.spec_text.proofs.SpanLemmas.{and_parts}
 
--- how a key is written; a stray token as a word that is reserved for later formats
+-- how a key is written
 abbrev pub key_kind : Key → TokenKind
-key_kind One = kinds.Number 1
 key_kind LeftPar = kinds.LeftPar
 key_kind RightPar = kinds.RightPar
 key_kind Comma = kinds.Comma
@@ -45,6 +47,9 @@ key_kind Rule = kinds.Word
 key_kind Goal = kinds.Word
 key_kind If = kinds.Word
 key_kind Unless = kinds.Word
+key_kind Equal = kinds.Word
+key_kind Status = kinds.Word
+key_kind Order = kinds.Word
 key_kind Stray = kinds.Word
 
 abbrev pub key_text : Key → List ℕ
@@ -55,7 +60,9 @@ key_text Rule = codes "rule"
 key_text Goal = codes "goal"
 key_text If = codes "if"
 key_text Unless = codes "unless"
-key_text One = codes "1"
+key_text Equal = codes "equal"
+key_text Status = codes "status"
+key_text Order = codes "order"
 key_text LeftPar = codes "("
 key_text RightPar = codes ")"
 key_text Comma = codes ","
@@ -63,15 +70,17 @@ key_text Colon = codes ":"
 key_text Equals = codes "="
 key_text Bar = codes "|"
 key_text Arrow = codes "=>"
-key_text Stray = codes "equal"
+key_text Stray = codes "_"
 
 abbrev pub item_kind : Item → TokenKind
 item_kind (Word name at) = kinds.Word
 item_kind (Sign key) = key_kind key
+item_kind (Number n) = kinds.Number n
 
 abbrev pub item_text : Item → List ℕ
 item_text (Word name at) = name
 item_text (Sign key) = key_text key
+item_text (Number n) = decimal n
 
 -- the gap before a key that doesn't stand behind `(`
 abbrev pub key_gap : Key → List ℕ
@@ -82,10 +91,12 @@ key_gap Sort = codes "\n"
 key_gap Fun = codes "\n"
 key_gap Rule = codes "\n"
 key_gap Goal = codes "\n"
+key_gap Equal = codes "\n"
+key_gap Status = codes "\n"
+key_gap Order = codes "\n"
 key_gap Spike = codes " "
 key_gap If = codes " "
 key_gap Unless = codes " "
-key_gap One = codes " "
 key_gap Colon = codes " "
 key_gap Equals = codes " "
 key_gap Bar = codes " "
@@ -104,6 +115,7 @@ sign_gap false key = key_gap key
 abbrev pub gap_of : Bool → Item → List ℕ
 gap_of inner (Word name at) = blank inner
 gap_of inner (Sign key) = sign_gap inner key
+gap_of inner (Number n) = blank inner
 
 -- the token is `(`
 abbrev pub key_opens : Key → Bool
@@ -113,6 +125,7 @@ key_opens _ = false
 abbrev pub opens : Item → Bool
 opens (Word name at) = false
 opens (Sign key) = key_opens key
+opens (Number n) = false
 
 abbrev pub pieces : Bool → List Marked → List Written
 pieces inner [] = []
@@ -147,12 +160,6 @@ letters_sound c cs gap b lt first h =
     let a = letters_ascii (c ∷ cs) h in
     word_sound gap (c ∷ cs) b (IsUtf8-from_ascii (c ∷ cs) a) (subst (λ (xs : List ℕ). IsName xs) (sym (chars-IsAscii (c ∷ cs) a)) (letters_name c cs lt first h))
 
-one_sound : (gap : List ℕ) → AllBlank gap → Sound (record { gap = gap; text = codes "1"; kind = kinds.Number 1 })
-one_sound gap b =
-    let a : IsAscii (codes "1") = IsAscii-cons 49 [] (lit< tt) IsAscii-nil in
-    let spelled : IsSpelling (kinds.Number 1) (codes "1") = ((lit< tt, (lit< tt, tt)), lit≤ tt, refl) in
-    (b, IsUtf8-from_ascii (codes "1") a, subst (λ (cs : List ℕ). IsSpelling (kinds.Number 1) cs) (sym (chars-IsAscii (codes "1") a)) spelled)
-
 key_sound : (key : Key) (gap : List ℕ) → AllBlank gap → Sound (record { gap = gap; text = key_text key; kind = key_kind key })
 key_sound Spike gap b = letters_sound 115 (codes "pike") gap b (lit< tt) refl refl
 key_sound Sort gap b = letters_sound 115 (codes "ort") gap b (lit< tt) refl refl
@@ -161,8 +168,10 @@ key_sound Rule gap b = letters_sound 114 (codes "ule") gap b (lit< tt) refl refl
 key_sound Goal gap b = letters_sound 103 (codes "oal") gap b (lit< tt) refl refl
 key_sound If gap b = letters_sound 105 (codes "f") gap b (lit< tt) refl refl
 key_sound Unless gap b = letters_sound 117 (codes "nless") gap b (lit< tt) refl refl
-key_sound Stray gap b = letters_sound 101 (codes "qual") gap b (lit< tt) refl refl
-key_sound One gap b = one_sound gap b
+key_sound Equal gap b = letters_sound 101 (codes "qual") gap b (lit< tt) refl refl
+key_sound Status gap b = letters_sound 115 (codes "tatus") gap b (lit< tt) refl refl
+key_sound Order gap b = letters_sound 111 (codes "rder") gap b (lit< tt) refl refl
+key_sound Stray gap b = letters_sound 95 [] gap b (lit< tt) refl refl
 key_sound LeftPar gap b = sign_sound gap kinds.LeftPar b tt
 key_sound RightPar gap b = sign_sound gap kinds.RightPar b tt
 key_sound Comma gap b = sign_sound gap kinds.Comma b tt
@@ -182,7 +191,9 @@ key_gap_blank Goal = (refl, tt)
 key_gap_blank Spike = (refl, tt)
 key_gap_blank If = (refl, tt)
 key_gap_blank Unless = (refl, tt)
-key_gap_blank One = (refl, tt)
+key_gap_blank Equal = (refl, tt)
+key_gap_blank Status = (refl, tt)
+key_gap_blank Order = (refl, tt)
 key_gap_blank Colon = (refl, tt)
 key_gap_blank Equals = (refl, tt)
 key_gap_blank Bar = (refl, tt)
@@ -194,11 +205,14 @@ gap_blank true (Word name at) = tt
 gap_blank false (Word name at) = (refl, tt)
 gap_blank true (Sign key) = tt
 gap_blank false (Sign key) = key_gap_blank key
+gap_blank true (Number n) = tt
+gap_blank false (Number n) = (refl, tt)
 
 -- each piece is sound
 piece_sound : (inner : Bool) (x : Item) → IsGood x → Sound (record { gap = gap_of inner x; text = item_text x; kind = item_kind x })
 piece_sound inner (Word name at) g = word_sound (gap_of inner (Word name at)) name (gap_blank inner (Word name at)) g.0 g.1
 piece_sound inner (Sign key) g = key_sound key (gap_of inner (Sign key)) (gap_blank inner (Sign key))
+piece_sound inner (Number n) g = number_sound (gap_of inner (Number n)) n (gap_blank inner (Number n)) g
 
 touches_sign : (kind next : TokenKind) → IsSignKind next → MayTouch kind next
 touches_sign kinds.Word next h = h
@@ -227,12 +241,15 @@ apart_from kind (x ∷ w) = by x.0
     by (Sign Spike) = tt
     by (Sign If) = tt
     by (Sign Unless) = tt
-    by (Sign One) = tt
+    by (Sign Equal) = tt
+    by (Sign Status) = tt
+    by (Sign Order) = tt
     by (Sign Colon) = tt
     by (Sign Equals) = tt
     by (Sign Bar) = tt
     by (Sign Arrow) = tt
     by (Sign Stray) = tt
+    by (Number n) = tt
 
 apart_open : (w : List Marked) → Apart kinds.LeftPar (pieces true w)
 apart_open [] = tt
@@ -241,6 +258,7 @@ apart_open (x ∷ w) = by x.0
     by : (y : Item) → Apart kinds.LeftPar (record { gap = gap_of true y; text = item_text y; kind = item_kind y } ∷ pieces (opens x.0) w)
     by (Word name at) = tt
     by (Sign key) = tt
+    by (Number n) = tt
 
 apart_pieces : (x : Item) (w : List Marked) → Apart (item_kind x) (pieces (opens x) w)
 apart_pieces (Word name at) w = apart_from kinds.Word w
@@ -254,45 +272,54 @@ apart_pieces (Sign Goal) w = apart_from kinds.Word w
 apart_pieces (Sign Spike) w = apart_from kinds.Word w
 apart_pieces (Sign If) w = apart_from kinds.Word w
 apart_pieces (Sign Unless) w = apart_from kinds.Word w
-apart_pieces (Sign One) w = apart_from (kinds.Number 1) w
+apart_pieces (Sign Equal) w = apart_from kinds.Word w
+apart_pieces (Sign Status) w = apart_from kinds.Word w
+apart_pieces (Sign Order) w = apart_from kinds.Word w
 apart_pieces (Sign Colon) w = apart_from kinds.Colon w
 apart_pieces (Sign Equals) w = apart_from kinds.Equals w
 apart_pieces (Sign Bar) w = apart_from kinds.Bar w
 apart_pieces (Sign Arrow) w = apart_from kinds.Arrow w
 apart_pieces (Sign Stray) w = apart_from kinds.Word w
+apart_pieces (Number n) w = apart_from (kinds.Number n) w
 
 pub pieces_sound : (inner : Bool) (w : List Marked) → AllGood w → AllSound (pieces inner w)
 pieces_sound inner [] h = tt
 pieces_sound inner (x ∷ w) h = (piece_sound inner x.0 h.0, apart_pieces x.0 w, pieces_sound (opens x.0) w h.2)
 
--- a key is read from what is written of it
-key_read : (key : Key) → key_of (key_kind key) (key_text key) ≡ Some key
-key_read Spike = refl
-key_read Sort = refl
-key_read Fun = refl
-key_read Rule = refl
-key_read Goal = refl
-key_read If = refl
-key_read Unless = refl
-key_read One = refl
-key_read LeftPar = refl
-key_read RightPar = refl
-key_read Comma = refl
-key_read Colon = refl
-key_read Equals = refl
-key_read Bar = refl
-key_read Arrow = refl
-key_read Stray = refl
+-- an item is read from what is written of it
+key_read : (key : Key) (at : ℕ) → item_as (key_kind key) (key_text key) at ≡ Sign key
+key_read Spike at = refl
+key_read Sort at = refl
+key_read Fun at = refl
+key_read Rule at = refl
+key_read Goal at = refl
+key_read If at = refl
+key_read Unless at = refl
+key_read Equal at = refl
+key_read Status at = refl
+key_read Order at = refl
+key_read LeftPar at = refl
+key_read RightPar at = refl
+key_read Comma at = refl
+key_read Colon at = refl
+key_read Equals at = refl
+key_read Bar at = refl
+key_read Arrow at = refl
+key_read Stray at = refl
 
-item_step : (x : Item) (mark : Option LimitKind) (Next : List Marked → Type 0) (slice : List ℕ) (at : ℕ) (u : List Marked) → IsGood x → mark ≡ None → slice ≡ item_text x → Next u → Step x mark Next ((key_or_name (key_of (item_kind x) slice) slice at, None) ∷ u)
+-- a token of an item that was written, before others
+next_token : (x y : Item) (mark : Option LimitKind) (u : List Marked) → x ≡ y → mark ≡ None → ◌≡◌ {A = List Marked} ((x, None) ∷ u) ((y, mark) ∷ u)
+next_token x y mark u e m = ap (λ (z : Item). (z, None) ∷ u) e ∙ ap (λ (k : Option LimitKind). (y, k) ∷ u) (sym m)
+
+item_step : (x : Item) (mark : Option LimitKind) (Next : List Marked → Type 0) (slice : List ℕ) (at : ℕ) (u : List Marked) → IsGood x → mark ≡ None → slice ≡ item_text x → Next u → Step x mark Next ((item_as (item_kind x) slice at, None) ∷ u)
 item_step (Word name place) mark Next slice at u g m s h =
-    let read : ◌≡◌ {A = List Marked} ((key_or_name (reserved slice) slice at, None) ∷ u) ((Word name at, mark) ∷ u) =
-    ap (λ (bs : List ℕ). (key_or_name (reserved bs) bs at, None) ∷ u) s ∙ ap (λ (o : Option Key). (key_or_name o name at, None) ∷ u) g.2 ∙ ap (λ (k : Option LimitKind). (Word name at, k) ∷ u) (sym m) in
-    (at, u, read, h)
+    let named : key_or_name (reserved name) name at ≡ Word name at = ap (λ (o : Option Key). key_or_name o name at) g.2 in
+    let read : item_as kinds.Word slice at ≡ Word name at = ap (λ (bs : List ℕ). item_as kinds.Word bs at) s ∙ named in
+    (at, u, next_token (item_as kinds.Word slice at) (Word name at) mark u read m, h)
 item_step (Sign key) mark Next slice at u g m s h =
-    let read : ◌≡◌ {A = List Marked} ((key_or_name (key_of (key_kind key) slice) slice at, None) ∷ u) ((Sign key, mark) ∷ u) =
-    ap (λ (bs : List ℕ). (key_or_name (key_of (key_kind key) bs) bs at, None) ∷ u) s ∙ ap (λ (o : Option Key). (key_or_name o (key_text key) at, None) ∷ u) (key_read key) ∙ ap (λ (k : Option LimitKind). (Sign key, k) ∷ u) (sym m) in
-    (u, read, h)
+    let read : item_as (key_kind key) slice at ≡ Sign key = ap (λ (bs : List ℕ). item_as (key_kind key) bs at) s ∙ key_read key at in
+    (u, next_token (item_as (key_kind key) slice at) (Sign key) mark u read m, h)
+item_step (Number n) mark Next slice at u g m s h = (u, next_token (Number n) (Number n) mark u refl m, h)
 
 -- what is written in a row, and the slice of a part of it
 slice_is : (bytes before text rest : List ℕ) (at : ℕ) → bytes ≡ before ++ (text ++ rest) → at ≡ length before → take (length text) (drop at bytes) ≡ text
@@ -316,13 +343,19 @@ pieces_moved (x ∷ w) inner front tail bytes n g e h =
     item_step x.0 x.1 (Moved w) (take (length text) (drop at bytes)) at (clean (items_of bytes (placed (at + length text) (pieces (opens x.0) w)))) g.0 g.1 slice (pieces_moved w (opens x.0) (before ++ text) tail bytes (at + length text) g.2 next whole)
 
 -- the tokens of a text are good
+decimal_numerals : IsNumeralModel (AllDigits 10) (digits_value 10)
+decimal_numerals = record { to = λ ds h. h; from = λ ds h. h; same = λ ds h. refl }
+
 named_good : (key : Option Key) (name : List ℕ) (at : ℕ) → key ≡ reserved name → IsUtf8 name → IsName (chars name) → IsGood (key_or_name key name at)
 named_good (Some key) name at e u n = tt
 named_good None name at e u n = (u, n, sym e)
 
-token_good : (bytes : List ℕ) (token : Token) (kind : TokenKind) → IsUtf8 (text_of bytes token) → IsSpelling kind (chars (text_of bytes token)) → IsGood (key_or_name (key_of kind (text_of bytes token)) (text_of bytes token) token.at)
+token_good : (bytes : List ℕ) (token : Token) (kind : TokenKind) → IsUtf8 (text_of bytes token) → IsSpelling kind (chars (text_of bytes token)) → IsGood (item_as kind (text_of bytes token) token.at)
 token_good bytes token kinds.Word u s = named_good (reserved (text_of bytes token)) (text_of bytes token) token.at refl u s
-token_good bytes token (kinds.Number n) u s = tt
+token_good bytes token (kinds.Number n) u s =
+    let cs = chars (text_of bytes token) in
+    let short : digits_value 10 cs < 10 ^ 6 = digits_value_short decimal_numerals cs 6 s.0.1 s.1 in
+    omega (arith, s.2, short)
 token_good bytes token kinds.LeftPar u s = tt
 token_good bytes token kinds.RightPar u s = tt
 token_good bytes token kinds.Comma u s = tt

@@ -1,9 +1,9 @@
 -- The text of a raw specification that the printed form has: no arrow where there are conclusions only. Its tokens are as
 -- good as those of each other text of it.
-use Rattle.std.proofs.Common.{◌≡◌, ◌≢◌, inl, inr, ℕ, ◌+◌, List, [], ◌∷◌, Option, None, length, refl, sym, subst}
+use Rattle.std.proofs.Common.{◌≡◌, ◌≢◌, inl, inr, ℕ, ◌+◌, ◌<◌, ◌^◌, List, [], ◌∷◌, Option, None, length, refl, sym, subst}
 use Rattle.std.specs.Str.{chars, IsUtf8}
 use Rattle.spec_text.specs.Names.{IsName}
-use Rattle.spec_grammar.specs.declared.keys.Key.TheVariants.{Spike, One, Sort, Goal, RightPar, Colon, Equals, Arrow}
+use Rattle.spec_grammar.specs.declared.keys.Key.TheVariants.{Spike, Sort, Goal, RightPar, Colon, Equals, Arrow}
 use Rattle.spec_grammar.specs.declared.limits.LimitKind.{LimitKind}
 use Rattle.spec_grammar.specs.declared.raw.RawName.{RawName}
 use Rattle.spec_grammar.specs.declared.raw.RawNames.{RawNames}
@@ -16,9 +16,9 @@ use Rattle.spec_grammar.specs.declared.raw.RawBind.{RawBind}
 use Rattle.spec_grammar.specs.declared.raw.RawGoal.{RawGoal}
 use Rattle.spec_grammar.specs.declared.raw.RawSpec.{RawSpec}
 use Rattle.spec_grammar.specs.RawTree.{RawTree, RawTrees, word, none, some}
-use Rattle.spec_grammar.specs.Items.{Item, Word, Sign, reserved}
+use Rattle.spec_grammar.specs.Items.{Item, Word, Sign, Number, reserved}
 use Rattle.spec_grammar.specs.Limits.{sort_mark, constructor_mark, term_mark, goal_mark, premise_mark, conclusion_mark}
-use Rattle.spec_grammar.specs.Grammar.{Marked, sign, name_text, term_text, args_text, more_text, more_names_text, names_text, con_text, constructors_text, AreSorts, funs_text, guards_text, sides_text, rules_text, commas_text, premises_text, bars_text, conclusions_text, IsClause, more_binds_text, binds_text, AreGoals, IsSpecText}
+use Rattle.spec_grammar.specs.Grammar.{Marked, sign, number, name_text, term_text, args_text, more_text, more_names_text, names_text, con_text, constructors_text, AreSorts, funs_text, guards_text, sides_text, rules_text, commas_text, premises_text, bars_text, conclusions_text, IsClause, more_binds_text, binds_text, AreGoals, IsFormat, definitions_text, IsSpecText}
 
 -- the clause, without an arrow where there are conclusions only
 abbrev pub clause_text : List RawEq → List RawEq → List Marked → List Marked
@@ -33,8 +33,9 @@ goals_text n (g ∷ gs) rest = (Sign Goal, goal_mark n) ∷ name_text None g.hea
 -- The tokens are the text of the raw specification that the printed form has.
 pub record IsPlainText (raw : RawSpec) (text : List Marked) : Type 0 where
   pub sorts : List Marked
-  pub whole : text ≡ sign Spike ∷ sign One ∷ sorts
-  pub are : AreSorts 0 0 raw.sorts sorts (funs_text 0 raw.funs (rules_text 0 raw.rules (goals_text 0 raw.goals [])))
+  pub whole : text ≡ sign Spike ∷ number raw.version ∷ sorts
+  pub are : AreSorts raw.version 0 0 raw.sorts sorts (definitions_text raw (goals_text 0 raw.goals []))
+  pub format : IsFormat raw
 
 -- a plain text is a text
 clause_is : (ps cs : List RawEq) (rest : List Marked) → IsClause ps cs (clause_text ps cs rest) rest
@@ -49,12 +50,13 @@ goals_are n (g ∷ gs) rest =
     (clause_text g.premises g.conclusions later, later, refl, clause_is g.premises g.conclusions later, goals_are (n + 1) gs rest)
 
 pub plain_is_text : (raw : RawSpec) (text : List Marked) → IsPlainText raw text → IsSpecText raw text
-plain_is_text raw text p = (p.sorts, goals_text 0 raw.goals [], p.whole, p.are, goals_are 0 raw.goals [])
+plain_is_text raw text p = (p.sorts, goals_text 0 raw.goals [], p.whole, p.are, goals_are 0 raw.goals [], p.format)
 
--- names of UTF-8 that aren't reserved
+-- names of UTF-8 that aren't reserved, and numbers of at most six digits
 abbrev pub IsGood : Item → Type 0
 IsGood (Word name at) = IsUtf8 name × IsName (chars name) × (reserved name ≡ None)
 IsGood (Sign key) = Unit {0}
+IsGood (Number n) = n < 10 ^ 6
 
 -- the names are good, and no limit is passed
 abbrev pub AllGood : List Marked → Type 0
@@ -77,22 +79,22 @@ names_good : (xs : List RawName) (rest other : List Marked) → Follows rest oth
 names_good [] rest other f = f
 names_good (x ∷ xs) rest other f = behind (behind (more_names_good 1 xs (sign RightPar ∷ rest) (sign RightPar ∷ other) (behind f)))
 
-constructors_good : (k t : ℕ) (cs : List RawNames) (rest other : List Marked) → Follows rest other → Follows (constructors_text k t cs rest) (constructors_text k t cs other)
-constructors_good k t [] rest other f = f
-constructors_good k t (c ∷ cs) rest other f = behind (behind (names_good c.args _ _ (constructors_good (k + 1) (t + 1) cs rest other f)))
+constructors_good : (version k t : ℕ) (cs : List RawNames) (rest other : List Marked) → Follows rest other → Follows (constructors_text version k t cs rest) (constructors_text version k t cs other)
+constructors_good version k t [] rest other f = f
+constructors_good version k t (c ∷ cs) rest other f = behind (behind (names_good c.args _ _ (constructors_good version (k + 1) (t + 1) cs rest other f)))
 
-sorts_good : (n t : ℕ) (ss : List RawSort) (text rest other : List Marked) → Follows rest other → AreSorts n t ss text rest → (plain : List Marked) × AreSorts n t ss plain other × Follows text plain
-sorts_good n t [] text rest other f s = (other, refl, subst (λ (w : List Marked). Follows w other) (sym s) f)
-sorts_good n t (s ∷ ss) text rest other f a =
-    let b = sorts_good (n + 1) (t + 1 + length a.1) ss a.2 rest other f a.5 in
-    let plain : List Marked = (Sign Sort, sort_mark n) ∷ name_text None s.head (sign Equals ∷ con_text (constructor_mark 0 t) a.0 (constructors_text 1 (t + 1) a.1 b.0)) in
-    let good : Follows ((Sign Sort, sort_mark n) ∷ name_text None s.head (sign Equals ∷ con_text (constructor_mark 0 t) a.0 (constructors_text 1 (t + 1) a.1 a.2))) plain =
-    behind (behind (behind (behind (names_good a.0.args _ _ (constructors_good 1 (t + 1) a.1 a.2 b.0 b.2))))) in
+sorts_good : (version n t : ℕ) (ss : List RawSort) (text rest other : List Marked) → Follows rest other → AreSorts version n t ss text rest → (plain : List Marked) × AreSorts version n t ss plain other × Follows text plain
+sorts_good version n t [] text rest other f s = (other, refl, subst (λ (w : List Marked). Follows w other) (sym s) f)
+sorts_good version n t (s ∷ ss) text rest other f a =
+    let b = sorts_good version (n + 1) (t + 1 + length a.1) ss a.2 rest other f a.5 in
+    let plain : List Marked = (Sign Sort, sort_mark n) ∷ name_text None s.head (sign Equals ∷ con_text (constructor_mark version 0 t) a.0 (constructors_text version 1 (t + 1) a.1 b.0)) in
+    let good : Follows ((Sign Sort, sort_mark n) ∷ name_text None s.head (sign Equals ∷ con_text (constructor_mark version 0 t) a.0 (constructors_text version 1 (t + 1) a.1 a.2))) plain =
+    behind (behind (behind (behind (names_good a.0.args _ _ (constructors_good version 1 (t + 1) a.1 a.2 b.0 b.2))))) in
     (plain, (a.0, a.1, b.0, a.3, refl, b.1), subst (λ (w : List Marked). Follows w plain) (sym a.4) good)
 
-funs_good : (n : ℕ) (fs : List RawFun) (rest other : List Marked) → Follows rest other → Follows (funs_text n fs rest) (funs_text n fs other)
-funs_good n [] rest other f = f
-funs_good n (x ∷ fs) rest other f = behind (behind (names_good x.head.args _ _ (behind (behind (funs_good (n + 1) fs rest other f)))))
+funs_good : (version n : ℕ) (fs : List RawFun) (rest other : List Marked) → Follows rest other → Follows (funs_text version n fs rest) (funs_text version n fs other)
+funs_good version n [] rest other f = f
+funs_good version n (x ∷ fs) rest other f = behind (behind (names_good x.head.args _ _ (behind (behind (funs_good version (n + 1) fs rest other f)))))
 
 mutual
   term_good : (d : ℕ) (mark : Option LimitKind) (t : RawTree) (rest other : List Marked) → Follows rest other → Follows (term_text d mark t rest) (term_text d mark t other)
@@ -113,9 +115,9 @@ guards_good : (n : ℕ) (gs : List RawGuard) (rest other : List Marked) → Foll
 guards_good n [] rest other f = f
 guards_good n (g ∷ gs) rest other f = behind (term_good 0 None g.test _ _ (guards_good (n + 1) gs rest other f))
 
-rules_good : (n : ℕ) (rs : List RawRule) (rest other : List Marked) → Follows rest other → Follows (rules_text n rs rest) (rules_text n rs other)
-rules_good n [] rest other f = f
-rules_good n (r ∷ rs) rest other f = behind (sides_good None r.left r.right _ _ (guards_good 0 r.guards _ _ (rules_good (n + 1) rs rest other f)))
+rules_good : (version n : ℕ) (rs : List RawRule) (rest other : List Marked) → Follows rest other → Follows (rules_text version n rs rest) (rules_text version n rs other)
+rules_good version n [] rest other f = f
+rules_good version n (r ∷ rs) rest other f = behind (sides_good None r.left r.right _ _ (guards_good 0 r.guards _ _ (rules_good version (n + 1) rs rest other f)))
 
 commas_good : (n : ℕ) (es : List RawEq) (rest other : List Marked) → Follows rest other → Follows (commas_text n es rest) (commas_text n es other)
 commas_good n [] rest other f = f
@@ -167,9 +169,10 @@ goals_good n (g ∷ gs) text a =
 -- where there is a text of good tokens, the plain one is good
 pub plain_text : (raw : RawSpec) (text : List Marked) → IsSpecText raw text → AllGood text → (plain : List Marked) × IsPlainText raw plain × AllGood plain
 plain_text raw text h good =
-    let rest : List Marked = funs_text 0 raw.funs (rules_text 0 raw.rules (goals_text 0 raw.goals [])) in
-    let f : Follows (funs_text 0 raw.funs (rules_text 0 raw.rules h.1)) rest = funs_good 0 raw.funs _ _ (rules_good 0 raw.rules _ _ (goals_good 0 raw.goals h.1 h.4)) in
-    let s = sorts_good 0 0 raw.sorts h.0 _ rest f h.3 in
-    let plain : List Marked = sign Spike ∷ sign One ∷ s.0 in
-    let whole : Follows (sign Spike ∷ sign One ∷ h.0) plain = behind (behind s.2) in
-    (plain, record { sorts = s.0; whole = refl; are = s.1 }, whole.good (subst AllGood h.2 good))
+    let version = raw.version in
+    let rest : List Marked = definitions_text raw (goals_text 0 raw.goals []) in
+    let f : Follows (definitions_text raw h.1) rest = funs_good version 0 raw.funs _ _ (rules_good version 0 raw.rules _ _ (goals_good 0 raw.goals h.1 h.4)) in
+    let s = sorts_good version 0 0 raw.sorts h.0 _ rest f h.3 in
+    let plain : List Marked = sign Spike ∷ number version ∷ s.0 in
+    let whole : Follows (sign Spike ∷ number version ∷ h.0) plain = behind (behind s.2) in
+    (plain, record { sorts = s.0; whole = refl; are = s.1; format = h.5 }, whole.good (subst AllGood h.2 good))

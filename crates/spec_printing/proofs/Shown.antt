@@ -1,6 +1,7 @@
 -- The printed form is what the pieces of the plain text write.
 use Rattle.std.proofs.Common.{◌≡◌, ℕ, ◌+◌, List, [], ◌∷◌, ◌++◌, Bool, true, false, Option, None, length, refl, ap, sym, ◌∙◌, append_assoc}
 use Rattle.std.specs.Prelude.{codes, map, if◌then◌else◌}
+use Rattle.std.specs.Fmt.{decimal}
 use Rattle.std.specs.List.{flat_map}
 use Rattle.std.proofs.lemmas.List.{append-nil}
 use Rattle.spec_text.specs.Written.{written}
@@ -20,7 +21,7 @@ use Rattle.spec_grammar.specs.RawTree.{RawTree, RawTrees, word, none, some}
 use Rattle.spec_grammar.specs.Items.{Sign}
 use Rattle.spec_grammar.specs.Limits.{constructor_mark, term_mark, guard_mark, variable_mark, premise_mark, conclusion_mark}
 use Rattle.spec_grammar.specs.Grammar.{Marked, sign, name_text, term_text, more_text, more_names_text, names_text, con_text, constructors_text, AreSorts, funs_text, guard_key, guards_text, sides_text, rules_text, commas_text, premises_text, bars_text, conclusions_text, bind_text, more_binds_text, binds_text}
-use Rattle.spec_printing.specs.Printed.{listed, spaced, term_printed, others_printed, sides_printed, equation_printed, names_printed, sort_line, fun_line, guard_printed, rule_line, bind_printed, clause_printed, goal_line, printed}
+use Rattle.spec_printing.specs.Printed.{listed, spaced, term_printed, others_printed, sides_printed, equation_printed, names_printed, sort_line, fun_line, guard_printed, rule_line, bind_printed, clause_printed, goal_line, header_line, printed}
 use Rattle.spec_printing.proofs.Plain.{clause_text, goals_text, IsPlainText}
 use Rattle.spec_printing.proofs.Pieces.{blank, pieces}
 
@@ -59,10 +60,10 @@ con_shown : (mark : Option LimitKind) (c : RawNames) (rest : List Marked) → sh
 con_shown mark c rest =
     ap (λ (ys : List ℕ). codes " " ++ (c.name ++ ys)) (names_shown c.args rest) ∙ ap (λ (ys : List ℕ). codes " " ++ ys) (sym (append_assoc c.name (listed (map (λ (x : RawName). x.name) c.args)) (shown false rest)))
 
-constructors_shown : (k t : ℕ) (cs : List RawNames) (rest : List Marked) → shown false (constructors_text k t cs rest) ≡ flat_map (λ u. codes " | " ++ u) (map names_printed cs) ++ shown false rest
-constructors_shown k t [] rest = refl
-constructors_shown k t (c ∷ cs) rest =
-    ap (λ (ys : List ℕ). codes " |" ++ ys) (con_shown (constructor_mark k t) c (constructors_text (k + 1) (t + 1) cs rest)) ∙ ap (λ (ys : List ℕ). codes " | " ++ (names_printed c ++ ys)) (constructors_shown (k + 1) (t + 1) cs rest) ∙ sym (regroup_three (codes " | ") (names_printed c) (flat_map (λ u. codes " | " ++ u) (map names_printed cs)) (shown false rest))
+constructors_shown : (version k t : ℕ) (cs : List RawNames) (rest : List Marked) → shown false (constructors_text version k t cs rest) ≡ flat_map (λ u. codes " | " ++ u) (map names_printed cs) ++ shown false rest
+constructors_shown version k t [] rest = refl
+constructors_shown version k t (c ∷ cs) rest =
+    ap (λ (ys : List ℕ). codes " |" ++ ys) (con_shown (constructor_mark version k t) c (constructors_text version (k + 1) (t + 1) cs rest)) ∙ ap (λ (ys : List ℕ). codes " | " ++ (names_printed c ++ ys)) (constructors_shown version (k + 1) (t + 1) cs rest) ∙ sym (regroup_three (codes " | ") (names_printed c) (flat_map (λ u. codes " | " ++ u) (map names_printed cs)) (shown false rest))
 
 -- sorts, before what begins a line
 sort_joined : (a b c d e f g y x : List ℕ) → (((((a ++ b) ++ c) ++ ((d ++ e) ++ f)) ++ g) ++ y) ++ x ≡ a ++ (b ++ (c ++ (d ++ (e ++ (f ++ (g ++ (y ++ x)))))))
@@ -73,23 +74,23 @@ sort_shown s first others later x e =
     sym (sort_joined (codes "sort ") s.head.name (codes " =") (codes " ") (names_printed first) (flat_map (λ u. codes " | " ++ u) (map names_printed others)) (codes "\n") later x)
     ∙ ap (λ (cs : List RawNames). (((((codes "sort " ++ s.head.name) ++ codes " =") ++ spaced (codes " | ") (map names_printed cs)) ++ codes "\n") ++ later) ++ x) (sym e)
 
-sorts_shown : (n t : ℕ) (ss : List RawSort) (text rest : List Marked) (x : List ℕ) → AreSorts n t ss text rest → shown false rest ≡ codes "\n" ++ x → shown false text ≡ codes "\n" ++ (flat_map sort_line ss ++ x)
-sorts_shown n t [] text rest x s h = ap (shown false) s ∙ h
-sorts_shown n t (s ∷ ss) text rest x a h =
+sorts_shown : (version n t : ℕ) (ss : List RawSort) (text rest : List Marked) (x : List ℕ) → AreSorts version n t ss text rest → shown false rest ≡ codes "\n" ++ x → shown false text ≡ codes "\n" ++ (flat_map sort_line ss ++ x)
+sorts_shown version n t [] text rest x s h = ap (shown false) s ∙ h
+sorts_shown version n t (s ∷ ss) text rest x a h =
     let later : List ℕ = flat_map sort_line ss in
     let before : List ℕ → List ℕ = λ (ys : List ℕ). codes "\nsort " ++ (s.head.name ++ (codes " =" ++ ys)) in
     let others : List ℕ = flat_map (λ u. codes " | " ++ u) (map names_printed a.1) in
-    ap (shown false) a.4 ∙ ap before (con_shown (constructor_mark 0 t) a.0 (constructors_text 1 (t + 1) a.1 a.2)) ∙ ap (λ (ys : List ℕ). before (codes " " ++ (names_printed a.0 ++ ys))) (constructors_shown 1 (t + 1) a.1 a.2)
-    ∙ ap (λ (ys : List ℕ). before (codes " " ++ (names_printed a.0 ++ (others ++ ys)))) (sorts_shown (n + 1) (t + 1 + length a.1) ss a.2 rest x a.5 h)
+    ap (shown false) a.4 ∙ ap before (con_shown (constructor_mark version 0 t) a.0 (constructors_text version 1 (t + 1) a.1 a.2)) ∙ ap (λ (ys : List ℕ). before (codes " " ++ (names_printed a.0 ++ ys))) (constructors_shown version 1 (t + 1) a.1 a.2)
+    ∙ ap (λ (ys : List ℕ). before (codes " " ++ (names_printed a.0 ++ (others ++ ys)))) (sorts_shown version (n + 1) (t + 1 + length a.1) ss a.2 rest x a.5 h)
     ∙ ap (λ (ys : List ℕ). codes "\n" ++ ys) (sort_shown s a.0 a.1 later x a.3)
 
 -- functions
-funs_shown : (n : ℕ) (fs : List RawFun) (rest : List Marked) (x : List ℕ) → shown false rest ≡ codes "\n" ++ x → shown false (funs_text n fs rest) ≡ codes "\n" ++ (flat_map fun_line fs ++ x)
-funs_shown n [] rest x h = h
-funs_shown n (f ∷ fs) rest x h =
+funs_shown : (version n : ℕ) (fs : List RawFun) (rest : List Marked) (x : List ℕ) → shown false rest ≡ codes "\n" ++ x → shown false (funs_text version n fs rest) ≡ codes "\n" ++ (flat_map fun_line fs ++ x)
+funs_shown version n [] rest x h = h
+funs_shown version n (f ∷ fs) rest x h =
     let later : List ℕ = flat_map fun_line fs in
-    let after : List Marked = sign Colon ∷ name_text None f.result (funs_text (n + 1) fs rest) in
-    ap (λ (ys : List ℕ). codes "\nfun" ++ ys) (con_shown None f.head after) ∙ ap (λ (ys : List ℕ). codes "\nfun " ++ (names_printed f.head ++ (codes " : " ++ (f.result.name ++ ys)))) (funs_shown (n + 1) fs rest x h)
+    let after : List Marked = sign Colon ∷ name_text None f.result (funs_text version (n + 1) fs rest) in
+    ap (λ (ys : List ℕ). codes "\nfun" ++ ys) (con_shown None f.head after) ∙ ap (λ (ys : List ℕ). codes "\nfun " ++ (names_printed f.head ++ (codes " : " ++ (f.result.name ++ ys)))) (funs_shown version (n + 1) fs rest x h)
     ∙ ap (λ (ys : List ℕ). codes "\n" ++ ys) (sym (regroup_six (codes "fun ") (names_printed f.head) (codes " : ") f.result.name (codes "\n") later x))
 
 -- terms
@@ -126,15 +127,15 @@ guards_shown n (g ∷ gs) rest =
     guard_shown g.wanted (guard_mark n) (term_text 0 None g.test after) (term_printed g.test ++ shown false after) (term_shown 0 None g.test after false)
     ∙ ap (λ (ys : List ℕ). key ++ (term_printed g.test ++ ys)) (guards_shown (n + 1) gs rest) ∙ sym (regroup_three key (term_printed g.test) (flat_map guard_printed gs) (shown false rest))
 
-rules_shown : (n : ℕ) (rs : List RawRule) (rest : List Marked) (x : List ℕ) → shown false rest ≡ codes "\n" ++ x → shown false (rules_text n rs rest) ≡ codes "\n" ++ (flat_map rule_line rs ++ x)
-rules_shown n [] rest x h = h
-rules_shown n (r ∷ rs) rest x h =
+rules_shown : (version n : ℕ) (rs : List RawRule) (rest : List Marked) (x : List ℕ) → shown false rest ≡ codes "\n" ++ x → shown false (rules_text version n rs rest) ≡ codes "\n" ++ (flat_map rule_line rs ++ x)
+rules_shown version n [] rest x h = h
+rules_shown version n (r ∷ rs) rest x h =
     let later : List ℕ = flat_map rule_line rs in
-    let after : List Marked = rules_text (n + 1) rs rest in
+    let after : List Marked = rules_text version (n + 1) rs rest in
     let sides : List ℕ = sides_printed r.left r.right in
     let guards : List ℕ = flat_map guard_printed r.guards in
     ap (λ (ys : List ℕ). codes "\nrule" ++ ys) (sides_shown None r.left r.right (guards_text 0 r.guards after)) ∙ ap (λ (ys : List ℕ). codes "\nrule " ++ (sides ++ ys)) (guards_shown 0 r.guards after)
-    ∙ ap (λ (ys : List ℕ). codes "\nrule " ++ (sides ++ (guards ++ ys))) (rules_shown (n + 1) rs rest x h) ∙ ap (λ (ys : List ℕ). codes "\n" ++ ys) (sym (regroup_five (codes "rule ") sides guards (codes "\n") later x))
+    ∙ ap (λ (ys : List ℕ). codes "\nrule " ++ (sides ++ (guards ++ ys))) (rules_shown version (n + 1) rs rest x h) ∙ ap (λ (ys : List ℕ). codes "\n" ++ ys) (sym (regroup_five (codes "rule ") sides guards (codes "\n") later x))
 
 -- clauses
 commas_shown : (n : ℕ) (es : List RawEq) (rest : List Marked) → shown false (commas_text n es rest) ≡ flat_map (λ u. codes ", " ++ u) (map equation_printed es) ++ shown false rest
@@ -202,13 +203,24 @@ goals_shown n (g ∷ gs) rest x h =
 parts_joined : (a s f r g : List ℕ) → (((a ++ s) ++ f) ++ r) ++ g ≡ a ++ (s ++ (f ++ (r ++ (g ++ []))))
 parts_joined a s f r g = simp (append_assoc, append-nil)
 
+-- the header before all other lines
+headed : (version : ℕ) (x : List ℕ) → header_line version ++ x ≡ codes "spike " ++ (decimal version ++ (codes "\n" ++ x))
+headed version x = regroup_three (codes "spike ") (decimal version) (codes "\n") x
+
 pub printed_is : (raw : RawSpec) (w : List Marked) → IsPlainText raw w → printed raw ≡ shown true w
 printed_is raw w p =
+    let version = raw.version in
     let goals : List Marked = goals_text 0 raw.goals [] in
-    let rules : List Marked = rules_text 0 raw.rules goals in
-    let funs : List Marked = funs_text 0 raw.funs rules in
+    let rules : List Marked = rules_text version 0 raw.rules goals in
+    let funs : List Marked = funs_text version 0 raw.funs rules in
+    let goal_lines : List ℕ = flat_map goal_line raw.goals ++ [] in
+    let rule_lines : List ℕ = flat_map rule_line raw.rules ++ goal_lines in
+    let fun_lines : List ℕ = flat_map fun_line raw.funs ++ rule_lines in
+    let sort_lines : List ℕ = flat_map sort_line raw.sorts ++ fun_lines in
     let a = goals_shown 0 raw.goals [] [] refl in
-    let b = rules_shown 0 raw.rules goals (flat_map goal_line raw.goals ++ []) a in
-    let c = funs_shown 0 raw.funs rules (flat_map rule_line raw.rules ++ (flat_map goal_line raw.goals ++ [])) b in
-    let d = sorts_shown 0 0 raw.sorts p.sorts funs (flat_map fun_line raw.funs ++ (flat_map rule_line raw.rules ++ (flat_map goal_line raw.goals ++ []))) p.are c in
-    parts_joined (codes "spike 1\n") (flat_map sort_line raw.sorts) (flat_map fun_line raw.funs) (flat_map rule_line raw.rules) (flat_map goal_line raw.goals) ∙ sym (ap (shown true) p.whole ∙ ap (λ (ys : List ℕ). codes "spike 1" ++ ys) d)
+    let b = rules_shown version 0 raw.rules goals goal_lines a in
+    let c = funs_shown version 0 raw.funs rules rule_lines b in
+    let d = sorts_shown version 0 0 raw.sorts p.sorts funs fun_lines p.are c in
+    let whole = ap (shown true) p.whole ∙ ap (λ (ys : List ℕ). codes "spike " ++ (decimal version ++ ys)) d in
+    parts_joined (header_line version) (flat_map sort_line raw.sorts) (flat_map fun_line raw.funs) (flat_map rule_line raw.rules) (flat_map goal_line raw.goals)
+    ∙ headed version sort_lines ∙ sym whole

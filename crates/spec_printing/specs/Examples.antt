@@ -10,6 +10,7 @@ use Rattle.spec_grammar.specs.declared.raw.RawRule.{RawRule}
 use Rattle.spec_grammar.specs.declared.raw.RawBind.{RawBind}
 use Rattle.spec_grammar.specs.declared.raw.RawGoal.{RawGoal}
 use Rattle.spec_grammar.specs.declared.raw.RawSpec.{RawSpec}
+use Rattle.spec_grammar.specs.FormatOne.{format_one}
 use Rattle.spec_grammar.specs.RawTree.{RawTree, word, none, some}
 use Rattle.spec_printing.specs.Printed.{printed}
 
@@ -44,7 +45,7 @@ goal text binds premises conclusions =
 
 -- goals alone
 abbrev pub with_goals : List RawGoal → RawSpec
-with_goals goals = record { sorts = []; funs = []; rules = []; goals = goals }
+with_goals goals = format_one [] [] [] goals
 
 -- `sort Nat = zero | succ(Nat)`
 abbrev pub nat_sort : RawSort
@@ -73,8 +74,7 @@ guarded_rule = record {
 
 -- these three
 abbrev pub declarations : RawSpec
-declarations =
-    record { sorts = nat_sort ∷ []; funs = plus_fun ∷ []; rules = guarded_rule ∷ []; goals = [] }
+declarations = format_one (nat_sort ∷ []) (plus_fun ∷ []) (guarded_rule ∷ []) []
 
 -- `a = b`, `c = d`, `e = f` and `h = i`
 abbrev pub a_is_b : RawEq

@@ -1,5 +1,6 @@
--- The printed form of a raw specification: one line a declaration.
+-- The printed form of a raw specification: one line with its format, and one line a declaration.
 use Rattle.std.specs.Prelude.{ℕ, List, [], ◌∷◌, ◌++◌, codes, map, if◌then◌else◌}
+use Rattle.std.specs.Fmt.{decimal}
 use Rattle.std.specs.List.{flat_map}
 use Rattle.spec_grammar.specs.declared.raw.RawName.{RawName}
 use Rattle.spec_grammar.specs.declared.raw.RawNames.{RawNames}
@@ -84,7 +85,11 @@ abbrev pub goal_line : RawGoal → List ℕ
 goal_line g = codes "goal " ++ g.head.name ++ listed (map bind_printed g.binds) ++ codes " :"
     ++ clause_printed g.premises g.conclusions ++ codes "\n"
 
+-- `spike NUMBER`
+abbrev pub header_line : ℕ → List ℕ
+header_line version = codes "spike " ++ decimal version ++ codes "\n"
+
 -- the header, the sorts, the functions, the rules and the goals
 abbrev pub printed : RawSpec → List ℕ
-printed raw = codes "spike 1\n" ++ flat_map sort_line raw.sorts ++ flat_map fun_line raw.funs
+printed raw = header_line raw.version ++ flat_map sort_line raw.sorts ++ flat_map fun_line raw.funs
     ++ flat_map rule_line raw.rules ++ flat_map goal_line raw.goals

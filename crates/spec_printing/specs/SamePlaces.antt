@@ -64,8 +64,9 @@ pub record SameGoal (g h : RawGoal) : Type 0 where
   pub premises : AllZip SameEquation g.premises h.premises
   pub conclusions : AllZip SameEquation g.conclusions h.conclusions
 
--- The declarations are the same in their order, apart from places.
+-- The format is the same, and so are the declarations in their order, apart from places.
 pub record IsSameButPlaces (raw other : RawSpec) : Type 0 where
+  pub version : raw.version ≡ other.version
   pub sorts : AllZip SameSort raw.sorts other.sorts
   pub funs : AllZip SameFun raw.funs other.funs
   pub rules : AllZip SameRule raw.rules other.rules

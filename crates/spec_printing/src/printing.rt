@@ -3,7 +3,7 @@ ghost use Rattle.std.specs.List.{flat_map};
 ghost use Rattle.spec_grammar.specs.RawTree.{raw_trees};
 ghost use Rattle.spec_grammar.specs.declared.raw.RawName.{RawName};
 ghost use Rattle.spec_printing.specs.ReadsBack.{ReadsBackAs};
-ghost use Rattle.spec_printing.specs.Printed.{printed, listed, spaced, term_printed, others_printed, sides_printed, equation_printed, names_printed, sort_line, fun_line, guard_printed, rule_line, bind_printed, arrow_printed, clause_printed, goal_line};
+ghost use Rattle.spec_printing.specs.Printed.{printed, header_line, listed, spaced, term_printed, others_printed, sides_printed, equation_printed, names_printed, sort_line, fun_line, guard_printed, rule_line, bind_printed, arrow_printed, clause_printed, goal_line};
 
 use spec_grammar::{
     RawBind, RawEq, RawFun, RawGoal, RawGuard, RawName, RawNames, RawRule, RawSort, RawSpec,
@@ -24,12 +24,23 @@ pub fn print(alloc: Global, raw: &RawSpec) -> Result<Vec<u8>, OutOfMemory>
 fn printed_form(alloc: Global, raw: &RawSpec) -> Result<Vec<u8>, OutOfMemory>
     ensures { IfOk result (λ r. r.items ≡ printed raw.now) }
 {
-    let mut text = Vec::from_slice(alloc, b"spike 1\n")?;
+    let mut text = Vec::new(alloc);
+    append_header(alloc, raw.version, &mut text)?;
     append_sorts(raw.sorts.as_slice(), &mut text)?;
     append_funs(raw.funs.as_slice(), &mut text)?;
     append_rules(raw.rules.as_slice(), &mut text)?;
     append_goals(raw.goals.as_slice(), &mut text)?;
     Ok(text)
+}
+
+/// Appends `spike NUMBER`.
+fn append_header(alloc: Global, version: u32, text: &mut Vec<u8>) -> Result<(), OutOfMemory>
+    ensures { OnOk result (text.new.items ≡ text.old.items ++ header_line version) }
+{
+    text.extend_from_slice(b"spike ")?;
+    text.extend_from_slice(version.to_string(alloc)?.as_bytes())?;
+    text.push(b'\n')?;
+    Ok(())
 }
 
 fn append_sorts(sorts: &[RawSort], text: &mut Vec<u8>) -> Result<(), OutOfMemory>

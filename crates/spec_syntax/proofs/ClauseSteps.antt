@@ -2,7 +2,7 @@
 use Rattle.std.proofs.Common.{◌≡◌, ◌≢◌, ℕ, ◌+◌, ◌≤◌, List, [], ◌∷◌, ◌++◌, inl, inr, None, Result, Ok, Err, length, refl, ap, sym, ◌∙◌, arith}
 use Rattle.spec_grammar.specs.declared.keys.Key.TheVariants.{Comma, Bar, Arrow}
 use Rattle.spec_grammar.specs.declared.raw.RawEq.{RawEq}
-use Rattle.spec_grammar.specs.Items.{Item, Word, Sign}
+use Rattle.spec_grammar.specs.Items.{Item, Word, Sign, Number}
 use Rattle.spec_grammar.specs.Grammar.{Marked, sign, sides_text, commas_text, premises_text, bars_text, conclusions_text}
 use Rattle.spec_grammar.specs.Derives.{clean}
 use Rattle.spec_grammar.specs.Limits.{premise_mark, conclusion_mark}
@@ -16,6 +16,7 @@ pub commas_run : (n : ℕ) (items : List Item) (st : List Symbol) → Lacks Comm
 unfolding run
 commas_run n [] st h = refl
 commas_run n (Word b a ∷ items) st h = refl
+commas_run n (Number m ∷ items) st h = refl
 commas_run n (Sign Comma ∷ items) st h = absurd (h refl)
 commas_run n (Sign _ ∷ items) st h = refl
 
@@ -23,6 +24,7 @@ pub clause_run : (items : List Item) (st : List Symbol) → Lacks Arrow items �
 unfolding run
 clause_run [] st h = refl
 clause_run (Word b a ∷ items) st h = refl
+clause_run (Number m ∷ items) st h = refl
 clause_run (Sign Arrow ∷ items) st h = absurd (h refl)
 clause_run (Sign _ ∷ items) st h = refl
 
@@ -35,17 +37,20 @@ unfolding run
 conclusions_run [] st h = absurd h
 conclusions_run (Word b a ∷ items) st h = refl
 conclusions_run (Sign j ∷ items) st h = absurd h
+conclusions_run (Number m ∷ items) st h = absurd h
 
 pub no_conclusions : (items : List Item) (st : List Symbol) → LacksWord items → run (conclusions ∷ st) items ≡ run st items
 unfolding run
 no_conclusions [] st h = refl
 no_conclusions (Word b a ∷ items) st h = absurd h
 no_conclusions (Sign j ∷ items) st h = refl
+no_conclusions (Number m ∷ items) st h = refl
 
 pub tail_bars : (items : List Item) (st : List Symbol) → LacksPremises items → run (tail ∷ st) items ≡ run (bars 1 ∷ st) items
 unfolding run
 tail_bars [] st h = refl
 tail_bars (Word b a ∷ items) st h = refl
+tail_bars (Number m ∷ items) st h = refl
 tail_bars (Sign Comma ∷ items) st h = absurd (h.0 refl)
 tail_bars (Sign Arrow ∷ items) st h = absurd (h.1 refl)
 tail_bars (Sign Bar ∷ items) st h = refl
@@ -55,6 +60,7 @@ pub tail_commas : (items : List Item) (st : List Symbol) → BeginsPremises item
 unfolding run
 tail_commas [] st h = absurd h
 tail_commas (Word b a ∷ items) st h = absurd h
+tail_commas (Number m ∷ items) st h = absurd h
 tail_commas (Sign j ∷ items) st (inl e) = rw e refl
 tail_commas (Sign j ∷ items) st (inr e) = rw e refl
 

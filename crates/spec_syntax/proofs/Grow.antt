@@ -60,14 +60,14 @@ more_binds_grow n xs x v = items_grow more_binds_text (λ k b w. sign Comma ∷ 
 whole_grows : {X : Type 0} (text : ℕ → List X → List Marked → List Marked) (item : ℕ → X → List Marked → List Marked) → ((n : ℕ) (v : List Marked) → text n [] v ≡ v) → ((n : ℕ) (x : X) (xs : List X) (v : List Marked) → text n (x ∷ xs) v ≡ item n x (text (n + 1) xs v)) → (xs : List X) (x : X) (v : List Marked) → text 0 (xs ++ x ∷ []) v ≡ text 0 xs (item (length xs) x v)
 whole_grows text item ends goes_on xs x v = items_grow text item ends goes_on 0 xs x v ∙ ap (λ (k : ℕ). text 0 xs (item k x v)) (zero-add (length xs))
 
-pub first_funs_grow : (xs : List RawFun) (x : RawFun) (v : List Marked) → funs_text 0 (xs ++ x ∷ []) v ≡ funs_text 0 xs ((Sign Fun, fun_mark (length xs)) ∷ con_text None x.head (sign Colon ∷ name_text None x.result v))
-first_funs_grow xs x v = whole_grows funs_text (λ k f w. (Sign Fun, fun_mark k) ∷ con_text None f.head (sign Colon ∷ name_text None f.result w)) (λ k w. refl) (λ k f fs w. refl) xs x v
+pub first_funs_grow : (version : ℕ) (xs : List RawFun) (x : RawFun) (v : List Marked) → funs_text version 0 (xs ++ x ∷ []) v ≡ funs_text version 0 xs ((Sign Fun, fun_mark version (length xs)) ∷ con_text None x.head (sign Colon ∷ name_text None x.result v))
+first_funs_grow version xs x v = whole_grows (funs_text version) (λ k f w. (Sign Fun, fun_mark version k) ∷ con_text None f.head (sign Colon ∷ name_text None f.result w)) (λ k w. refl) (λ k f fs w. refl) xs x v
 
 pub first_guards_grow : (xs : List RawGuard) (x : RawGuard) (v : List Marked) → guards_text 0 (xs ++ x ∷ []) v ≡ guards_text 0 xs ((Sign (guard_key x.wanted), guard_mark (length xs)) ∷ term_text 0 None x.test v)
 first_guards_grow xs x v = whole_grows guards_text (λ k g w. (Sign (guard_key g.wanted), guard_mark k) ∷ term_text 0 None g.test w) (λ k w. refl) (λ k g gs w. refl) xs x v
 
-pub first_rules_grow : (xs : List RawRule) (x : RawRule) (v : List Marked) → rules_text 0 (xs ++ x ∷ []) v ≡ rules_text 0 xs ((Sign Rule, rule_mark (length xs)) ∷ sides_text None x.left x.right (guards_text 0 x.guards v))
-first_rules_grow xs x v = whole_grows rules_text (λ k r w. (Sign Rule, rule_mark k) ∷ sides_text None r.left r.right (guards_text 0 r.guards w)) (λ k w. refl) (λ k r rs w. refl) xs x v
+pub first_rules_grow : (version : ℕ) (xs : List RawRule) (x : RawRule) (v : List Marked) → rules_text version 0 (xs ++ x ∷ []) v ≡ rules_text version 0 xs ((Sign Rule, rule_mark version (length xs)) ∷ sides_text None x.left x.right (guards_text 0 x.guards v))
+first_rules_grow version xs x v = whole_grows (rules_text version) (λ k r w. (Sign Rule, rule_mark version k) ∷ sides_text None r.left r.right (guards_text 0 r.guards w)) (λ k w. refl) (λ k r rs w. refl) xs x v
 
 -- names whose parenthesis isn't closed yet, before what stands behind them
 abbrev pub opened_names : List RawName → List Marked → List Marked

@@ -13,7 +13,7 @@ use Rattle.spec_grammar.specs.declared.raw.RawRule.{RawRule}
 use Rattle.spec_grammar.specs.declared.raw.RawBind.{RawBind}
 use Rattle.spec_grammar.specs.declared.raw.RawGoal.{RawGoal}
 use Rattle.spec_grammar.specs.declared.raw.RawSpec.{RawSpec}
-use Rattle.spec_printing.specs.Printed.{listed, spaced, term_printed, others_printed, equation_printed, names_printed, sort_line, fun_line, guard_printed, rule_line, bind_printed, arrow_printed, goal_line, printed}
+use Rattle.spec_printing.specs.Printed.{listed, spaced, term_printed, others_printed, equation_printed, names_printed, sort_line, fun_line, guard_printed, rule_line, bind_printed, arrow_printed, goal_line, header_line, printed}
 use Rattle.spec_printing.specs.SamePlaces.{SameName, SameNames, SameTerm, SameTerms, SameSort, SameFun, SameEquation, SameGuard, SameRule, SameBind, SameGoal, IsSameButPlaces}
 
 -- lists whose elements have the same texts
@@ -105,4 +105,4 @@ printed_same raw other s =
     let funs = lines fun_line SameFun function raw.funs other.funs s.funs in
     let rules = lines rule_line SameRule rule raw.rules other.rules s.rules in
     let goals = lines goal_line SameGoal goal_same raw.goals other.goals s.goals in
-    λ i. codes "spike 1\n" ++ sorts i ++ funs i ++ rules i ++ goals i
+    λ i. header_line (s.version i) ++ sorts i ++ funs i ++ rules i ++ goals i

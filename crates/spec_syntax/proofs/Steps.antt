@@ -1,14 +1,14 @@
 -- Steps of reading, beside the stack of grammar symbols.
 use Rattle.std.proofs.Common.{◌≡◌, ◌<◌, ◌≤◌, List, [], ◌∷◌, ◌++◌, Option, Some, None, length, refl, ap, sym, ◌∙◌, append_assoc, arith}
 use Rattle.spec_grammar.specs.declared.limits.LimitKind.{LimitKind}
-use Rattle.spec_grammar.specs.Items.{Item}
+use Rattle.spec_grammar.specs.Items.{Item, Word, Sign, Number}
 use Rattle.spec_grammar.specs.Grammar.{Marked}
 use Rattle.spec_grammar.specs.Derives.{clean}
-use Rattle.spec_grammar.specs.Symbols.{Symbol, react, take, run}
+use Rattle.spec_grammar.specs.Symbols.{Symbol, name, react, take, run}
 use Rattle.spec_grammar.proofs.Stacks.{Skips}
 use Rattle.spec_syntax.specs.declared.stop.Stop.{Stop}
 use Rattle.spec_syntax.specs.declared.stop.Stop.TheVariants.{Fault, OutOfMemory}
-use Rattle.spec_syntax.specs.Reading.{IsPassed, Stops}
+use Rattle.spec_syntax.specs.Reading.{LacksWord, IsPassed, Stops}
 
 -- the symbols read the tokens of a text and leave others, whatever stands below them
 pub record At (ss : List Symbol) (items : List Item) (left : List Symbol) (rest : List Item) (shape : List Marked → List Marked) : Type 0 where
@@ -43,6 +43,14 @@ pub at_skip : (s : Symbol) (items : List Item) → Skips s (clean items) → At 
 unfolding run
 at_skip s [] h = record { same = λ st. rw h refl; text = refl; less = omega arith }
 at_skip s (x ∷ items) h = record { same = λ st. rw h refl; text = refl; less = omega arith }
+
+-- a name has to come next
+pub no_name : (m : Option LimitKind) (items : List Item) (st : List Symbol) → LacksWord items → run (name m ∷ st) items ≡ Some (length items, None)
+unfolding run
+no_name m [] st h = refl
+no_name m (Word b a ∷ items) st h = absurd h
+no_name m (Sign j ∷ items) st h = refl
+no_name m (Number n ∷ items) st h = refl
 
 -- a token that passes a limit
 pub limit_stops : (s : Symbol) (x : Item) (items rest : List Item) (m : Option LimitKind) (ss : List Symbol) (stop : Stop) → items ≡ x ∷ rest → react s x ≡ take m ss → IsPassed m (length items) stop → Stops (s ∷ []) items stop

@@ -2,14 +2,14 @@
 use Rattle.std.specs.Prelude.{◌≡◌, ℕ, ◌+◌, ◌<◌, ◌≤◌, ◌⊎◌, List, [], ◌∷◌, ◌++◌, Option, Some, None, Result, Ok, Err, length}
 use Rattle.spec_grammar.specs.declared.keys.Key.{Key}
 use Rattle.spec_grammar.specs.declared.limits.LimitKind.{LimitKind}
-use Rattle.spec_grammar.specs.Items.{Item, Word, Sign}
-use Rattle.spec_grammar.specs.Grammar.{Marked, sign, name_text, commas_text, bars_text, binds_text, IsClause, AreGoals}
+use Rattle.spec_grammar.specs.Items.{Item, Word, Sign, Number}
+use Rattle.spec_grammar.specs.Grammar.{Marked, sign, number, name_text, commas_text, bars_text, binds_text, IsClause, AreGoals}
 use Rattle.spec_grammar.specs.Derives.{clean}
 use Rattle.spec_grammar.specs.Limits.{goal_mark}
 use Rattle.spec_grammar.specs.declared.raw.RawEq.{RawEq}
 use Rattle.spec_grammar.specs.declared.raw.RawGoal.{RawGoal}
 use Rattle.spec_grammar.specs.declared.keys.Key.TheVariants.{Comma, Colon, Arrow, Goal}
-use Rattle.spec_grammar.specs.Symbols.{Symbol, key, name, binds, clause, conclusions, commas, bars, goals, run}
+use Rattle.spec_grammar.specs.Symbols.{Symbol, key, name, format, body, binds, clause, conclusions, commas, bars, goals, run}
 use Rattle.spec_syntax.specs.declared.stop.Stop.{Stop}
 use Rattle.spec_syntax.specs.declared.stop.Stop.TheVariants.{Fault, OutOfMemory}
 
@@ -18,23 +18,34 @@ abbrev pub Lacks : Key → List Item → Type 0
 Lacks k [] = Unit {0}
 Lacks k (Word b a ∷ rest) = Unit {0}
 Lacks k (Sign j ∷ rest) = j ≡ k → ⊥
+Lacks k (Number n ∷ rest) = Unit {0}
 
 -- a name is the first of the tokens
 abbrev pub BeginsWord : List Item → Type 0
 BeginsWord [] = ⊥
 BeginsWord (Word b a ∷ rest) = Unit {0}
 BeginsWord (Sign j ∷ rest) = ⊥
+BeginsWord (Number n ∷ rest) = ⊥
 
 abbrev pub LacksWord : List Item → Type 0
 LacksWord [] = Unit {0}
 LacksWord (Word b a ∷ rest) = ⊥
 LacksWord (Sign j ∷ rest) = Unit {0}
+LacksWord (Number n ∷ rest) = Unit {0}
+
+-- no number is the first of the tokens
+abbrev pub LacksNumber : List Item → Type 0
+LacksNumber [] = Unit {0}
+LacksNumber (Word b a ∷ rest) = Unit {0}
+LacksNumber (Sign j ∷ rest) = Unit {0}
+LacksNumber (Number n ∷ rest) = ⊥
 
 -- a comma or an arrow is the first of the tokens, as behind a premise
 abbrev pub BeginsPremises : List Item → Type 0
 BeginsPremises [] = ⊥
 BeginsPremises (Word b a ∷ rest) = ⊥
 BeginsPremises (Sign j ∷ rest) = (j ≡ Comma) ⊎ (j ≡ Arrow)
+BeginsPremises (Number n ∷ rest) = ⊥
 
 abbrev pub LacksPremises : List Item → Type 0
 LacksPremises items = Lacks Comma items × Lacks Arrow items
@@ -87,6 +98,15 @@ IsPassedOver s items = (st : List Symbol) → run (s ∷ st) items ≡ run st it
 abbrev pub ReadsNext : {X : Type 0} → (X → List Marked → List Marked) → (X → List Item) → Symbol
     → Symbol → List Item → Result (Option X) Stop → Type 0
 ReadsNext text rest s next items result = ReadsItem text rest s next (IsPassedOver s) items result
+
+-- The first of the tokens is the number of a format that there is, whose declarations have to follow.
+abbrev pub ReadsFormat : {X : Type 0} → (X → ℕ) → (X → List Item) → List Item → Result X Stop
+    → Type 0
+ReadsFormat version rest items (Ok x) =
+    (version x ≡ 1) × (clean items ≡ number (version x) ∷ clean (rest x))
+    × ((st : List Symbol) → run (format ∷ st) items ≡ run (body (version x) ++ st) (rest x))
+    × (length (rest x) ≤ length items)
+ReadsFormat version rest items (Err stop) = Stops (format ∷ []) items stop
 
 -- the list begins with this one
 abbrev pub BeginsWith : RawEq → List RawEq → Type 0

@@ -6,76 +6,80 @@ use Rattle.spec_grammar.specs.declared.raw.RawSort.{RawSort}
 use Rattle.spec_grammar.specs.Items.{Item, Sign}
 use Rattle.spec_grammar.specs.Grammar.{Marked, sign, name_text, con_text, constructors_text, AreSorts}
 use Rattle.spec_grammar.specs.Derives.{clean}
-use Rattle.spec_grammar.specs.Limits.{sort_mark, constructor_mark}
+use Rattle.spec_grammar.specs.Limits.{most_constructors, sort_mark, constructor_mark}
 use Rattle.spec_grammar.specs.Symbols.{Symbol, key, name, names, sorts, run}
 use Rattle.spec_syntax.specs.declared.stop.Stop.{Stop}
 use Rattle.spec_syntax.specs.Reading.{Lacks, Stops}
 
 -- constructors that begin a sort's list, before what stands behind them
-abbrev pub begun_text : ℕ → List RawNames → List Marked → List Marked
-begun_text t [] v = v
-begun_text t (c ∷ cs) v = con_text (constructor_mark 0 t) c (constructors_text 1 (t + 1) cs v)
+abbrev pub begun_text : ℕ → ℕ → List RawNames → List Marked → List Marked
+begun_text version t [] v = v
+begun_text version t (c ∷ cs) v =
+    con_text (constructor_mark version 0 t) c (constructors_text version 1 (t + 1) cs v)
 
 -- the symbols of a first constructor, where it is one of the n-th sort
-abbrev pub first_constructor : ℕ → ℕ → List Symbol
-first_constructor n t = name (constructor_mark 0 t) ∷ names ∷ sorts n 1 (t + 1) ∷ []
+abbrev pub first_constructor : ℕ → ℕ → ℕ → List Symbol
+first_constructor version n t =
+    name (constructor_mark version 0 t) ∷ names ∷ sorts version n 1 (t + 1) ∷ []
 
 -- one more constructor behind a bar
-abbrev pub ReadsConstructor : {X : Type 0} → ℕ → ℕ → (X → RawNames) → (X → List Item) → List Item
-    → Result (Option X) Stop → Type 0
-ReadsConstructor k t made rest items (Ok (Some x)) =
-    (clean items ≡ sign Bar ∷ con_text (constructor_mark k t) (made x) (clean (rest x)))
+abbrev pub ReadsConstructor : {X : Type 0} → ℕ → ℕ → ℕ → (X → RawNames) → (X → List Item)
+    → List Item → Result (Option X) Stop → Type 0
+ReadsConstructor version k t made rest items (Ok (Some x)) =
+    (clean items ≡ sign Bar ∷ con_text (constructor_mark version k t) (made x) (clean (rest x)))
     × ((n : ℕ) (st : List Symbol) → 0 < k
-    → run (sorts n k t ∷ st) items ≡ run (sorts n (k + 1) (t + 1) ∷ st) (rest x))
-    × (length (rest x) < length items) × (t < 500)
-ReadsConstructor k t made rest items (Ok None) = Lacks Bar items
-ReadsConstructor k t made rest items (Err stop) =
-    (n : ℕ) → 0 < k → Stops (sorts n k t ∷ []) items stop
+    → run (sorts version n k t ∷ st) items ≡ run (sorts version n (k + 1) (t + 1) ∷ st) (rest x))
+    × (length (rest x) < length items) × (t < most_constructors version)
+ReadsConstructor version k t made rest items (Ok None) = Lacks Bar items
+ReadsConstructor version k t made rest items (Err stop) =
+    (n : ℕ) → 0 < k → Stops (sorts version n k t ∷ []) items stop
 
 -- all constructors of a sort; no bar follows
-abbrev pub ReadsConstructors : {X : Type 0} → ℕ → (X → List RawNames) → (X → List Item) → List Item
-    → Result X Stop → Type 0
-ReadsConstructors t made rest items (Ok x) =
+abbrev pub ReadsConstructors : {X : Type 0} → ℕ → ℕ → (X → List RawNames) → (X → List Item)
+    → List Item → Result X Stop → Type 0
+ReadsConstructors version t made rest items (Ok x) =
     let k = length (made x) in
-    (0 < k) × (clean items ≡ begun_text t (made x) (clean (rest x)))
+    (0 < k) × (clean items ≡ begun_text version t (made x) (clean (rest x)))
     × ((n : ℕ) (st : List Symbol)
-    → run (first_constructor n t ++ st) items ≡ run (sorts n k (t + k) ∷ st) (rest x))
-    × (length (rest x) ≤ length items) × (t + k ≤ 500) × Lacks Bar (rest x)
-ReadsConstructors t made rest items (Err stop) = (n : ℕ) → Stops (first_constructor n t) items stop
+    → run (first_constructor version n t ++ st) items ≡ run (sorts version n k (t + k) ∷ st) (rest x))
+    × (length (rest x) ≤ length items) × (t + k ≤ most_constructors version) × Lacks Bar (rest x)
+ReadsConstructors version t made rest items (Err stop) =
+    (n : ℕ) → Stops (first_constructor version n t) items stop
 
 -- a sort behind its first word
-abbrev pub sort_symbols : ℕ → ℕ → List Symbol
-sort_symbols n t = name None ∷ key Equals ∷ first_constructor n t
+abbrev pub sort_symbols : ℕ → ℕ → ℕ → List Symbol
+sort_symbols version n t = name None ∷ key Equals ∷ first_constructor version n t
 
-abbrev pub sort_text : ℕ → RawSort → List Marked → List Marked
-sort_text t s v = name_text None s.head (sign Equals ∷ begun_text t s.constructors v)
+abbrev pub sort_text : ℕ → ℕ → RawSort → List Marked → List Marked
+sort_text version t s v =
+    name_text None s.head (sign Equals ∷ begun_text version t s.constructors v)
 
-abbrev pub ReadsSort : {X : Type 0} → ℕ → (X → RawSort) → (X → List Item) → List Item
+abbrev pub ReadsSort : {X : Type 0} → ℕ → ℕ → (X → RawSort) → (X → List Item) → List Item
     → Result X Stop → Type 0
-ReadsSort t made rest items (Ok x) =
+ReadsSort version t made rest items (Ok x) =
     let k = length (made x).constructors in
-    (0 < k) × (clean items ≡ sort_text t (made x) (clean (rest x)))
+    (0 < k) × (clean items ≡ sort_text version t (made x) (clean (rest x)))
     × ((n : ℕ) (st : List Symbol)
-    → run (sort_symbols n t ++ st) items ≡ run (sorts n k (t + k) ∷ st) (rest x))
-    × (length (rest x) ≤ length items) × (t + k ≤ 500) × Lacks Bar (rest x)
-ReadsSort t made rest items (Err stop) = (n : ℕ) → Stops (sort_symbols n t) items stop
+    → run (sort_symbols version n t ++ st) items ≡ run (sorts version n k (t + k) ∷ st) (rest x))
+    × (length (rest x) ≤ length items) × (t + k ≤ most_constructors version) × Lacks Bar (rest x)
+ReadsSort version t made rest items (Err stop) = (n : ℕ) → Stops (sort_symbols version n t) items stop
 
 -- one more sort, whatever was read of the last one
-abbrev pub ReadsNextSort : {X : Type 0} → ℕ → ℕ → (X → RawSort) → (X → List Item) → List Item
-    → Result (Option X) Stop → Type 0
-ReadsNextSort n t made rest items (Ok (Some x)) =
+abbrev pub ReadsNextSort : {X : Type 0} → ℕ → ℕ → ℕ → (X → RawSort) → (X → List Item)
+    → List Item → Result (Option X) Stop → Type 0
+ReadsNextSort version n t made rest items (Ok (Some x)) =
     let k = length (made x).constructors in
-    (0 < k) × (clean items ≡ (Sign Sort, sort_mark n) ∷ sort_text t (made x) (clean (rest x)))
+    (0 < k) × (clean items ≡ (Sign Sort, sort_mark n) ∷ sort_text version t (made x) (clean (rest x)))
     × ((j : ℕ) (st : List Symbol)
-    → run (sorts n j t ∷ st) items ≡ run (sorts (n + 1) k (t + k) ∷ st) (rest x))
-    × (length (rest x) < length items) × (t + k ≤ 500) × Lacks Bar (rest x)
-ReadsNextSort n t made rest items (Ok None) = Lacks Sort items
-ReadsNextSort n t made rest items (Err stop) = (j : ℕ) → Stops (sorts n j t ∷ []) items stop
+    → run (sorts version n j t ∷ st) items ≡ run (sorts version (n + 1) k (t + k) ∷ st) (rest x))
+    × (length (rest x) < length items) × (t + k ≤ most_constructors version) × Lacks Bar (rest x)
+ReadsNextSort version n t made rest items (Ok None) = Lacks Sort items
+ReadsNextSort version n t made rest items (Err stop) = (j : ℕ) → Stops (sorts version n j t ∷ []) items stop
 
-abbrev pub ReadsSorts : {X : Type 0} → (X → List RawSort) → (X → List Item) → List Item
+abbrev pub ReadsSorts : {X : Type 0} → ℕ → (X → List RawSort) → (X → List Item) → List Item
     → Result X Stop → Type 0
-ReadsSorts made rest items (Ok x) =
-    AreSorts 0 0 (made x) (clean items) (clean (rest x))
-    × ((st : List Symbol) → run (sorts 0 0 0 ∷ st) items ≡ run st (rest x))
+ReadsSorts version made rest items (Ok x) =
+    AreSorts version 0 0 (made x) (clean items) (clean (rest x))
+    × ((st : List Symbol) → run (sorts version 0 0 0 ∷ st) items ≡ run st (rest x))
     × (length (rest x) ≤ length items)
-ReadsSorts made rest items (Err stop) = Stops (sorts 0 0 0 ∷ []) items stop
+ReadsSorts version made rest items (Err stop) = Stops (sorts version 0 0 0 ∷ []) items stop

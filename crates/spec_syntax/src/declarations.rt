@@ -9,8 +9,8 @@ ghost use Rattle.spec_syntax.specs.Reading.{Reads, ReadsNext};
 use crate::stop::Stop;
 use crate::words::{Source, over};
 use spec_grammar::{
-    Key, LimitKind, MAX_ARGUMENTS, MAX_FUNCTIONS, MAX_GUARDS, MAX_RULES, RawFun, RawGuard, RawName,
-    RawNames, RawRule,
+    Key, LimitKind, MAX_ARGUMENTS, MAX_GUARDS, RawFun, RawGuard, RawName, RawNames, RawRule,
+    max_functions, max_rules,
 };
 use spec_text::Token;
 use term_core::Seq;
@@ -69,18 +69,19 @@ impl<'a> Source<'a> {
         Ok((RawNames { name, at, args }, rest))
     }
 
-    /// The functions.
+    /// The functions of a format.
     #[tactic(auto, unfolding(spec_grammar::specs::Symbols::run))]
     pub(crate) fn functions<'t>(
         &self,
         tokens: &'t [Token],
+        version: u32,
     ) -> Result<(Seq<RawFun>, &'t [Token]), Stop>
-        ensures { Reads (λ x. funs_text 0 x.0) (λ x. items_of self.now.bytes.now x.1.now)
-            (funs_symbol 0 ∷ []) (items_of self.now.bytes.now tokens.now) result }
+        ensures { Reads (λ x. funs_text version 0 x.0) (λ x. items_of self.now.bytes.now x.1.now)
+            (funs_symbol version 0 ∷ []) (items_of self.now.bytes.now tokens.now) result }
     {
         let mut made = Seq::new(self.alloc);
         let mut rest = tokens;
-        while let Some((function, after)) = self.next_function(rest, made.len())? {
+        while let Some((function, after)) = self.next_function(rest, version, made.len())? {
             made.push(function)?;
             rest = after;
         }
@@ -92,18 +93,23 @@ impl<'a> Source<'a> {
     fn next_function<'t>(
         &self,
         tokens: &'t [Token],
+        version: u32,
         n: usize,
     ) -> Result<Option<(RawFun, &'t [Token])>, Stop>
         ensures { ReadsNext
-            (λ x v. (Sign Fun, fun_mark n)
+            (λ x v. (Sign Fun, fun_mark version n)
             ∷ con_text None x.0.head (sign Colon ∷ name_text None x.0.result v))
             (λ x. items_of self.now.bytes.now x.1.now)
-            (funs_symbol n) (funs_symbol (n + 1)) (items_of self.now.bytes.now tokens.now) result }
+            (funs_symbol version n) (funs_symbol version (n + 1))
+            (items_of self.now.bytes.now tokens.now) result }
     {
         let Some(next) = self.after_key(tokens, Key::Fun) else {
             return Ok(None);
         };
-        self.within(tokens, over(n, MAX_FUNCTIONS, LimitKind::Functions))?;
+        self.within(
+            tokens,
+            over(n, max_functions(version), LimitKind::Functions),
+        )?;
         let (function, rest) = self.function(next)?;
         Ok(Some((function, rest)))
     }
@@ -127,15 +133,19 @@ impl<'a> Source<'a> {
         ))
     }
 
-    /// The rules.
+    /// The rules of a format.
     #[tactic(auto, unfolding(spec_grammar::specs::Symbols::run))]
-    pub(crate) fn rules<'t>(&self, tokens: &'t [Token]) -> Result<(Seq<RawRule>, &'t [Token]), Stop>
-        ensures { Reads (λ x. rules_text 0 x.0) (λ x. items_of self.now.bytes.now x.1.now)
-            (rules_symbol 0 ∷ []) (items_of self.now.bytes.now tokens.now) result }
+    pub(crate) fn rules<'t>(
+        &self,
+        tokens: &'t [Token],
+        version: u32,
+    ) -> Result<(Seq<RawRule>, &'t [Token]), Stop>
+        ensures { Reads (λ x. rules_text version 0 x.0) (λ x. items_of self.now.bytes.now x.1.now)
+            (rules_symbol version 0 ∷ []) (items_of self.now.bytes.now tokens.now) result }
     {
         let mut made = Seq::new(self.alloc);
         let mut rest = tokens;
-        while let Some((rule, after)) = self.next_rule(rest, made.len())? {
+        while let Some((rule, after)) = self.next_rule(rest, version, made.len())? {
             made.push(rule)?;
             rest = after;
         }
@@ -147,18 +157,19 @@ impl<'a> Source<'a> {
     fn next_rule<'t>(
         &self,
         tokens: &'t [Token],
+        version: u32,
         n: usize,
     ) -> Result<Option<(RawRule, &'t [Token])>, Stop>
         ensures { ReadsNext
-            (λ x v. (Sign Rule, rule_mark n)
+            (λ x v. (Sign Rule, rule_mark version n)
             ∷ sides_text None x.0.left x.0.right (guards_text 0 x.0.guards v))
-            (λ x. items_of self.now.bytes.now x.1.now) (rules_symbol n) (rules_symbol (n + 1))
-            (items_of self.now.bytes.now tokens.now) result }
+            (λ x. items_of self.now.bytes.now x.1.now) (rules_symbol version n)
+            (rules_symbol version (n + 1)) (items_of self.now.bytes.now tokens.now) result }
     {
         let Some(next) = self.after_key(tokens, Key::Rule) else {
             return Ok(None);
         };
-        self.within(tokens, over(n, MAX_RULES, LimitKind::Rules))?;
+        self.within(tokens, over(n, max_rules(version), LimitKind::Rules))?;
         let (rule, rest) = self.rule(next)?;
         Ok(Some((rule, rest)))
     }

@@ -7,6 +7,7 @@ ghost use Rattle.spec_grammar.specs.Sizes.{words, HasFewWords};
 ghost use Rattle.spec_grammar.specs.Symbols.{spec_symbols, term_symbols};
 ghost use Rattle.spec_grammar.specs.declared.raw.RawSpec.{RawSpec};
 ghost use Rattle.spec_syntax.specs.Faults.{IsAnswer, IsSyntaxFault, HasFault, TellsFault};
+ghost use Rattle.spec_syntax.specs.Reading.{ReadsFormat};
 ghost use Rattle.spec_syntax.specs.Wholes.{ReadsWhole, ReadsEnd, Settles, place_left, fault_of_stop};
 ghost use Rattle.spec_syntax.specs.declared.fault.SyntaxFault.{SyntaxFault};
 
@@ -74,18 +75,31 @@ impl<'a> Source<'a> {
             result }
     {
         let rest = self.expect(tokens, Key::Spike)?;
-        let rest = self.expect(rest, Key::One)?;
-        let (sorts, rest) = self.sorts(rest)?;
-        let (funs, rest) = self.functions(rest)?;
-        let (rules, rest) = self.rules(rest)?;
+        let (version, rest) = self.format(rest)?;
+        let (sorts, rest) = self.sorts(rest, version)?;
+        let (funs, rest) = self.functions(rest, version)?;
+        let (rules, rest) = self.rules(rest, version)?;
         let (goals, rest) = self.goals(rest)?;
         self.expect_end(rest)?;
         Ok(RawSpec {
+            version,
             sorts,
             funs,
             rules,
             goals,
         })
+    }
+
+    /// The number of a format that there is, which has to come next.
+    #[tactic(auto, unfolding(spec_grammar::specs::Symbols::run))]
+    fn format<'t>(&self, tokens: &'t [Token]) -> Result<(u32, &'t [Token]), Stop>
+        ensures { ReadsFormat (λ x. x.0) (λ x. items_of self.now.bytes.now x.1.now)
+            (items_of self.now.bytes.now tokens.now) result }
+    {
+        match self.after_number(tokens) {
+            Some((1, rest)) => Ok((1, rest)),
+            _ => Err(self.fault(tokens, None)),
+        }
     }
 
     /// The term of all the tokens.

@@ -1,10 +1,10 @@
-ghost use Rattle.std.specs.Prelude.{◌≡◌, ◌∷◌, [], None, OnOk, MatchOption, MatchResult, length};
+ghost use Rattle.std.specs.Prelude.{ℕ, List, ◌≡◌, ◌∷◌, [], None, OnOk, MatchOption, MatchResult, length};
 ghost use Rattle.std.specs.Bool.{MatchBool};
 ghost use Rattle.spec_grammar.specs.Grammar.{sign as sign_text, name_text};
-ghost use Rattle.spec_grammar.specs.Items.{Sign, key_of as key_of_token, reserved as reserved_key, number_key as key_of_number, text_of, items_of};
+ghost use Rattle.spec_grammar.specs.Items.{Word, Sign, Number, Item, key_of as key_of_token, reserved as reserved_key, item_as, text_of, items_of};
 ghost use Rattle.spec_grammar.specs.Limits.{over as over_limit};
 ghost use Rattle.spec_grammar.specs.Symbols.{key as key_symbol, name as name_symbol};
-ghost use Rattle.spec_syntax.specs.Reading.{Lacks, BeginsWord, LacksWord, IsPassed, Reads};
+ghost use Rattle.spec_syntax.specs.Reading.{Lacks, BeginsWord, LacksWord, LacksNumber, IsPassed, Reads};
 
 use crate::stop::Stop;
 use spec_grammar::{Key, LimitKind, MAX_NAME_BYTES, RawName};
@@ -45,11 +45,11 @@ fn reserved(word: &[u8]) -> Option<Key>
     } else if word == b"unless".as_slice() {
         Some(Key::Unless)
     } else if word == b"order".as_slice() {
-        Some(Key::Stray)
+        Some(Key::Order)
     } else if word == b"status".as_slice() {
-        Some(Key::Stray)
+        Some(Key::Status)
     } else if word == b"equal".as_slice() {
-        Some(Key::Stray)
+        Some(Key::Equal)
     } else if word == b"_".as_slice() {
         Some(Key::Stray)
     } else {
@@ -57,13 +57,13 @@ fn reserved(word: &[u8]) -> Option<Key>
     }
 }
 
-/// The key that a token of this text is; None where it is a name.
+/// The key that a token of this text is; None where it is a name or a number.
 fn key_of(kind: TokenKind, text: &[u8]) -> Option<Key>
     ensures { result ≡ key_of_token kind text.now }
 {
     match kind {
         TokenKind::Word => reserved(text),
-        TokenKind::Number(n) => Some(if n == 1 { Key::One } else { Key::Stray }),
+        TokenKind::Number(_) => None,
         TokenKind::LeftPar => Some(Key::LeftPar),
         TokenKind::RightPar => Some(Key::RightPar),
         TokenKind::Comma => Some(Key::Comma),
@@ -71,6 +71,17 @@ fn key_of(kind: TokenKind, text: &[u8]) -> Option<Key>
         TokenKind::Equals => Some(Key::Equals),
         TokenKind::Bar => Some(Key::Bar),
         TokenKind::Arrow => Some(Key::Arrow),
+    }
+}
+
+/// Whether a token of this text is a name.
+fn is_name(kind: TokenKind, text: &[u8]) -> bool
+    ensures { MatchBool result ((at : ℕ) → item_as kind text.now at ≡ Word text.now at)
+        ((at : ℕ) (rest : List Item) → LacksWord (item_as kind text.now at ∷ rest)) }
+{
+    match kind {
+        TokenKind::Word => reserved(text).is_none(),
+        _ => false,
     }
 }
 
@@ -101,13 +112,26 @@ impl<'a> Source<'a> {
         if found == key { Some(rest) } else { None }
     }
 
+    /// The number at the front, and what follows it.
+    pub(crate) fn after_number<'t>(&self, tokens: &'t [Token]) -> Option<(u32, &'t [Token])>
+        ensures { MatchOption result (LacksNumber (items_of self.now.bytes.now tokens.now))
+            (λ x. items_of self.now.bytes.now tokens.now
+            ≡ Number x.0 ∷ items_of self.now.bytes.now x.1.now) }
+    {
+        let (token, rest) = front(tokens)?;
+        match token.kind {
+            TokenKind::Number(number) => Some((number, rest)),
+            _ => None,
+        }
+    }
+
     /// Whether a name comes next.
     pub(crate) fn begins_word(&self, tokens: &[Token]) -> bool
         ensures { MatchBool result (BeginsWord (items_of self.now.bytes.now tokens.now))
             (LacksWord (items_of self.now.bytes.now tokens.now)) }
     {
         match front(tokens) {
-            Some((token, _)) => key_of(token.kind, self.text(*token)).is_none(),
+            Some((token, _)) => is_name(token.kind, self.text(*token)),
             None => false,
         }
     }
@@ -150,7 +174,7 @@ impl<'a> Source<'a> {
             return Err(self.fault(tokens, None));
         };
         let text = self.text(*token);
-        if key_of(token.kind, text).is_some() {
+        if !is_name(token.kind, text) {
             return Err(self.fault(tokens, None));
         }
         if text.len() > MAX_NAME_BYTES {

@@ -7,7 +7,7 @@ use Rattle.spec_core.specs.declared.records.Goal.{Goal}
 use Rattle.spec_core.specs.declared.records.Spec.{Spec}
 use Rattle.spec_core.specs.Order.{substitutions}
 use Rattle.spec_core.specs.WellSorted.{IsWellSorted}
-use Rattle.path_order.specs.Above.{Above}
+use Rattle.clause_core.specs.Orders.{above_of}
 use Rattle.refuter.specs.declared.answers.Search.{Search}
 use Rattle.refuter.specs.declared.answers.Search.TheVariants.{Found, NotFound}
 use Rattle.refuter.specs.Finds.{Finds, IsFalse}
@@ -33,7 +33,8 @@ parts [] i x at = absurd (let q : None ≡ Some x = at in cc)
 parts (y ∷ xs) zero x at = let q : Some y ≡ Some x = at in let e : x ≡ y = cc in ap (λ z. z ∷ xs) e
 parts (y ∷ xs) (suc i) x at = ap (λ zs. y ∷ zs) (parts xs i x at)
 
-module _ (behind : ProvesBehindClaims Above) (bounds : ProofBounds) (spec : Spec)
+module _
+    (spec : Spec) (behind : ProvesBehindClaims (above_of spec)) (bounds : ProofBounds)
     (fine : IsWellSorted spec) where
   -- what is claimed is shown, where the lemmas are proved by the claims before it
   outcome_is_shown :
@@ -44,12 +45,12 @@ module _ (behind : ProvesBehindClaims Above) (bounds : ProofBounds) (spec : Spec
       Finds spec goal bounds.search.steps bounds.search.tries
       (substitutions spec goal bounds.search.depth) search →
       IsOutcomeOf bounds spec lemmas goal search o →
-      IsShown Above spec bounds.search.steps before goal o
+      IsShown (above_of spec) spec bounds.search.steps before goal o
   outcome_is_shown lemmas goal before known (Found index row) o f e is =
-      subst (λ o. IsShown Above spec bounds.search.steps before goal o) (sym is)
-      (refuted_is_shown Above spec bounds.search.steps goal before index row f.2 e.2)
+      subst (λ o. IsShown (above_of spec) spec bounds.search.steps before goal o) (sym is)
+      (refuted_is_shown (above_of spec) spec bounds.search.steps goal before index row f.2 e.2)
   outcome_is_shown lemmas goal before known (NotFound tried skipped cut) (Proved block) f e is =
-      proves_behind behind bounds spec lemmas goal before known block
+      proves_behind spec behind bounds lemmas goal before known block
       (budget_of bounds tried skipped cut) is
   outcome_is_shown lemmas goal before known (NotFound tried skipped cut) (Refuted index values) f e
       is =
@@ -60,7 +61,7 @@ module _ (behind : ProvesBehindClaims Above) (bounds : ProofBounds) (spec : Spec
       (seen goals others : List Goal) (before claims : List Claim) →
       seen ++ (goals ++ others) ≡ spec.goals → claimed_names before ≡ goal_names seen →
       AreClaims (IsNextClaim bounds spec) before goals claims →
-      AreShown Above spec bounds.search.steps before goals claims
+      AreShown (above_of spec) spec bounds.search.steps before goals claims
   all_shown seen [] others before [] all names a = tt
   all_shown seen (g ∷ goals) others before [] all names a = absurd a
   all_shown seen [] others before (c ∷ claims) all names a = absurd a
@@ -88,15 +89,15 @@ module _ (behind : ProvesBehindClaims Above) (bounds : ProofBounds) (spec : Spec
   first_accepted :
       (goals others : List Goal) (claims : List Claim) → goals ++ others ≡ spec.goals →
       AreClaims (IsNextClaim bounds spec) [] goals claims →
-      ClaimsAreAccepted Above spec bounds.search.steps [] claims
+      ClaimsAreAccepted (above_of spec) spec bounds.search.steps [] claims
   first_accepted goals others claims all a =
-      claims_accepted Above spec bounds.search.steps fine.names [] goals others [] claims all refl
+      claims_accepted (above_of spec) spec bounds.search.steps fine.names [] goals others [] claims all refl
       (all_shown [] goals others [] claims all refl a)
 
   -- the report of claims on all goals is accepted
   pub report_accepted :
       (claims : List Claim) → AreClaims (IsNextClaim bounds spec) [] spec.goals claims →
-      IsAccepted Above spec (report_of bounds.search.steps claims)
+      IsAccepted (above_of spec) spec (report_of bounds.search.steps claims)
   report_accepted claims a = first_accepted spec.goals [] claims (append-nil spec.goals) a
 
   -- what claims on the goals before a goal prove are its lemmas
@@ -113,7 +114,7 @@ module _ (behind : ProvesBehindClaims Above) (bounds : ProofBounds) (spec : Spec
         before = claims;
         accepted = first_accepted seen (goal ∷ others) claims all a;
         unclaimed =
-            next_unclaimed Above spec bounds.search.steps fine.names seen others goal claims all
+            next_unclaimed (above_of spec) spec bounds.search.steps fine.names seen others goal claims all
             names;
         proved = proved_known spec seen (goal ∷ others) claims all names;
       }

@@ -8,7 +8,7 @@ use Rattle.spec_core.specs.WellSorted.{IsWellSorted}
 use Rattle.spec_core.specs.Sig.{Sig}
 use Rattle.spec_core.specs.TermText.{SymbolsAreInRange, term_text}
 use Rattle.spec_core.specs.Gives.{Gives}
-use Rattle.path_order.specs.Above.{Above}
+use Rattle.clause_core.specs.Orders.{above_of}
 use Rattle.clause_core.specs.Admitted.{IsAdmitted}
 use Rattle.spec_core.proofs.Keeps.{keeps}
 use Rattle.accepted_spec.specs.declared.refusals.Refusal.{Refusal}
@@ -59,7 +59,9 @@ module _ (spec : Spec) (bytes : List ℕ) (t : Tree) (steps : ℕ) (stands : Ter
       let f : IsEval spec t steps (Large n) = subst (λ (x : Eval). IsEval spec t steps x) is found in
       subst (λ u. IsEvaluation spec bytes steps u status.Done) (ap (λ u. lines_with u n) (large_text spec.sig f.0 f.3) ∙ sym e) (valued t f.0 n stands f.1 f.2)
 
-  pub none_told : (r : Eval) (text : List ℕ) → IsAdmitted Above spec → r ≡ Spent → IsEval spec t steps r → text ≡ spent_line steps → IsEvaluation spec bytes steps text status.Open
+  pub none_told :
+      (r : Eval) (text : List ℕ) → IsAdmitted (above_of spec) spec → r ≡ Spent →
+      IsEval spec t steps r → text ≡ spent_line steps → IsEvaluation spec bytes steps text status.Open
   none_told r text admitted is found e =
       let f : IsEval spec t steps Spent = subst (λ (x : Eval). IsEval spec t steps x) is found in
       subst (λ u. IsEvaluation spec bytes steps u status.Open) (sym e) (spent t stands (f admitted.apart admitted.whole))

@@ -1,10 +1,11 @@
 -- The generated text is shorter than the longest file.
 use Rattle.std.proofs.Common.{◌≡◌, ◌≤◌, ◌<◌, ◌+◌, ◌*◌, ◌%◌, ◌^◌, ℕ, zero, suc, List, [], ◌++◌, map, length, length-append, lit≤, arith}
 use Rattle.std.specs.Prelude.{codes}
+use Rattle.std.specs.Fmt.{digits}
 use Rattle.std.specs.List.{flat_map, range_with_len}
 use Rattle.std.proofs.lemmas.Fmt.{length-decimal-le}
 use Rattle.spec_grammar.specs.RawTree.{RawTree}
-use Rattle.spec_printing.specs.Printed.{equation_printed, fun_line, goal_line, printed, rule_line, sides_printed, sort_line, term_printed}
+use Rattle.spec_printing.specs.Printed.{equation_printed, fun_line, goal_line, header_line, printed, rule_line, sides_printed, sort_line, term_printed}
 use Rattle.load_text.specs.LoadRaw.{x, y, z, nought, yes, plus, le, successors, load_sides, goal_of_kind, goal_name, height, load_goal, load_raw}
 
 -- each `succ` has six bytes
@@ -165,8 +166,9 @@ lines_short a (suc n) few =
     )
 
 pub load_short : (n : ℕ) → n ≤ 200 → length (printed (load_raw n)) ≤ 1048576
+unfolding digits
 load_short n few =
-    let header = codes "spike 1\n" ++ flat_map sort_line (load_raw 0).sorts ++ flat_map fun_line
+    let header = header_line 1 ++ flat_map sort_line (load_raw 0).sorts ++ flat_map fun_line
     (load_raw 0).funs ++ flat_map rule_line (load_raw 0).rules in
     let goals = flat_map goal_line (load_raw n).goals in
     let short : length header ≤ 1000 = lit≤ tt in

@@ -4,7 +4,7 @@ use Rattle.std.proofs.Common.{◌≡◌, ◌∙◌, ℕ, List, ap, subst}
 use Rattle.std.specs.Prelude.{IfOk, Result, Ok, Err}
 use Rattle.spec_core.specs.declared.records.Spec.{Spec}
 use Rattle.spec_core.specs.WellSorted.{IsWellSorted}
-use Rattle.path_order.specs.Above.{Above}
+use Rattle.clause_core.specs.Orders.{above_of}
 use Rattle.clause_core.specs.declared.reports.Report.{Report}
 use Rattle.proof_script.specs.Laws.{OneReport}
 use Rattle.proof_script.specs.Texts.{IsReportText}
@@ -43,7 +43,7 @@ module _ (ending : OneEnding) (bytes : List ℕ) (wanted : Spec)
 -- an accepted report isn't replayed with No
 pub never_no :
     OneReplay → (spec : Spec) (bytes text : List ℕ) → IsWellSorted spec →
-    ((report : Report) × IsReportText spec.sig bytes report × IsAccepted Above spec report) →
+    ((report : Report) × IsReportText spec.sig bytes report × IsAccepted (above_of spec) spec report) →
     IsReplay spec bytes text No → ⊥
 never_no one spec bytes text fine r replayed =
     let done : No ≡ Done = one.done spec bytes text No r.0 fine r.1 r.2 replayed in

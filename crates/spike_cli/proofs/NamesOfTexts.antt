@@ -5,7 +5,7 @@ use Rattle.std.specs.Str.{bytes_eq}
 use Rattle.std.proofs.lemmas.Bool.{leb-true}
 use Rattle.spec_text.proofs.SpanLemmas.{spans_hold}
 use Rattle.spec_grammar.specs.declared.keys.Key.{Key}
-use Rattle.spec_grammar.specs.declared.keys.Key.TheVariants.{Equals, Colon, Arrow, RightPar, Spike, Sort, Fun, Rule, Goal, If, Unless, Stray}
+use Rattle.spec_grammar.specs.declared.keys.Key.TheVariants.{Equals, Colon, Arrow, RightPar, Spike, Sort, Fun, Rule, Goal, If, Unless, Equal, Status, Order, Stray}
 use Rattle.spec_grammar.specs.declared.limits.LimitKind.{LimitKind}
 use Rattle.spec_grammar.specs.declared.limits.LimitKind.TheVariants as limit
 use Rattle.spec_grammar.specs.declared.raw.RawName.{RawName}
@@ -52,7 +52,7 @@ not_keyed test (w ∷ ws) e =
 abbrev keys : List (List ℕ × Key)
 keys =
     (codes "spike", Spike) ∷ (codes "sort", Sort) ∷ (codes "fun", Fun) ∷ (codes "rule", Rule) ∷ (codes "goal", Goal) ∷ (codes "if", If)
-    ∷ (codes "unless", Unless) ∷ (codes "order", Stray) ∷ (codes "status", Stray) ∷ (codes "equal", Stray) ∷ (codes "_", Stray) ∷ []
+    ∷ (codes "unless", Unless) ∷ (codes "order", Order) ∷ (codes "status", Status) ∷ (codes "equal", Equal) ∷ (codes "_", Stray) ∷ []
 
 reserved_by_keys : (name : List ℕ) → reserved name ≡ keyed (bytes_eq name) keys
 unfolding keyed
@@ -137,38 +137,38 @@ names_behind (x ∷ xs) v h = (more_names_behind 1 xs (sign RightPar ∷ v) h.2.
 con_words : (m : Option LimitKind) (c : RawNames) (v : List Marked) → AllGood (con_text m c v) → IsReportName c.name × AllGood v
 con_words m c v h = (word_stands c.name c.at m h.0 h.1, names_behind c.args v h.2)
 
-constructors_words : (k t : ℕ) (cs : List RawNames) (v : List Marked) → AllGood (constructors_text k t cs v) → ConstructorsStand cs × AllGood v
-constructors_words k t [] v h = (tt, h)
-constructors_words k t (c ∷ cs) v h =
-    let first = con_words (constructor_mark k t) c (constructors_text (k + 1) (t + 1) cs v) h.2 in
-    let others = constructors_words (k + 1) (t + 1) cs v first.1 in
+constructors_words : (version k t : ℕ) (cs : List RawNames) (v : List Marked) → AllGood (constructors_text version k t cs v) → ConstructorsStand cs × AllGood v
+constructors_words version k t [] v h = (tt, h)
+constructors_words version k t (c ∷ cs) v h =
+    let first = con_words (constructor_mark version k t) c (constructors_text version (k + 1) (t + 1) cs v) h.2 in
+    let others = constructors_words version (k + 1) (t + 1) cs v first.1 in
     ((first.0, others.0), others.1)
 
-sorts_words : (n t : ℕ) (ss : List RawSort) (text v : List Marked) → AreSorts n t ss text v → AllGood text → AllByRecursion (λ (s : RawSort). ConstructorsStand s.constructors) ss × AllGood v
-sorts_words n t [] text v are h = (tt, subst AllGood are h)
-sorts_words n t (s ∷ ss) text v (first, others, after, cs, is, are) h =
+sorts_words : (version n t : ℕ) (ss : List RawSort) (text v : List Marked) → AreSorts version n t ss text v → AllGood text → AllByRecursion (λ (s : RawSort). ConstructorsStand s.constructors) ss × AllGood v
+sorts_words version n t [] text v are h = (tt, subst AllGood are h)
+sorts_words version n t (s ∷ ss) text v (first, others, after, cs, is, are) h =
     let good = subst AllGood is h in
-    let con = con_words (constructor_mark 0 t) first (constructors_text 1 (t + 1) others after) good.2.2.2 in
-    let more = constructors_words 1 (t + 1) others after con.1 in
-    let rest = sorts_words (n + 1) (t + 1 + length others) ss after v are more.1 in
+    let con = con_words (constructor_mark version 0 t) first (constructors_text version 1 (t + 1) others after) good.2.2.2 in
+    let more = constructors_words version 1 (t + 1) others after con.1 in
+    let rest = sorts_words version (n + 1) (t + 1 + length others) ss after v are more.1 in
     ((subst ConstructorsStand (sym cs) (con.0, more.0), rest.0), rest.1)
 
-funs_words : (n : ℕ) (fs : List RawFun) (v : List Marked) → AllGood (funs_text n fs v) → AllByRecursion (λ (f : RawFun). IsReportName f.head.name) fs × AllGood v
-funs_words n [] v h = (tt, h)
-funs_words n (f ∷ fs) v h =
-    let head = con_words None f.head (sign Colon ∷ name_text None f.result (funs_text (n + 1) fs v)) h.2 in
-    let rest = funs_words (n + 1) fs v head.1.2.2 in
+funs_words : (version n : ℕ) (fs : List RawFun) (v : List Marked) → AllGood (funs_text version n fs v) → AllByRecursion (λ (f : RawFun). IsReportName f.head.name) fs × AllGood v
+funs_words version n [] v h = (tt, h)
+funs_words version n (f ∷ fs) v h =
+    let head = con_words None f.head (sign Colon ∷ name_text None f.result (funs_text version (n + 1) fs v)) h.2 in
+    let rest = funs_words version (n + 1) fs v head.1.2.2 in
     ((head.0, rest.0), rest.1)
 
 guards_behind : (n : ℕ) (gs : List RawGuard) (v : List Marked) → AllGood (guards_text n gs v) → AllGood v
 guards_behind n [] v h = h
 guards_behind n (g ∷ gs) v h = guards_behind (n + 1) gs v (term_words 0 None g.test (guards_text (n + 1) gs v) h.2).1
 
-rules_behind : (n : ℕ) (rs : List RawRule) (v : List Marked) → AllGood (rules_text n rs v) → AllGood v
-rules_behind n [] v h = h
-rules_behind n (r ∷ rs) v h =
-    let sides = sides_words None (record { left = r.left; right = r.right }) (guards_text 0 r.guards (rules_text (n + 1) rs v)) h.2 in
-    rules_behind (n + 1) rs v (guards_behind 0 r.guards (rules_text (n + 1) rs v) sides.1)
+rules_behind : (version n : ℕ) (rs : List RawRule) (v : List Marked) → AllGood (rules_text version n rs v) → AllGood v
+rules_behind version n [] v h = h
+rules_behind version n (r ∷ rs) v h =
+    let sides = sides_words None (record { left = r.left; right = r.right }) (guards_text 0 r.guards (rules_text version (n + 1) rs v)) h.2 in
+    rules_behind version (n + 1) rs v (guards_behind 0 r.guards (rules_text version (n + 1) rs v) sides.1)
 
 commas_words : (n : ℕ) (es : List RawEq) (v : List Marked) → AllGood (commas_text n es v) → AllSidesStand es × AllGood v
 commas_words n [] v h = (tt, h)
@@ -230,12 +230,12 @@ goals_words n (g ∷ gs) text v (clause, after, is, are_clause, are) h =
     (goal, goals_words (n + 1) gs after v are sides.2)
 
 pub raw_names_stand : (bytes : List ℕ) (raw : RawSpec) → TextDerives IsSpecText bytes raw → RawNamesStand raw
-raw_names_stand bytes raw (tokens, are_tokens, (sorts_text, goals_text, is, are_sorts, are_goals)) =
+raw_names_stand bytes raw (tokens, are_tokens, (sorts_text, goals_text, is, are_sorts, are_goals, known)) =
     let good = subst AllGood is (tokens_good bytes tokens (spans_hold bytes tokens are_tokens).spelled) in
-    let sorts = sorts_words 0 0 raw.sorts sorts_text (funs_text 0 raw.funs (rules_text 0 raw.rules goals_text)) are_sorts good.2.2 in
-    let funs = funs_words 0 raw.funs (rules_text 0 raw.rules goals_text) sorts.1 in
+    let sorts = sorts_words raw.version 0 0 raw.sorts sorts_text (funs_text raw.version 0 raw.funs (rules_text raw.version 0 raw.rules goals_text)) are_sorts good.2.2 in
+    let funs = funs_words raw.version 0 raw.funs (rules_text raw.version 0 raw.rules goals_text) sorts.1 in
     record {
       constructors = sorts.0;
       functions = funs.0;
-      goals = goals_words 0 raw.goals goals_text [] are_goals (rules_behind 0 raw.rules goals_text funs.1);
+      goals = goals_words 0 raw.goals goals_text [] are_goals (rules_behind raw.version 0 raw.rules goals_text funs.1);
     }

@@ -21,7 +21,7 @@ use Rattle.sort_check.proofs.OneSpec.{one_spec}
 use Rattle.sort_check.proofs.WellSortedSpecs.{numbered_well_sorted}
 use Rattle.sort_check.proofs.Names.{symbols_distinct}
 use Rattle.sort_check.proofs.OneTerm.{one_term}
-use Rattle.path_order.specs.Above.{Above}
+use Rattle.clause_core.specs.Orders.{above_of}
 use Rattle.spec_admit.specs.FirstFault.{Tells as IsFirstFault}
 use Rattle.spec_admit.specs.Laws.{NoFaultWhereAdmitted, OneFault}
 use Rattle.spec_admit.specs.declared.faults.AdmitFault.{AdmitFault}
@@ -45,11 +45,15 @@ no_text_refusal bytes line spec a r = taken_or_refused spec_symbols IsSpecText s
 pub one_specification : (bytes : List ℕ) (raw again : RawSpec) (spec other : Spec) → IsAcceptedAs bytes raw spec → IsAcceptedAs bytes again other → (raw ≡ again) × (spec ≡ other)
 one_specification bytes raw again spec other a b = (same_raw bytes raw again a.derived b.derived, one_meaning bytes spec other (raw, a.derived, a.stands) (again, b.derived, b.stands))
 
-pub no_refusal : NoFaultWhereAdmitted Above → (bytes line : List ℕ) (raw : RawSpec) (spec : Spec) → IsAcceptedAs bytes raw spec → IsRefusalOf bytes line → ⊥
+pub no_refusal :
+    ((spec : Spec) → NoFaultWhereAdmitted (above_of spec)) → (bytes line : List ℕ) (raw : RawSpec)
+    (spec : Spec) → IsAcceptedAs bytes raw spec → IsRefusalOf bytes line → ⊥
 no_refusal none bytes line raw spec a (no_specification r) = no_text_refusal bytes line spec (raw, a.derived, a.stands) r
 no_refusal none bytes line raw spec a (not_admitted other fault stands first is) =
     let same : other ≡ spec = one_meaning bytes other spec stands (raw, a.derived, a.stands) in
-    let free : fault ≡ OutOfMemory = none spec fault a.admitted (subst (λ (s : Spec). IsFirstFault Above s fault) same first) in
+    let free : fault ≡ OutOfMemory =
+    none spec spec fault a.admitted
+    (subst (λ (s : Spec). IsFirstFault (above_of s) s fault) same first) in
     subst (λ (f : AdmitFault). IsAdmitLine other.sig f line) free is
 
 -- a fault of admission has one line
@@ -64,10 +68,13 @@ one_admit_line sig OutOfMemory line other a b = absurd a
 pub well_sorted_meaning : (bytes : List ℕ) (spec : Spec) → TextStandsFor bytes spec → IsWellSorted spec
 well_sorted_meaning bytes spec a = numbered_well_sorted a.0 spec (keeps_limits bytes a.0 a.1) a.2.numbered
 
-module _ (one : OneFault Above) where
-  same_admit_line : (spec : Spec) (fault another : AdmitFault) (line other : List ℕ) → IsWellSorted spec → IsFirstFault Above spec fault → IsFirstFault Above spec another → IsAdmitLine spec.sig fault line → IsAdmitLine spec.sig another other → line ≡ other
+module _ (one : (spec : Spec) → OneFault (above_of spec)) where
+  same_admit_line :
+      (spec : Spec) (fault another : AdmitFault) (line other : List ℕ) → IsWellSorted spec →
+      IsFirstFault (above_of spec) spec fault → IsFirstFault (above_of spec) spec another →
+      IsAdmitLine spec.sig fault line → IsAdmitLine spec.sig another other → line ≡ other
   same_admit_line spec fault another line other fine first second a b =
-      elim (one spec fault another fine first second) [
+      elim (one spec spec fault another fine first second) [
         | inl same ↦ one_admit_line spec.sig fault line other a (subst (λ (f : AdmitFault). IsAdmitLine spec.sig f other) (sym same) b)
         | inr none ↦ elim none [
           | inl e ↦ absurd (subst (λ (f : AdmitFault). IsAdmitLine spec.sig f line) e a)
@@ -81,7 +88,9 @@ module _ (one : OneFault Above) where
   one_refusal bytes line other (not_admitted spec fault stands first is) (no_specification b) = absurd (no_text_refusal bytes other spec stands b)
   one_refusal bytes line other (not_admitted spec fault stands first is) (not_admitted again another means second it) =
       let same : again ≡ spec = one_meaning bytes again spec means stands in
-      same_admit_line spec fault another line other (well_sorted_meaning bytes spec stands) first (subst (λ (s : Spec). IsFirstFault Above s another) same second) is (subst (λ (s : Spec). IsAdmitLine s.sig another other) same it)
+      same_admit_line spec fault another line other (well_sorted_meaning bytes spec stands) first
+      (subst (λ (s : Spec). IsFirstFault (above_of s) s another) same second) is
+      (subst (λ (s : Spec). IsAdmitLine s.sig another other) same it)
 
 pub one_term_text : (sig : Sig) (bytes : List ℕ) (t other : Tree) → IsDeclared sig → TermTextStandsFor sig bytes t → TermTextStandsFor sig bytes other → t ≡ other
 one_term_text sig bytes t other declared a b =

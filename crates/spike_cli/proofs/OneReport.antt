@@ -9,7 +9,7 @@ use Rattle.spec_core.specs.Sig.{Sig}
 use Rattle.spec_core.specs.declared.records.Goal.{Goal}
 use Rattle.spec_core.specs.declared.records.Spec.{Spec}
 use Rattle.spec_core.specs.WellSorted.{IsWellSorted}
-use Rattle.path_order.specs.Above.{Above}
+use Rattle.clause_core.specs.Orders.{above_of}
 use Rattle.clause_core.specs.declared.reports.Budget.{Budget}
 use Rattle.clause_core.specs.declared.reports.Claim.{Claim}
 use Rattle.clause_core.specs.declared.reports.Outcome.TheVariants.{Proved}
@@ -59,8 +59,8 @@ begun_text-append steps sig claims others =
     ∙ sym (append_assoc header (claims_text sig claims) (claims_text sig others))
 
 module _
-    (plain : OneBlock Above) (routine : OneProof Above) (bounds : ProofBounds) (spec : Spec)
-    (fine : IsWellSorted spec) where
+    (spec : Spec) (plain : OneBlock (above_of spec)) (routine : OneProof (above_of spec))
+    (bounds : ProofBounds) (fine : IsWellSorted spec) where
   -- two proofs of a goal have the same steps
   same_steps :
       (lemmas : List ℕ) (goal : Goal) (tried : Budget) (a b : Block) →
@@ -69,7 +69,7 @@ module _
   same_steps lemmas goal tried a b (inl p) (inl q) =
       elim (cases_order p.variable.0 q.variable.0) [
         | inl e ↦ (
-            let moved = subst (λ x. IsPlainBlock Above spec goal x a.steps) e p.plain in
+            let moved = subst (λ x. IsPlainBlock (above_of spec) spec goal x a.steps) e p.plain in
             plain spec goal q.variable.0 a.steps b.steps fine q.first.0.1.no_premises moved q.plain
             )
         | inr (inl below) ↦ absurd (q.first.1 p.variable.0 below p.first.0)
@@ -151,12 +151,14 @@ module _
         subst (λ x. AppendedPrefix old new x) (sym more.1)
         (AppendedPrefix-more old new p.0 more.0 p.2)
 
-pub one_right_report : OneBlock Above → OneProof Above → OneRightReport
+pub one_right_report :
+    ((spec : Spec) → OneBlock (above_of spec)) → ((spec : Spec) → OneProof (above_of spec)) →
+    OneRightReport
 one_right_report plain routine bounds spec text status fine r = record {
-  only = only plain routine bounds spec fine text status r;
+  only = only spec (plain spec) (routine spec) bounds fine text status r;
   begins =
       λ part is.
-      let more = goes_on plain routine bounds spec fine text status r part is in
+      let more = goes_on spec (plain spec) (routine spec) bounds fine text status r part is in
       ap (take (length part)) more.1 ∙ take-append_seam part more.0;
-  appended = part_appended plain routine bounds spec fine text status r;
+  appended = part_appended spec (plain spec) (routine spec) bounds fine text status r;
 }

@@ -6,7 +6,7 @@ use Rattle.std.proofs.lemmas.List.{append-nil}
 use Rattle.term_core.proofs.Members.{In, all_in, in_contained, contained_in}
 use Rattle.spec_core.specs.declared.records.Goal.{Goal}
 use Rattle.spec_core.specs.declared.records.Spec.{Spec}
-use Rattle.path_order.specs.Above.{Above}
+use Rattle.clause_core.specs.Orders.{above_of}
 use Rattle.clause_core.specs.declared.reports.Claim.{Claim}
 use Rattle.clause_core.specs.declared.reports.Outcome.{Outcome}
 use Rattle.clause_core.specs.declared.reports.Outcome.TheVariants.{Proved, Refuted, Open}
@@ -31,18 +31,18 @@ module _ {A R : Type 0} (is : A → R → Type 0) where
 -- a goal has a routine proof exactly where there is a first one
 module _ (bounds : ProofBounds) (spec : Spec) (lemmas : List ℕ) (goal : Goal) where
   pub has_first :
-      (steps : List Step) → IsFirstProof Above spec lemmas goal bounds.nodes (Some steps) →
+      (steps : List Step) → IsFirstProof (above_of spec) spec lemmas goal bounds.nodes (Some steps) →
       HasRoutine bounds spec lemmas goal
   has_first steps f =
       let p =
-      first_item (IsProof Above spec lemmas goal bounds.nodes) (starts (goal_clause goal)) steps
+      first_item (IsProof (above_of spec) spec lemmas goal bounds.nodes) (starts (goal_clause goal)) steps
       f in
       (p.0, steps, contained_in (starts (goal_clause goal)) p.0 p.1, p.2)
 
   pub has_none :
-      IsFirstProof Above spec lemmas goal bounds.nodes None → HasRoutine bounds spec lemmas goal → ⊥
+      IsFirstProof (above_of spec) spec lemmas goal bounds.nodes None → HasRoutine bounds spec lemmas goal → ⊥
   has_none none h =
-      all_in (HasNone (IsProof Above spec lemmas goal bounds.nodes)) (starts (goal_clause goal)) h.0
+      all_in (HasNone (IsProof (above_of spec) spec lemmas goal bounds.nodes)) (starts (goal_clause goal)) h.0
       none (in_contained (starts (goal_clause goal)) h.0 h.2) h.1 h.3
 
 -- one claim more

@@ -10,7 +10,7 @@ use Rattle.spec_core.specs.Order.{substitutions}
 use Rattle.spec_core.specs.Sig.{Sig, names_of}
 use Rattle.spec_core.specs.TermText.{SymbolsAreInRange, AllSymbolsAreInRange}
 use Rattle.spec_core.specs.WellSorted.{GoalIsSorted}
-use Rattle.path_order.specs.Above.{Above}
+use Rattle.clause_core.specs.Orders.{above_of}
 use Rattle.refuter.specs.declared.answers.Search.{Search}
 use Rattle.refuter.specs.declared.answers.Search.TheVariants.{Found, NotFound}
 use Rattle.refuter.specs.Finds.{Finds, IsFalse}
@@ -143,147 +143,148 @@ goal_names_stand :
 goal_names_stand [] all = tt
 goal_names_stand (g ∷ goals) all = (all.0.goal_name, goal_names_stand goals all.1)
 
-module _ (stand : PlainBlocksStand Above) (routine : RoutineBlocksStand Above)
-    (bounds : ProofBounds) (spec : Spec) (reports : HasReports spec) (within : AreWithin bounds)
-  where
-    -- the block of a proved claim: its steps may stand, there are few of them, and the text is short
-    record BlockStands (goal : Goal) (block : Block) : Type 0 where
-      stands : AllByRecursion (StepStands spec.sig) block.steps
-      few : length block.steps ≤ 10000
-      short :
-          length (claim_text spec.sig (record { goal = goal.name; outcome = Proved block })) ≤ 300000
+module _
+    (spec : Spec) (stand : PlainBlocksStand (above_of spec))
+    (routine : RoutineBlocksStand (above_of spec)) (bounds : ProofBounds)
+    (reports : HasReports spec) (within : AreWithin bounds) where
+  -- the block of a proved claim: its steps may stand, there are few of them, and the text is short
+  record BlockStands (goal : Goal) (block : Block) : Type 0 where
+    stands : AllByRecursion (StepStands spec.sig) block.steps
+    few : length block.steps ≤ 10000
+    short :
+        length (claim_text spec.sig (record { goal = goal.name; outcome = Proved block })) ≤ 300000
 
-    block_stands :
-        (lemmas : List ℕ) (goal : Goal) (tried : Budget) (block : Block) →
-        GoalIsSorted spec.sig goal → GoalNamesStand goal →
-        IsUnrefuted bounds spec lemmas goal tried (Proved block) → BlockStands goal block
-    block_stands lemmas goal tried block sorted names (inl is) = record {
-      stands =
-          stand spec goal is.variable.0 block.steps reports.fine sorted reports.names.symbols
-          (omega (arith, reports.few_rules)) is.plain;
-      few = omega (arith, is.few, within.plain);
-      short =
-          is.short names.goal_name.short (names_short spec.sig (names_of spec.sig)
-          reports.names.symbols) reports.few_rules;
-    }
-    block_stands lemmas goal tried block sorted names (inr is) =
-        let found =
-        first_item (IsProof Above spec lemmas goal bounds.nodes) (starts (goal_clause goal))
-        block.steps is.1 in
-        let proof = found.2 in
-        let few : length block.steps ≤ 10000 = omega (arith, proof.few, within.nodes) in
-        record {
-          stands =
-              routine spec lemmas goal found.0 block.steps reports.fine sorted
-              (record {
-                symbols = reports.names.symbols;
-                goals = goal_names_stand spec.goals
-                    reports.names.goals;
-              }) (omega (arith, reports.few_rules)) proof.proves.within
-              proof.routine;
-          few = few;
-          short = proof.short;
-        }
+  block_stands :
+      (lemmas : List ℕ) (goal : Goal) (tried : Budget) (block : Block) →
+      GoalIsSorted spec.sig goal → GoalNamesStand goal →
+      IsUnrefuted bounds spec lemmas goal tried (Proved block) → BlockStands goal block
+  block_stands lemmas goal tried block sorted names (inl is) = record {
+    stands =
+        stand spec goal is.variable.0 block.steps reports.fine sorted reports.names.symbols
+        (omega (arith, reports.few_rules)) is.plain;
+    few = omega (arith, is.few, within.plain);
+    short =
+        is.short names.goal_name.short (names_short spec.sig (names_of spec.sig)
+        reports.names.symbols) reports.few_rules;
+  }
+  block_stands lemmas goal tried block sorted names (inr is) =
+      let found =
+      first_item (IsProof (above_of spec) spec lemmas goal bounds.nodes) (starts (goal_clause goal))
+      block.steps is.1 in
+      let proof = found.2 in
+      let few : length block.steps ≤ 10000 = omega (arith, proof.few, within.nodes) in
+      record {
+        stands =
+            routine spec lemmas goal found.0 block.steps reports.fine sorted
+            (record {
+              symbols = reports.names.symbols;
+              goals = goal_names_stand spec.goals
+                  reports.names.goals;
+            }) (omega (arith, reports.few_rules)) proof.proves.within
+            proof.routine;
+        few = few;
+        short = proof.short;
+      }
 
-    -- the symbols in the lines of a claim are the signature's
-    pub claim_in_range :
-        (lemmas : List ℕ) (goal : Goal) (claim : Claim) → GoalIsSorted spec.sig goal →
-        GoalNamesStand goal → IsClaimOn bounds spec lemmas goal claim → ClaimIsInRange spec.sig claim
-    claim_in_range lemmas goal claim sorted names c = by c.search claim.outcome c.false c.outcome
-      where
-        by :
-            (search : Search) (o : Outcome) →
-            IsFalse spec goal bounds.search.tries (substitutions spec goal bounds.search.depth)
-            search → IsOutcomeOf bounds spec lemmas goal search o → OutcomeIsInRange spec claim.goal o
-        by (Found index values) o f is =
-            subst (λ o. OutcomeIsInRange spec claim.goal o) (sym is)
-            (refuted_in_range spec claim.goal index goal.vars values f.2)
-        by (NotFound tried skipped cut) (Proved block) f is =
-            let b =
-            block_stands lemmas goal (budget_of bounds tried skipped cut) block sorted names is in
-            ((tt, (tt, (tt, tt))), steps_in_range spec.sig block.steps b.stands)
-        by (NotFound tried skipped cut) (Refuted index values) f is = absurd is
-        by (NotFound tried skipped cut) (Open budget) f is = open_in_range spec claim.goal budget
+  -- the symbols in the lines of a claim are the signature's
+  pub claim_in_range :
+      (lemmas : List ℕ) (goal : Goal) (claim : Claim) → GoalIsSorted spec.sig goal →
+      GoalNamesStand goal → IsClaimOn bounds spec lemmas goal claim → ClaimIsInRange spec.sig claim
+  claim_in_range lemmas goal claim sorted names c = by c.search claim.outcome c.false c.outcome
+    where
+      by :
+          (search : Search) (o : Outcome) →
+          IsFalse spec goal bounds.search.tries (substitutions spec goal bounds.search.depth)
+          search → IsOutcomeOf bounds spec lemmas goal search o → OutcomeIsInRange spec claim.goal o
+      by (Found index values) o f is =
+          subst (λ o. OutcomeIsInRange spec claim.goal o) (sym is)
+          (refuted_in_range spec claim.goal index goal.vars values f.2)
+      by (NotFound tried skipped cut) (Proved block) f is =
+          let b =
+          block_stands lemmas goal (budget_of bounds tried skipped cut) block sorted names is in
+          ((tt, (tt, (tt, tt))), steps_in_range spec.sig block.steps b.stands)
+      by (NotFound tried skipped cut) (Refuted index values) f is = absurd is
+      by (NotFound tried skipped cut) (Open budget) f is = open_in_range spec claim.goal budget
 
-    -- what is claimed of a goal may stand in a report
-    outcome_stands :
-        (lemmas : List ℕ) (goal : Goal) → GoalIsSorted spec.sig goal → GoalNamesStand goal →
-        (search : Search) (o : Outcome) →
-        IsFalse spec goal bounds.search.tries (substitutions spec goal bounds.search.depth) search →
-        Finds spec goal bounds.search.steps bounds.search.tries
-        (substitutions spec goal bounds.search.depth) search →
-        IsOutcomeOf bounds spec lemmas goal search o → MayStand spec goal.name o
-    outcome_stands lemmas goal sorted names (Found index row) o f e is =
-        subst (λ o. MayStand spec goal.name o) (sym is)
-        (refuted_stands spec goal names reports.names.symbols sorted.few_variables bounds.search.depth
-        bounds.search.tries index row within.search.depth within.search.tries.1 f)
-    outcome_stands lemmas goal sorted names (NotFound tried skipped cut) (Proved block) f e is =
-        let b = block_stands lemmas goal (budget_of bounds tried skipped cut) block sorted names is in
-        record { stands = (b.few, b.stands); small = b.short }
-    outcome_stands lemmas goal sorted names (NotFound tried skipped cut) (Refuted index values) f e
-        is =
-        absurd is
-    outcome_stands lemmas goal sorted names (NotFound tried skipped cut) (Open budget) f e is =
-        let t =
-        tried_few spec goal bounds.search.steps bounds.search.tries
-        (substitutions spec goal bounds.search.depth) tried skipped cut e in
-        let most = within.search.tries.1 in
-        subst (λ b. MayStand spec goal.name (Open b)) (sym is.2)
-        (open_stands spec goal names (budget_of bounds tried skipped cut) (record {
-          depth = within.search.depth;
-          tried = omega (arith, t.0);
-          skipped = omega (arith, t.1);
-          plain = omega (arith, within.plain);
-          nodes = omega (arith, within.nodes);
-        }))
+  -- what is claimed of a goal may stand in a report
+  outcome_stands :
+      (lemmas : List ℕ) (goal : Goal) → GoalIsSorted spec.sig goal → GoalNamesStand goal →
+      (search : Search) (o : Outcome) →
+      IsFalse spec goal bounds.search.tries (substitutions spec goal bounds.search.depth) search →
+      Finds spec goal bounds.search.steps bounds.search.tries
+      (substitutions spec goal bounds.search.depth) search →
+      IsOutcomeOf bounds spec lemmas goal search o → MayStand spec goal.name o
+  outcome_stands lemmas goal sorted names (Found index row) o f e is =
+      subst (λ o. MayStand spec goal.name o) (sym is)
+      (refuted_stands spec goal names reports.names.symbols sorted.few_variables bounds.search.depth
+      bounds.search.tries index row within.search.depth within.search.tries.1 f)
+  outcome_stands lemmas goal sorted names (NotFound tried skipped cut) (Proved block) f e is =
+      let b = block_stands lemmas goal (budget_of bounds tried skipped cut) block sorted names is in
+      record { stands = (b.few, b.stands); small = b.short }
+  outcome_stands lemmas goal sorted names (NotFound tried skipped cut) (Refuted index values) f e
+      is =
+      absurd is
+  outcome_stands lemmas goal sorted names (NotFound tried skipped cut) (Open budget) f e is =
+      let t =
+      tried_few spec goal bounds.search.steps bounds.search.tries
+      (substitutions spec goal bounds.search.depth) tried skipped cut e in
+      let most = within.search.tries.1 in
+      subst (λ b. MayStand spec goal.name (Open b)) (sym is.2)
+      (open_stands spec goal names (budget_of bounds tried skipped cut) (record {
+        depth = within.search.depth;
+        tried = omega (arith, t.0);
+        skipped = omega (arith, t.1);
+        plain = omega (arith, within.plain);
+        nodes = omega (arith, within.nodes);
+      }))
 
-    all_stand :
-        (before : List Claim) (goals : List Goal) (claims : List Claim) →
-        ((k : ℕ) (goal : Goal) → slice_get goals k ≡ Some goal → GoalIsSorted spec.sig goal) →
-        AllByRecursion GoalNamesStand goals →
-        AreClaims (IsNextClaim bounds spec) before goals claims →
-        AllByRecursion (ClaimStands spec.sig) claims × AllByRecursion (IsSmall spec.sig) claims
-    all_stand before [] [] sorted names a = (tt, tt)
-    all_stand before (g ∷ goals) [] sorted names a = absurd a
-    all_stand before [] (c ∷ claims) sorted names a = absurd a
-    all_stand before (g ∷ goals) (c ∷ claims) sorted names a =
-        let m =
-        outcome_stands (proved_goals before) g (sorted 0 g refl) names.0 a.0.search c.outcome
-        a.0.false a.0.exact a.0.outcome in
-        let here = claim_stands spec c g.name c.outcome names.0.goal_name a.0.name refl m in
-        let others =
-        all_stand (before ++ c ∷ []) goals claims (λ k goal at. sorted (suc k) goal at) names.1
-        a.1 in
-        ((here.0, others.0), (here.1, others.1))
+  all_stand :
+      (before : List Claim) (goals : List Goal) (claims : List Claim) →
+      ((k : ℕ) (goal : Goal) → slice_get goals k ≡ Some goal → GoalIsSorted spec.sig goal) →
+      AllByRecursion GoalNamesStand goals →
+      AreClaims (IsNextClaim bounds spec) before goals claims →
+      AllByRecursion (ClaimStands spec.sig) claims × AllByRecursion (IsSmall spec.sig) claims
+  all_stand before [] [] sorted names a = (tt, tt)
+  all_stand before (g ∷ goals) [] sorted names a = absurd a
+  all_stand before [] (c ∷ claims) sorted names a = absurd a
+  all_stand before (g ∷ goals) (c ∷ claims) sorted names a =
+      let m =
+      outcome_stands (proved_goals before) g (sorted 0 g refl) names.0 a.0.search c.outcome
+      a.0.false a.0.exact a.0.outcome in
+      let here = claim_stands spec c g.name c.outcome names.0.goal_name a.0.name refl m in
+      let others =
+      all_stand (before ++ c ∷ []) goals claims (λ k goal at. sorted (suc k) goal at) names.1
+      a.1 in
+      ((here.0, others.0), (here.1, others.1))
 
-    -- the report of claims on all goals has a text
-    pub report_stands :
-        (claims : List Claim) → AreClaims (IsNextClaim bounds spec) [] spec.goals claims →
-        IsReportText spec.sig (report_text spec.sig (report_of bounds.search.steps claims))
-        (report_of bounds.search.steps claims)
-    report_stands claims a =
-        let h = all_stand [] spec.goals claims reports.fine.goals reports.names.goals a in
-        text_of_small spec.sig (report_of bounds.search.steps claims)
-        (record { steps = within.search.steps; claims = h.0 }) h.1
+  -- the report of claims on all goals has a text
+  pub report_stands :
+      (claims : List Claim) → AreClaims (IsNextClaim bounds spec) [] spec.goals claims →
+      IsReportText spec.sig (report_text spec.sig (report_of bounds.search.steps claims))
+      (report_of bounds.search.steps claims)
+  report_stands claims a =
+      let h = all_stand [] spec.goals claims reports.fine.goals reports.names.goals a in
+      text_of_small spec.sig (report_of bounds.search.steps claims)
+      (record { steps = within.search.steps; claims = h.0 }) h.1
 
-    -- which isn't too long for `replay`
-    pub report_short :
-        (claims : List Claim) → AreClaims (IsNextClaim bounds spec) [] spec.goals claims →
-        length (report_text spec.sig (report_of bounds.search.steps claims)) ≤ 67108864
-    report_short claims a =
-        let h = all_stand [] spec.goals claims reports.fine.goals reports.names.goals a in
-        let header = lines_text spec.sig (header_lines bounds.search.steps) in
-        let last = lines_text spec.sig (last_line ∷ []) in
-        let short : IsShort bounds.search.steps = omega (arith, within.search.steps.1) in
-        omega (
-          arith,
-          reports.few_goals,
-          as_many (IsNextClaim bounds spec) [] spec.goals claims a,
-          claims_bytes spec.sig claims h.1,
-          header_bytes spec.sig bounds.search.steps short,
-          line_bytes spec.sig last_line,
-          length-append (line_text spec.sig last_line) [],
-          length-append header (claims_text spec.sig claims ++ last),
-          length-append
-              (claims_text spec.sig claims) last,
-        )
+  -- which isn't too long for `replay`
+  pub report_short :
+      (claims : List Claim) → AreClaims (IsNextClaim bounds spec) [] spec.goals claims →
+      length (report_text spec.sig (report_of bounds.search.steps claims)) ≤ 67108864
+  report_short claims a =
+      let h = all_stand [] spec.goals claims reports.fine.goals reports.names.goals a in
+      let header = lines_text spec.sig (header_lines bounds.search.steps) in
+      let last = lines_text spec.sig (last_line ∷ []) in
+      let short : IsShort bounds.search.steps = omega (arith, within.search.steps.1) in
+      omega (
+        arith,
+        reports.few_goals,
+        as_many (IsNextClaim bounds spec) [] spec.goals claims a,
+        claims_bytes spec.sig claims h.1,
+        header_bytes spec.sig bounds.search.steps short,
+        line_bytes spec.sig last_line,
+        length-append (line_text spec.sig last_line) [],
+        length-append header (claims_text spec.sig claims ++ last),
+        length-append
+            (claims_text spec.sig claims) last,
+      )

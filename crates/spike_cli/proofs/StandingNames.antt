@@ -27,6 +27,7 @@ use Rattle.spec_grammar.specs.RawTree.{RawTree, RawTrees, word, none, some}
 use Rattle.spec_grammar.specs.Derives.{TextDerives}
 use Rattle.spec_grammar.specs.Grammar.{IsSpecText}
 use Rattle.spec_grammar.specs.KeepsLimits.{KeepsLimits}
+use Rattle.spec_grammar.proofs.KeepsLimits.{few_rules}
 use Rattle.sort_check.specs.Goals.{GoalStands, goal_names}
 use Rattle.sort_check.specs.Occurrence.{with_name, after_word, names_after, names_after_all, names_after_sides}
 use Rattle.sort_check.specs.Rules.{RuleStands}
@@ -147,7 +148,7 @@ names_stand bytes raw spec derived stands =
     }
 
 -- and it has few rules
-pub rules_few : (raw : RawSpec) (spec : Spec) → KeepsLimits raw → StandsFor raw spec → length spec.rules ≤ 1000
+pub rules_few : (raw : RawSpec) (spec : Spec) → KeepsLimits raw → StandsFor raw spec → length spec.rules ≤ 4000
 rules_few raw spec limits stands =
     let as_many = AllZip-long (RuleStands spec.sig) raw.rules spec.rules stands.numbered.rules in
-    omega (arith, as_many, limits.few_rules)
+    omega (arith, as_many, limits.few_rules, few_rules raw.version)

@@ -8,7 +8,7 @@ use Rattle.spec_core.specs.declared.records.Spec.{Spec}
 use Rattle.spec_core.specs.Order.{substitutions}
 use Rattle.spec_core.specs.Truth.{AreValuesOf, GoalFails, GoalIsTrue}
 use Rattle.spec_core.specs.WellSorted.{IsWellSorted, sorts_of}
-use Rattle.path_order.specs.Above.{Above}
+use Rattle.clause_core.specs.Orders.{above_of}
 use Rattle.refuter.specs.declared.answers.Search.{Search}
 use Rattle.refuter.specs.declared.answers.Search.TheVariants.{Found, NotFound}
 use Rattle.refuter.specs.Finds.{IsFalse}
@@ -48,15 +48,15 @@ refuted_true spec goal tries index rows row f =
 
 -- what is claimed as proved is proved behind claims that prove the lemmas
 pub proves_behind :
-    ProvesBehindClaims Above → (bounds : ProofBounds) (spec : Spec) (lemmas : List ℕ) (goal : Goal)
-    (before : List Claim) → ((number : ℕ) → Contains lemmas number →
+    (spec : Spec) → ProvesBehindClaims (above_of spec) → (bounds : ProofBounds) (lemmas : List ℕ)
+    (goal : Goal) (before : List Claim) → ((number : ℕ) → Contains lemmas number →
     ProvedBefore spec before number) → (block : Block) (tried : Budget) →
     IsUnrefuted bounds spec lemmas goal tried (Proved block) →
-    Proves Above spec (ProvedBefore spec before) (goal_clause goal) block.steps
-proves_behind behind bounds spec lemmas goal before known block tried (inl is) = is.proves before
-proves_behind behind bounds spec lemmas goal before known block tried (inr is) =
+    Proves (above_of spec) spec (ProvedBefore spec before) (goal_clause goal) block.steps
+proves_behind spec behind bounds lemmas goal before known block tried (inl is) = is.proves before
+proves_behind spec behind bounds lemmas goal before known block tried (inr is) =
     let p =
-    (first_item (IsProof Above spec lemmas goal bounds.nodes) (starts (goal_clause goal))
+    (first_item (IsProof (above_of spec) spec lemmas goal bounds.nodes) (starts (goal_clause goal))
     block.steps is.1).2 in
     behind spec lemmas before (goal_clause goal) block.steps known p.proves
 
@@ -94,8 +94,10 @@ last_claim :
 last_claim spec [] claim all = all.0
 last_claim spec (c ∷ claims) claim all = last_claim spec claims claim all.1
 
-module _ (sound : AcceptedAreTrue Above) (behind : ProvesBehindClaims Above) (spec : Spec)
-    (fine : IsWellSorted spec) (admitted : IsAdmitted Above spec) (goal : Goal)
+module _
+    (spec : Spec) (sound : AcceptedAreTrue (above_of spec))
+    (behind : ProvesBehindClaims (above_of spec))
+    (fine : IsWellSorted spec) (admitted : IsAdmitted (above_of spec) spec) (goal : Goal)
     (listed : (k : ℕ) × (slice_get spec.goals k ≡ Some goal)) where
   same_goal :
       (other : Goal) (k : ℕ) → slice_get spec.goals k ≡ Some other → other.name ≡ goal.name →
@@ -110,14 +112,14 @@ module _ (sound : AcceptedAreTrue Above) (behind : ProvesBehindClaims Above) (sp
     -- a block that proves the goal behind the claims on its lemmas makes an accepted report with
     -- them
     proved_true :
-        (block : Block) → Proves Above spec (ProvedBefore spec known.before) (goal_clause goal)
+        (block : Block) → Proves (above_of spec) spec (ProvedBefore spec known.before) (goal_clause goal)
         block.steps → GoalIsTrue spec goal
     proved_true block p =
         let claim : Claim = record { goal = goal.name; outcome = Proved block } in
         let report : Report =
         record { steps = bounds.search.steps; claims = known.before ++ claim ∷ [] } in
-        let accepted : IsAccepted Above spec report =
-        claims_longer Above spec bounds.search.steps [] known.before known.accepted claim
+        let accepted : IsAccepted (above_of spec) spec report =
+        claims_longer (above_of spec) spec bounds.search.steps [] known.before known.accepted claim
         (record {
           goal = goal;
           named = (listed.0, listed.1, refl);
@@ -136,7 +138,7 @@ module _ (sound : AcceptedAreTrue Above) (behind : ProvesBehindClaims Above) (sp
         (refuted_true spec goal bounds.search.tries index
         (substitutions spec goal bounds.search.depth) row f)
     outcome_true (NotFound tried skipped cut) (Proved block) f is =
-        proved_true block (proves_behind behind bounds spec lemmas goal known.before known.proved
+        proved_true block (proves_behind spec behind bounds lemmas goal known.before known.proved
         block (budget_of bounds tried skipped cut) is)
     outcome_true (NotFound tried skipped cut) (Refuted index values) f is = absurd is
     outcome_true (NotFound tried skipped cut) (Open budget) f is = tt

@@ -13,7 +13,7 @@ use Rattle.spec_core.specs.declared.records.VarInfo.{VarInfo}
 use Rattle.spec_core.specs.Order.{constructors_of}
 use Rattle.spec_core.specs.Sig.{Sig, IsSort}
 use Rattle.spec_core.specs.WellSorted.{IsWellSorted, GoalIsSorted, sorts_of}
-use Rattle.path_order.specs.Above.{Above}
+use Rattle.clause_core.specs.Orders.{above_of}
 use Rattle.clause_core.specs.declared.clauses.Clause.{Clause}
 use Rattle.clause_core.specs.declared.steps.Step.{Step}
 use Rattle.clause_core.specs.Tidied.{goal_clause}
@@ -77,7 +77,7 @@ pub no_routine :
     (search : SearchBounds) (spec : Spec) (lemmas : List ℕ) (goal : Goal) →
     HasRoutine (search_alone search) spec lemmas goal → ⊥
 no_routine search spec lemmas goal h =
-    no_steps Above spec lemmas (goal_clause goal) h.0 h.1 h.3.few h.3.routine
+    no_steps (above_of spec) spec lemmas (goal_clause goal) h.0 h.1 h.3.few h.3.routine
 
 module _ (search : SearchBounds) (spec : Spec) (fine : IsWellSorted spec) where
   pub claims_of_search :

@@ -7,7 +7,7 @@ use Rattle.spec_core.specs.declared.records.Goal.{Goal}
 use Rattle.spec_core.specs.declared.records.Verdict.TheVariants.{Fails}
 use Rattle.spec_core.specs.Verdict.{IsVerdict}
 use Rattle.spec_core.specs.Order.{substitutions}
-use Rattle.path_order.specs.Above.{Above}
+use Rattle.clause_core.specs.Orders.{above_of}
 use Rattle.refuter.specs.declared.answers.Search.{Search}
 use Rattle.refuter.specs.declared.answers.Search.TheVariants.{Found, NotFound}
 use Rattle.refuter.specs.Finds.{Finds, IsFalse}
@@ -71,20 +71,20 @@ module _ (bounds : ProofBounds) (spec : Spec) where
     abbrev pub HasRoutine : Goal → Type 0
     HasRoutine goal =
         (start : Start) × (steps : List Step) × Contains (starts (goal_clause goal)) start
-        × IsProof Above spec lemmas goal bounds.nodes start steps
+        × IsProof (above_of spec) spec lemmas goal bounds.nodes start steps
 
     -- what is claimed of a goal without a counterexample: that it is proved, by the block of its
     -- first plain proof, or where no variable has one, by its first routine proof; or that it is
     -- open with these numbers, where it has neither
     abbrev pub IsUnrefuted : Goal → Budget → Outcome → Type 0
     IsUnrefuted goal tried (Proved block) =
-        IsFirstBlock Above spec goal bounds.plain block
+        IsFirstBlock (above_of spec) spec goal bounds.plain block
         ⊎ (IsFirstPlain spec goal bounds.plain None
-        × IsFirstProof Above spec lemmas goal bounds.nodes (Some block.steps))
+        × IsFirstProof (above_of spec) spec lemmas goal bounds.nodes (Some block.steps))
     IsUnrefuted goal tried (Refuted index values) = ⊥
     IsUnrefuted goal tried (Open budget) =
         IsFirstPlain spec goal bounds.plain None
-        × IsFirstProof Above spec lemmas goal bounds.nodes None
+        × IsFirstProof (above_of spec) spec lemmas goal bounds.nodes None
         × (budget ≡ tried)
 
     -- what is claimed where a search answers this

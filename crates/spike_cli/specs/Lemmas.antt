@@ -2,7 +2,7 @@
 use Rattle.std.specs.Prelude.{ℕ, List, [], Contains}
 use Rattle.spec_core.specs.declared.records.Goal.{Goal}
 use Rattle.spec_core.specs.declared.records.Spec.{Spec}
-use Rattle.path_order.specs.Above.{Above}
+use Rattle.clause_core.specs.Orders.{above_of}
 use Rattle.clause_core.specs.declared.reports.Claim.{Claim}
 use Rattle.acceptance.specs.Accepting.{ClaimsAreAccepted}
 use Rattle.acceptance.specs.Claims.{IsClaimed, ProvedBefore}
@@ -10,6 +10,6 @@ use Rattle.acceptance.specs.Claims.{IsClaimed, ProvedBefore}
 -- accepted claims, of which none is on the goal, prove the goals of these numbers
 pub record AreLemmas (steps : ℕ) (spec : Spec) (goal : Goal) (lemmas : List ℕ) : Type 0 where
   pub before : List Claim
-  pub accepted : ClaimsAreAccepted Above spec steps [] before
+  pub accepted : ClaimsAreAccepted (above_of spec) spec steps [] before
   pub unclaimed : IsClaimed goal.name before → ⊥
   pub proved : (number : ℕ) → Contains lemmas number → ProvedBefore spec before number

@@ -6,7 +6,7 @@ use Rattle.spec_core.specs.Sig.{Sig}
 use Rattle.spec_core.specs.Declarations.{IsDeclared}
 use Rattle.spec_grammar.specs.declared.raw.RawSpec.{RawSpec}
 use Rattle.spec_core.specs.WellSorted.{IsWellSorted}
-use Rattle.path_order.specs.Above.{Above}
+use Rattle.clause_core.specs.Orders.{above_of}
 use Rattle.clause_core.specs.declared.reports.Report.{Report}
 use Rattle.proof_script.specs.Texts.{IsReportText}
 use Rattle.acceptance.specs.Accepting.{IsAccepted}
@@ -45,5 +45,5 @@ pub record OneReplay : Type 0 where
       → IsReplay spec bytes text status → IsReplay spec bytes other again
       → (text ≡ other) × (status ≡ again)
   pub done : (spec : Spec) (bytes text : List ℕ) (status : Status) (report : Report)
-      → IsWellSorted spec → IsReportText spec.sig bytes report → IsAccepted Above spec report
+      → IsWellSorted spec → IsReportText spec.sig bytes report → IsAccepted (above_of spec) spec report
       → IsReplay spec bytes text status → status ≡ Done

@@ -1,7 +1,7 @@
 -- What `replay` writes for a report on an admitted specification.
 use Rattle.std.specs.Prelude.{ℕ, List, Option, codes}
 use Rattle.spec_core.specs.declared.records.Spec.{Spec}
-use Rattle.path_order.specs.Above.{Above}
+use Rattle.clause_core.specs.Orders.{above_of}
 use Rattle.clause_core.specs.declared.reports.ReplayWhy.{ReplayWhy}
 use Rattle.clause_core.specs.declared.reports.Report.{Report}
 use Rattle.proof_script.specs.Texts.{IsReportText}
@@ -23,12 +23,13 @@ module _ (spec : Spec) where
   -- and true; they are none; or they are one that isn't accepted
   pub data IsReplay (bytes : List ℕ) : List ℕ → Status → Type 0 where
     accepted : (report : Report) → IsReportText spec.sig bytes report
-        → IsAccepted Above spec report → ReportIsTrue spec report
+        → IsAccepted (above_of spec) spec report → ReportIsTrue spec report
         → IsReplay bytes (yes_line report.claims) status.Done
     no_report : (line : ℕ) → IsFaultyLine spec.sig bytes line
         → IsReplay bytes (no_line line (codes "not a report")) status.No
     refused : (report : Report) (line : ℕ) (why : ReplayWhy)
-        → IsReportText spec.sig bytes report → IsFirstRefusal Above spec report line why
+        → IsReportText spec.sig bytes report
+        → IsFirstRefusal (above_of spec) spec report line why
         → IsReplay bytes (no_line line (why_text why)) status.No
 
   -- the text alone

@@ -2,7 +2,7 @@
 use Rattle.std.specs.Prelude.{◌≡◌, ◌≤◌, ℕ, List, [], ◌++◌, length}
 use Rattle.spec_core.specs.declared.records.Spec.{Spec}
 use Rattle.spec_core.specs.Sig.{Sig}
-use Rattle.path_order.specs.Above.{Above}
+use Rattle.clause_core.specs.Orders.{above_of}
 use Rattle.clause_core.specs.declared.reports.Claim.{Claim}
 use Rattle.acceptance.specs.Accepting.{IsAccepted}
 use Rattle.proof_script.specs.Words.{lines_text}
@@ -41,7 +41,7 @@ pub record IsReport (bounds : ProofBounds) (spec : Spec) (text : List ℕ)
   pub is_text : text ≡ report_text spec.sig (report_of bounds.search.steps claims)
   pub stands : IsReportText spec.sig text (report_of bounds.search.steps claims)
   pub short : length text ≤ most_report_bytes
-  pub accepted : IsAccepted Above spec (report_of bounds.search.steps claims)
+  pub accepted : IsAccepted (above_of spec) spec (report_of bounds.search.steps claims)
   pub true : ReportIsTrue spec (report_of bounds.search.steps claims)
   pub answers : IsStatusOfClaims claims status
   pub exact : IsStatusOfGoals bounds spec status

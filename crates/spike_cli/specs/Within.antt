@@ -2,7 +2,7 @@
 use Rattle.std.specs.Prelude.{◌≤◌, ◌<◌, length}
 use Rattle.spec_core.specs.declared.records.Spec.{Spec}
 use Rattle.spec_core.specs.WellSorted.{IsWellSorted}
-use Rattle.path_order.specs.Above.{Above}
+use Rattle.clause_core.specs.Orders.{above_of}
 use Rattle.clause_core.specs.Admitted.{IsAdmitted}
 use Rattle.search_claims.specs.Laws.{BoundsStand}
 use Rattle.search_claims.specs.Names.{NamesStand}
@@ -23,11 +23,11 @@ TaskIsWithin (evaluating term steps) = Unit {0}
 TaskIsWithin (checking print) = Unit {0}
 TaskIsWithin (replaying report) = Unit {0}
 
--- the path ordering admits the specification, its names may stand in a report, and it has no more
--- rules and goals than a text declares
+-- its own order admits the specification, its names may stand in a report, and it has no more rules
+-- and goals than a text declares
 pub record HasReports (spec : Spec) : Type 0 where
   pub fine : IsWellSorted spec
-  pub admitted : IsAdmitted Above spec
+  pub admitted : IsAdmitted (above_of spec) spec
   pub names : NamesStand spec
   pub few_rules : length spec.rules < 9999
   pub few_goals : length spec.goals ≤ 200

@@ -60,7 +60,7 @@ fn accepted_line(alloc: Global, raw: &RawSpec) -> Result<Vec<u8>, OutOfMemory>
 
 /// How many constructors the sorts have.
 fn constructors_of(sorts: &[RawSort]) -> usize
-    requires { constructor_count sorts.now ≤ 500 }
+    requires { constructor_count sorts.now ≤ 1000 }
     ensures { result ≡ constructor_count sorts.now }
 {
     sorts.iter().map(|sort| sort.constructors.len()).sum()

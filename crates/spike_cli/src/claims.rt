@@ -1,4 +1,5 @@
 ghost use Rattle.std.specs.Prelude.{◌≡◌, ◌≤◌, Some, IfOk, slice_get};
+ghost use Rattle.clause_core.specs.Orders.{order_of};
 ghost use Rattle.spike_cli.specs.Claims.{IsClaimOn, IsUnrefuted, budget_of};
 ghost use Rattle.spike_cli.specs.Lemmas.{AreLemmas};
 
@@ -30,6 +31,7 @@ pub fn claim_on(
     bounds: ProofBounds,
     lemmas: &[u32],
 ) -> Result<Claim, OutOfMemory>
+    requires ordered { admitted.now.order ≡ order_of admitted.now.spec }
     requires listed { slice_get admitted.now.spec.goals goal.number ≡ Some goal.goal.now }
     requires short { bounds.plain ≤ 1000 }
     requires lemmas { AreLemmas bounds.search.steps admitted.now.spec goal.goal.now lemmas.now }
@@ -60,6 +62,7 @@ fn unrefuted(
     lemmas: &[u32],
     searched: Budget,
 ) -> Result<Outcome, OutOfMemory>
+    requires ordered { admitted.now.order ≡ order_of admitted.now.spec }
     requires listed { slice_get admitted.now.spec.goals goal.number ≡ Some goal.goal.now }
     requires short { bounds.plain ≤ 1000 }
     ensures { IfOk result (IsUnrefuted bounds admitted.now.spec lemmas.now goal.entry.goal.now

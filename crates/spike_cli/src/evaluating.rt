@@ -1,8 +1,8 @@
 ghost use Rattle.std.specs.Prelude.{◌≡◌, ◌≤◌, [], IfOk, codes};
 ghost use Rattle.spec_core.specs.TermText.{SymbolsAreInRange};
 ghost use Rattle.spec_core.specs.WellSorted.{IsWellSorted};
-ghost use Rattle.path_order.specs.Above.{Above};
 ghost use Rattle.clause_core.specs.Admitted.{IsAdmitted};
+ghost use Rattle.clause_core.specs.Orders.{above_of};
 ghost use Rattle.spec_core.specs.TermText.{term_text};
 ghost use Rattle.spike_cli.specs.Evaluations.{IsEvaluation, IsEvaluationText, lines_with};
 ghost use Rattle.spike_cli.specs.Evaluations.{spent_line as line_of_spent};
@@ -27,7 +27,7 @@ pub fn evaluate<S: Sink>(
     out: &mut S,
 ) -> Result<Status, Stop>
     requires fine { IsWellSorted spec.now }
-    requires admitted { IsAdmitted Above spec.now }
+    requires admitted { IsAdmitted (above_of spec.now) spec.now }
     ensures finishes { Finishes (S.written out.old) (S.written out.new)
         (S.faults out.old) (S.faults out.new)
         (IsEvaluation spec.now term.now steps) (IsEvaluationText spec.now term.now steps) result }
@@ -46,7 +46,7 @@ fn evaluation_of(
     steps: u32,
 ) -> Result<Ending, OutOfMemory>
     requires fine { IsWellSorted spec.now }
-    requires admitted { IsAdmitted Above spec.now }
+    requires admitted { IsAdmitted (above_of spec.now) spec.now }
     ensures { IfOk result (λ e. IsEvaluation spec.now bytes.now steps e.text.items e.status) }
 {
     let term = match ground_term(alloc, &spec.sig, bytes) {

@@ -17,9 +17,8 @@ use spec_admit::{no_fault_where_admitted, one_fault};
 pub fn one_ending()
     ensures { OneEnding }
 {
-    let order = Lpo::by_number();
-    no_fault_where_admitted(&order);
-    one_fault(&order);
+    no_fault_where_admitted::<Lpo>();
+    one_fault::<Lpo>();
 }
 
 /// What the bytes of a report lead to on a specification is one thing: that it is accepted, or the
@@ -27,10 +26,9 @@ pub fn one_ending()
 pub fn one_replay()
     ensures { OneReplay }
 {
-    let order = Lpo::by_number();
     one_report();
     one_faulty_line();
-    one_verdict(&order);
+    one_verdict::<Lpo>();
 }
 
 /// A search for counterexamples alone proves nothing: its claims are those of the search, and it
@@ -66,7 +64,6 @@ pub fn finished_runs_are_replayed()
 pub fn one_right_report()
     ensures { OneRightReport }
 {
-    let order = Lpo::by_number();
-    one_block(&order);
-    one_proof(&order);
+    one_block::<Lpo>();
+    one_proof::<Lpo>();
 }

@@ -4,7 +4,7 @@ ghost use Rattle.load_text.specs.LoadSpec.{load_spec};
 ghost use Rattle.proof_script.specs.Texts.{IsReportText};
 ghost use Rattle.acceptance.specs.Accepting.{IsAccepted};
 ghost use Rattle.clause_core.specs.declared.reports.Report.{Report as ReportOf};
-ghost use Rattle.path_order.specs.Above.{Above};
+ghost use Rattle.clause_core.specs.Orders.{above_of, order_of};
 ghost use Rattle.spike_cli.specs.Loads.{IsLoad, SomeReport};
 ghost use Rattle.spike_cli.specs.Stops.{Finishes};
 ghost use Rattle.spike_cli.specs.Within.{HasReports};
@@ -61,6 +61,8 @@ fn generated(alloc: Global, goals: u32) -> Result<Accepted, OutOfMemory>
     requires some { 1 ≤ goals }
     requires few { goals ≤ 200 }
     ensures is { IfOk result (λ accepted. accepted.admitted.spec ≡ load_spec goals) }
+    ensures ordered { IfOk result
+        (λ accepted. accepted.admitted.order ≡ order_of accepted.admitted.spec) }
     ensures reported { IfOk result (λ accepted. HasReports accepted.admitted.spec) }
 {
     one_ending();
@@ -74,7 +76,8 @@ fn generated(alloc: Global, goals: u32) -> Result<Accepted, OutOfMemory>
 
 /// The report of the specification with the usual bounds, in memory.
 fn reported(alloc: Global, admitted: &Admitted<Lpo>) -> Result<SureSink, OutOfMemory>
-    requires { HasReports admitted.now.spec }
+    requires ordered { admitted.now.order ≡ order_of admitted.now.spec }
+    requires reported { HasReports admitted.now.spec }
     ensures { IfOk result (SomeReport admitted.now.spec) }
 {
     let mut sink = SureSink::new(alloc);
@@ -87,8 +90,9 @@ fn reported(alloc: Global, admitted: &Admitted<Lpo>) -> Result<SureSink, OutOfMe
 
 /// The report of these bytes, which is read and replayed: it is one that is accepted.
 fn replayed(alloc: Global, admitted: &Admitted<Lpo>, bytes: &[u8]) -> Result<Report, OutOfMemory>
-    requires { (report : ReportOf) × IsReportText admitted.now.spec.sig bytes.now report
-        × IsAccepted Above admitted.now.spec report }
+    requires ordered { admitted.now.order ≡ order_of admitted.now.spec }
+    requires finished { (report : ReportOf) × IsReportText admitted.now.spec.sig bytes.now report
+        × IsAccepted (above_of admitted.now.spec) admitted.now.spec report }
     ensures { IfOk result (IsReportText admitted.now.spec.sig bytes.now) }
 {
     one_replay();

@@ -1,4 +1,5 @@
 ghost use Rattle.std.specs.Prelude.{◌≡◌, ◌≤◌, ℕ, List, [], ◌∷◌, IfOk};
+ghost use Rattle.clause_core.specs.Orders.{order_of};
 ghost use Rattle.spike_cli.specs.Replays.{IsFileReplay, IsFileReplayText, IsReplay, IsReplayText};
 ghost use Rattle.spike_cli.specs.Stops.{AsksFor, Finishes, FinishesReading};
 
@@ -24,6 +25,7 @@ pub fn replay_file<F: Files, S: Sink>(
     files: &mut F,
     out: &mut S,
 ) -> Result<Status, Stop>
+    requires { admitted.now.order ≡ order_of admitted.now.spec }
     ensures finishes { FinishesReading (S.written out.old) (S.written out.new)
         (S.faults out.old) (S.faults out.new) (F.faults files.old) (F.faults files.new)
         (IsFileReplay admitted.now.spec (F.held files.old report.now))
@@ -51,6 +53,7 @@ fn replay_bytes<S: Sink>(
     bytes: &[u8],
     out: &mut S,
 ) -> Result<Status, Stop>
+    requires { admitted.now.order ≡ order_of admitted.now.spec }
     ensures finishes { Finishes (S.written out.old) (S.written out.new)
         (S.faults out.old) (S.faults out.new) (IsReplay admitted.now.spec bytes.now)
         (IsReplayText admitted.now.spec bytes.now) result }
@@ -63,6 +66,7 @@ fn replay_bytes<S: Sink>(
 
 /// What is written for the bytes of a report.
 fn reply_to(alloc: Global, admitted: &Admitted<Lpo>, bytes: &[u8]) -> Result<Ending, OutOfMemory>
+    requires { admitted.now.order ≡ order_of admitted.now.spec }
     ensures { IfOk result
         (λ reply. IsReplay admitted.now.spec bytes.now reply.text.items reply.status) }
 {

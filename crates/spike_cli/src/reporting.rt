@@ -1,4 +1,5 @@
 ghost use Rattle.std.specs.Prelude.{◌≡◌, ◌≤◌, ◌++◌, Some, OnOk, slice_get};
+ghost use Rattle.clause_core.specs.Orders.{order_of};
 ghost use Rattle.spike_cli.specs.Claims.{number_proved};
 ghost use Rattle.spike_cli.specs.Lemmas.{AreLemmas};
 ghost use Rattle.spike_cli.specs.Reports.{BeginsReport, IsReport, search_alone as search_alone_of};
@@ -39,6 +40,7 @@ pub fn write_report<S: Sink>(
     bounds: ProofBounds,
     out: &mut S,
 ) -> Result<Status, Stop>
+    requires ordered { admitted.now.order ≡ order_of admitted.now.spec }
     requires reported { HasReports admitted.now.spec }
     requires within { AreWithin bounds }
     ensures finishes { Finishes (S.written out.old) (S.written out.new)
@@ -90,6 +92,7 @@ fn write_claim<S: Sink>(
     lemmas: &[u32],
     out: &mut S,
 ) -> Result<Claim, Stop>
+    requires ordered { admitted.now.order ≡ order_of admitted.now.spec }
     requires reported { HasReports admitted.now.spec }
     requires within { AreWithin bounds }
     requires listed { slice_get admitted.now.spec.goals goal.number ≡ Some goal.goal.now }

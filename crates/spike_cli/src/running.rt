@@ -1,5 +1,6 @@
 ghost use Rattle.std.specs.Prelude.{◌≡◌, ◌≤◌, ℕ, List, length, map, string_bytes};
 ghost use Rattle.spec_grammar.specs.KeepsLimits.{KeepsLimits};
+ghost use Rattle.clause_core.specs.Orders.{order_of};
 ghost use Rattle.command_line.specs.Commands.{file_of, task_of};
 ghost use Rattle.command_line.specs.Tasks.{Asks};
 ghost use Rattle.spike_cli.specs.Runs.{AsksFiles, IsEnd, MayWriteOn, Means};
@@ -118,6 +119,7 @@ fn finish<F: Files, S: Sink>(
     out: &mut S,
 ) -> Result<Status, Stop>
     requires limits { KeepsLimits accepted.now.raw }
+    requires ordered { accepted.now.admitted.order ≡ order_of accepted.now.admitted.spec }
     requires reported { HasReports accepted.now.admitted.spec }
     requires within { TaskIsWithin (task_of command.now) }
     ensures finishes { FinishesReading (S.written out.old) (S.written out.new)

@@ -1,3 +1,4 @@
+use crate::levels::order_by_levels;
 use crate::signs::{is, number, term};
 use crate::{clause_cases, families};
 use anyhow::{Result, bail};
@@ -25,7 +26,12 @@ pub fn holds(alloc: Global, words: &[&str]) -> Result<bool> {
         ["unify", left, right, wanted] => is_unified(alloc, left, right, wanted),
         ["family", fault] => families::is_refused(alloc, fault),
         ["shift", letters, by, wanted] => is_shifted(alloc, letters, number(by)?, wanted),
-        ["order", one, other, relation] => Ok(relation_of(alloc, one, other)? == *relation),
+        ["order", one, other, relation] => {
+            Ok(relation_of(alloc, &Lpo::by_number(), one, other)? == *relation)
+        }
+        ["levels", one, other, relation] => {
+            Ok(relation_of(alloc, &order_by_levels(alloc)?, one, other)? == *relation)
+        }
         _ => clause_cases::holds(alloc, words),
     }
 }
@@ -189,8 +195,7 @@ fn is_shifted(alloc: Global, letters: &str, by: u32, wanted: &str) -> Result<boo
 }
 
 /// How the first term stands to the second one.
-fn relation_of(alloc: Global, one: &str, other: &str) -> Result<&'static str> {
-    let order = Lpo::by_number();
+fn relation_of(alloc: Global, order: &Lpo, one: &str, other: &str) -> Result<&'static str> {
     let one = term(alloc, one)?;
     let other = term(alloc, other)?;
     Ok(

@@ -1,16 +1,17 @@
 //! Goes through cases of terms, substitutions, matching, unification, the path ordering and clauses,
-//! which were worked by hand or stand in the literature, and prints those that come out otherwise.
+//! which were worked by hand or come from the literature, and prints those that come out otherwise.
 //!
-//! It stands on term_core, substitutions, unifier, path_order, spec_core and clause_core, and
-//! promises nothing beyond being safe. Its `stdin` has the cases, a line each, with terms in the
-//! notation of `signs.rt` and clauses in that of `clause_signs.rt`; what is asked of them stands in
-//! `cases.rt` and `clause_cases.rt`. A case that takes too long to end is a failure too.
+//! It uses term_core, substitutions, unifier, path_order, spec_core and clause_core, and promises
+//! nothing beyond being safe. Its `stdin` has the cases, a line each, with terms in the notation of
+//! `signs.rt` and clauses in that of `clause_signs.rt`; `cases.rt` and `clause_cases.rt` say what is
+//! asked of them. A case that takes too long to end is a failure too.
 #![tactic(auto)]
 
 mod cases;
 mod clause_cases;
 mod clause_signs;
 mod families;
+mod levels;
 mod signs;
 mod sizes;
 

@@ -1,6 +1,5 @@
 -- Membership by recursion, for proofs by cases. Definitions say `Contains`.
-use Rattle.std.proofs.Common.{◌≡◌, ℕ, zero, suc, ◌+◌, ◌<◌, List, [], ◌∷◌, length, ◌⊎◌, inl, inr, refl, sym, ◌∙◌, subst, arith}
-use Rattle.std.specs.Prelude.{slice_index_or}
+use Rattle.std.proofs.Common.{◌≡◌, zero, suc, List, [], ◌∷◌, ◌⊎◌, inl, inr, sym, subst, arith}
 use Rattle.std.specs.List.{AllByRecursion, Contains}
 
 -- the item is the first of the list, or one behind it

@@ -2,8 +2,8 @@
 #[derive(Clone, Copy, Debug, PartialEq, Eq)]
 pub struct SortId(pub u32);
 
-/// A constructor or a function, by its place in the table of a signature. It is also the
-/// symbol's precedence. `true` is 0 and `false` is 1.
+/// A constructor or a function, by its place in the table of a signature. `true` is 0 and `false`
+/// is 1. It is also the symbol's level in a path ordering that gives it no other one.
 #[derive(Clone, Copy, Debug, PartialEq, Eq)]
 pub struct SymId(pub u32);
 

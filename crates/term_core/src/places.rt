@@ -26,11 +26,16 @@ impl From<OutOfMemory> for ReplaceError {
 }
 
 impl fmt::Display for ReplaceError {
+    ghost use Rattle.std.specs.Prelude.{Some};
+    ghost use Rattle.term_core.specs.Words.{replace_words};
+
+    ghost output = { λ error. Some (replace_words error) };
+
     fn fmt<W: fmt::Write>(&self, f: &mut fmt::Formatter<W>) -> fmt::Result {
-        f.write_str(match self {
-            ReplaceError::NoSuchPlace => "no such place",
-            ReplaceError::OutOfMemory => "out of memory",
-        })
+        match self {
+            ReplaceError::NoSuchPlace => f.write_str("no such place"),
+            ReplaceError::OutOfMemory => f.write_str("out of memory"),
+        }
     }
 }
 

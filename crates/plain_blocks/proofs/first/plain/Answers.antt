@@ -38,5 +38,6 @@ returns-in_ok-block_on-in-Some g c =
     c.in-Some.is c.in_ok-first_plain.ensures in
     rw (← c.admitted.view_is)
     (first_block (g.O.TermOrder.above c.admitted.inside.order) c.admitted.inside.spec c.args.goal.now
-    c.args.length c.in-Some.var c.plain_blocks.ensures c.one_block.ensures fine sorted
+    c.args.length c.in-Some.var c.plain_blocks.ensures
+    (c.one_block.ensures c.admitted.inside.order) fine sorted
     c.requires.short first c.in_ok-block_on-in-Some.field-0 c.in_ok-block_on-in-Some.ensures)

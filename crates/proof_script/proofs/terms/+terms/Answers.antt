@@ -79,7 +79,7 @@ read_arguments-returns t c =
     let behind = c.in-Some-2.next.bytes.now in
     let last = c.in-Some-3.last.bytes.now in
     let others = subst (λ (k : ℕ). AreOthersAt a.sig.now a.variables a.room k (a.arity - 1) behind rest.0 last) got.1 rest.1 in
-    let whole : c.read_others.new.made ≡ first ∷ list_of rest.0 = rest.2 ∙ ap (λ (z : List Tree). z ++ list_of rest.0) (c.in_ok-push.ensures.pushed ∙ ap (λ (z : List Tree). z ++ first ∷ []) c.new-made.ensures) in
+    let whole : c.read_others.new.made ≡ first ∷ list_of rest.0 = rest.2 ∙ ap (λ (z : List Tree). z ++ list_of rest.0) (c.in_ok-push.ensures.pushed ∙ ap (λ (z : List Tree). z ++ first ∷ []) c.in_ok-made.ensures) in
     let same : trees_of c.read_others.new.made ≡ some first rest.0 = ap trees_of whole ∙ ap (λ us. some first us) (trees_of-list_of rest.0) in (
       subst (λ us. AreArgumentsAt a.sig.now a.variables a.room a.at.count a.arity a.at.bytes.now us c.in-Some-after.bytes.now) (sym same)
           (arguments_found a.sig.now a.variables a.room a.at.count a.arity a.at.bytes.now c.in-Some.bytes.now first behind rest.0 last c.in-Some-after.bytes.now c.if-arity-eq0.false c.in-Some.ensures got.0 others c.in-Some-after.ensures),

@@ -5,6 +5,8 @@ use Rattle.spec_core.specs.Naturals.{naturals, same_goal, unit_goal, zero_term, 
 use Rattle.acceptance.specs.Claims.{IsGoalNamed}
 use Rattle.acceptance.specs.Examples.{only, proves_unit, refutes, unit_steps, x_and_y}
 use Rattle.acceptance.proofs.NoRefusal.{goal_named_one}
+use Rattle.path_order.specs.Above.{Above}
+use Rattle.soundness.specs.AcceptedAreTrue.{AcceptedAreTrue}
 use Rattle.soundness.proofs.laws.worked_examples.Goals as goal
 
 unit_named : IsGoalNamed naturals (codes "unit") unit_goal
@@ -17,7 +19,7 @@ pub returns : goal.returns
 returns c =
     let fine = c.worked_examples-3.ensures.well_sorted in
     let admitted = c.worked_examples-2.ensures.naturals_are_admitted in
-    let sound = c.accepted_are_true.ensures in
+    let sound = subst (λ o. AcceptedAreTrue (Above o)) c.by_number-order.ensures c.accepted_are_true.ensures in
     let proved = (sound naturals (only (proves_unit unit_steps)) fine admitted c.worked_examples.ensures.accepted).0 in
     let refuted = (sound naturals (only (refutes (codes "same") (x_and_y zero_term (succ_term zero_term)))) fine admitted c.worked_examples.ensures.refuted).0 in
     record {

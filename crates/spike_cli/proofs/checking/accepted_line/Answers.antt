@@ -1,7 +1,13 @@
-use Rattle.std.proofs.Common.{◌∙◌, ap}
+use Rattle.std.proofs.Common.{◌∙◌, ap, arith}
+use Rattle.spec_grammar.proofs.KeepsLimits.{few_constructors}
 use Rattle.spike_cli.specs.Checks.{constructor_count}
 use Rattle.spike_cli.proofs.CheckLines.{line_made, line_of}
 use Rattle.spike_cli.proofs.checking.accepted_line.Goals as goal
+
+pub constructors_of-constructors-requires : goal.constructors_of-constructors-requires
+constructors_of-constructors-requires c =
+    let count = ap (λ ss. constructor_count ss) c.as_slice.ensures in
+    omega (arith, count, c.requires.few_constructors, few_constructors c.args.raw.now.version)
 
 pub returns : goal.returns
 returns c =

@@ -1,5 +1,8 @@
+use Rattle.clause_core.specs.Orders.{order_of}
 use Rattle.spike_cli.proofs.OneReport.{one_right_report}
 use Rattle.spike_cli.proofs.laws.one_right_report.Goals as goal
 
 pub returns : goal.returns
-returns c = one_right_report c.one_block.ensures c.one_proof.ensures
+returns c =
+    one_right_report (λ spec. c.one_block.ensures (order_of spec))
+    (λ spec. c.one_proof.ensures (order_of spec))

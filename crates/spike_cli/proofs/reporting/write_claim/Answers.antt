@@ -1,7 +1,11 @@
-use Rattle.std.proofs.Common.{◌≡◌, ◌∙◌, List, ℕ, subst}
+use Rattle.std.proofs.Common.{◌≡◌, ◌∙◌, List, ℕ, sym, subst}
 use Rattle.io_core.specs.Piece.{Appended}
 use Rattle.term_core.proofs.Items.{all_at}
 use Rattle.clause_core.specs.declared.reports.Claim.{Claim}
+use Rattle.clause_core.specs.Orders.{order_of}
+use Rattle.clause_core.proofs.OwnOrders.{by_own_order}
+use Rattle.plain_blocks.specs.StandingBlocks.{PlainBlocksStand}
+use Rattle.routine_proof.specs.Standing.{RoutineBlocksStand}
 use Rattle.search_claims.specs.Names.{GoalNamesStand}
 use Rattle.spike_cli.specs.Claims.{IsClaimOn}
 use Rattle.proof_script.specs.Claims.{claim_text}
@@ -13,6 +17,10 @@ use Rattle.spike_cli.proofs.reporting.write_claim.Goals as goal
 pub print_claim-requires : goal.print_claim-requires
 print_claim-requires g c =
     let spec = c.admitted.inside.spec in
+    let own =
+    subst (λ a. a.order ≡ order_of a.spec) (sym c.admitted.view_is) c.requires.ordered in
+    let plain = by_own_order PlainBlocksStand spec own c.plain_blocks_stand.ensures in
+    let routine = by_own_order RoutineBlocksStand spec own c.routine_blocks_stand.ensures in
     let reported = rw (← c.admitted.view_is) at c.requires.reported in
     let listed = rw (← c.admitted.view_is) at c.requires.listed in
     let made = rw (← c.admitted.view_is) at c.in_ok-claim.ensures in
@@ -20,8 +28,8 @@ print_claim-requires g c =
     let number = c.args.goal.number in
     let sorted = reported.fine.goals number one listed in
     let names = all_at GoalNamesStand spec.goals reported.names.goals number one listed in
-    claim_in_range c.plain_blocks_stand.ensures c.routine_blocks_stand.ensures c.args.bounds spec
-    reported c.requires.within c.args.lemmas.now one c.in_ok-claim.claim sorted names made
+    claim_in_range spec plain routine c.args.bounds reported c.requires.within c.args.lemmas.now one
+    c.in_ok-claim.claim sorted names made
 
 pub returns-in_err-write_all-clause-claim : goal.returns-in_err-write_all-clause-claim
 returns-in_err-write_all-clause-claim g c =

@@ -5,6 +5,12 @@ use Rattle.std.proofs.lemmas.Option.{slice_get_read}
 use Rattle.io_core.specs.Piece.{Appended}
 use Rattle.spec_core.specs.declared.records.Goal.{Goal}
 use Rattle.clause_core.specs.declared.reports.Claim.{Claim}
+use Rattle.clause_core.specs.Orders.{order_of}
+use Rattle.clause_core.proofs.OwnOrders.{by_own_order}
+use Rattle.plain_blocks.specs.StandingBlocks.{PlainBlocksStand}
+use Rattle.routine_proof.specs.Standing.{RoutineBlocksStand}
+use Rattle.routine_proof.specs.Laws.{ProvesBehindClaims}
+use Rattle.soundness.specs.AcceptedAreTrue.{AcceptedAreTrue}
 use Rattle.search_claims.specs.Claims.{AreClaims, report_of}
 use Rattle.spike_cli.specs.Claims.{IsClaimOn, IsNextClaim, IsStatusOfClaims, number_proved, proved_goals}
 use Rattle.spike_cli.specs.Lemmas.{AreLemmas}
@@ -71,9 +77,12 @@ write_claim-requires-clause-lemmas g c =
     let at =
     listed spec.goals c.as_slice-goal-items.result.now c.loop-number.number c.goal-item.result
     c.as_slice-goal-items.ensures c.loop-number-test.true c.goal-item.is in
+    let own =
+    subst (λ a. a.order ≡ order_of a.spec) (sym c.admitted.view_is) c.requires.ordered in
+    let behind = by_own_order ProvesBehindClaims spec own c.proves_behind_claims.ensures in
     let known =
-    lemmas_of_next c.proves_behind_claims.ensures c.args.bounds spec c.admitted.invariant.0
-    c.loop-number.number c.goal-item.result i.0 at i.1 in
+    lemmas_of_next spec behind c.args.bounds c.admitted.invariant.0 c.loop-number.number
+    c.goal-item.result i.0 at i.1 in
     rw (← c.admitted.view_is)
     (subst (λ ns. AreLemmas c.args.bounds.search.steps spec c.goal-item.result ns)
     (sym (c.deref.ensures.value ∙ i.5)) known)
@@ -242,8 +251,13 @@ returns-clause-finishes g c =
     let report = report_of bounds.search.steps i.0 in
     let text = begun_text-whole bounds.search.steps spec.sig i.0 in
     let reported = rw (← c.admitted.view_is) at c.requires.reported in
-    let accepted =
-    report_accepted c.proves_behind_claims.ensures bounds spec reported.fine i.0 all in
+    let own =
+    subst (λ a. a.order ≡ order_of a.spec) (sym c.admitted.view_is) c.requires.ordered in
+    let plain = by_own_order PlainBlocksStand spec own c.plain_blocks_stand.ensures in
+    let routine = by_own_order RoutineBlocksStand spec own c.routine_blocks_stand.ensures in
+    let behind = by_own_order ProvesBehindClaims spec own c.proves_behind_claims.ensures in
+    let sound = by_own_order AcceptedAreTrue spec own c.accepted_are_true.ensures in
+    let accepted = report_accepted spec behind bounds reported.fine i.0 all in
     rw (← c.admitted.view_is) (
       begun_text bounds.search.steps spec.sig i.0 ++ codes "done\n",
       record {
@@ -252,16 +266,12 @@ returns-clause-finishes g c =
         is_text = text;
         stands =
             subst (λ t. IsReportText spec.sig t report) (sym text)
-            (report_stands c.plain_blocks_stand.ensures c.routine_blocks_stand.ensures bounds spec
-            reported c.requires.within i.0 all);
+            (report_stands spec plain routine bounds reported c.requires.within i.0 all);
         short =
             subst (λ t. length t ≤ most_report_bytes) (sym text)
-            (report_short c.plain_blocks_stand.ensures c.routine_blocks_stand.ensures bounds spec
-            reported c.requires.within i.0 all);
+            (report_short spec plain routine bounds reported c.requires.within i.0 all);
         accepted = accepted;
-        true =
-            c.accepted_are_true.ensures spec report reported.fine
-            reported.admitted accepted;
+        true = sound spec report reported.fine reported.admitted accepted;
         answers = i.3;
         exact = status_of_goals bounds spec i.0 c.loop-number.status all i.3;
       },

@@ -4,6 +4,8 @@ use Rattle.command_line.specs.Commands.{task_of}
 use Rattle.command_line.specs.declared.bounds.ProofBounds.{ProofBounds}
 use Rattle.command_line.specs.declared.commands.Command.{Command}
 use Rattle.spec_core.specs.declared.records.Spec.{Spec}
+use Rattle.clause_core.specs.Admitted.{IsAdmitted}
+use Rattle.clause_core.specs.Orders.{above_of}
 use Rattle.spike_cli.specs.Evaluations.{IsEvaluation, IsEvaluationText}
 use Rattle.spike_cli.specs.Reports.{BeginsReport, IsReport, search_alone}
 use Rattle.spike_cli.specs.Runs.{IsEnd, MayWriteOn}
@@ -49,3 +51,7 @@ returns-in-Replay-clause-finishes g c =
     let raw = c.args.accepted.now.raw in
     let spec = c.args.accepted.now.admitted.spec in
     subst (λ (k : Command). FinishesReading (g.S.Sink.written c.args.out.now) (g.S.Sink.written c.replay_file.new.out) (g.S.Sink.faults c.args.out.now) (g.S.Sink.faults c.replay_file.new.out) (g.F.Files.faults c.args.files.now) (g.F.Files.faults c.replay_file.new.files) (IsEnd held (task_of k) raw spec) (MayWriteOn held (task_of k) raw spec) c.replay_file.result) (sym c.in-Replay.is) c.replay_file.ensures.finishes
+
+pub evaluate-requires-clause-admitted : goal.evaluate-requires-clause-admitted
+evaluate-requires-clause-admitted g c =
+    subst (λ (s : Spec). IsAdmitted (above_of s) s) (sym c.spec.ensures.is) c.requires.reported.admitted

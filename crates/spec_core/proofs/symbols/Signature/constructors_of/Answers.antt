@@ -1,4 +1,4 @@
-use Rattle.std.proofs.Common.{◌≡◌, ◌+◌, ◌++◌, ◌∙◌, map, ap, sym, arith}
+use Rattle.std.proofs.Common.{◌+◌, ◌++◌, ◌∙◌, map, ap, sym, arith}
 use Rattle.spec_core.specs.Order.{symbol_number}
 use Rattle.spec_core.proofs.Constructors.{numbers_from, number_here, number_other, numbers_pushed}
 use Rattle.spec_core.proofs.symbols.Signature.constructors_of.Goals as goal

@@ -13,30 +13,33 @@ use Rattle.spec_syntax.proofs.words.Source.constructors.Goals as goal
 
 pub returns-in_err-first : goal.returns-in_err-first
 returns-in_err-first c =
+    let version = c.args.version in
     let t = c.args.total in
     let items = items_of c.args.self.now.bytes.now c.args.tokens.now in
     let p = err_from_is_err_and c.from_residual.result c.from_residual.ensures.1 in
     let h = rw c.constructor_over.ensures at c.in_err-first.ensures.reads in
-    rw (p.1, p.2) (λ n. stop_at (first_constructor n t) (name (constructor_mark 0 t) ∷ names ∷ []) (sorts n 1 (t + 1) ∷ []) items items c.in_err-first.field-0.0 (λ st. refl) h)
+    rw (p.1, p.2) (λ n. stop_at (first_constructor version n t) (name (constructor_mark version 0 t) ∷ names ∷ []) (sorts version n 1 (t + 1) ∷ []) items items c.in_err-first.field-0.0 (λ st. refl) h)
 
 pub loop-made-init : goal.loop-made-init
 loop-made-init c =
+    let version = c.args.version in
     let t = c.args.total in
     let first = c.in_ok-first.first in
     let made : c.push.new.self ≡ first ∷ [] = c.in_ok-push.ensures.pushed ∙ ap (λ cs. cs ++ first ∷ []) c.new-made.ensures in
     let h = rw c.constructor_over.ensures at c.in_ok-first.ensures.reads in
-    let free : constructor_mark 0 t ≡ None = rw c.constructor_over.ensures at c.in_ok-first.ensures.within in
-    let few = (constructor_none 0 t free).1 in
+    let free : constructor_mark version 0 t ≡ None = rw c.constructor_over.ensures at c.in_ok-first.ensures.within in
+    let few = (constructor_none version 0 t free).1 in
     rw made (record {
       some = omega arith;
       few = omega (arith, few);
       text = h.0;
-      same = λ n st. h.1 (sorts n 1 (t + 1) ∷ st);
+      same = λ n st. h.1 (sorts version n 1 (t + 1) ∷ st);
       less = h.2;
     })
 
 pub loop-made-preserved : goal.loop-made-preserved
 loop-made-preserved c =
+    let version = c.args.version in
     let bytes = c.args.self.now.bytes.now in
     let t = c.args.total in
     let cs = c.loop-made.made in
@@ -51,17 +54,18 @@ loop-made-preserved c =
     rw (made, length_push) (record {
       some = omega arith;
       few = omega (arith, h.3);
-      text = i.text ∙ ap (begun_text t cs) h.0 ∙ sym (begun_grows t cs x (clean after) i.some);
-      same = λ n st. i.same n st ∙ h.1 n st i.some ∙ ap (λ (j : ℕ). run (sorts n (k + 1) j ∷ st) after) total;
+      text = i.text ∙ ap (begun_text version t cs) h.0 ∙ sym (begun_grows version t cs x (clean after) i.some);
+      same = λ n st. i.same n st ∙ h.1 n st i.some ∙ ap (λ (j : ℕ). run (sorts version n (k + 1) j ∷ st) after) total;
       less = omega (arith, i.less, h.2);
     })
 
 pub returns-in_err-constructor : goal.returns-in_err-constructor
 returns-in_err-constructor c =
+    let version = c.args.version in
     let bytes = c.args.self.now.bytes.now in
     let t = c.args.total in
     let k = length c.loop-made.made in
     let i = c.loop-made.invariant in
     let p = err_from_is_err_and c.from_residual-in_err-constructor.result c.from_residual-in_err-constructor.ensures.1 in
     let h = rw c.len.ensures at c.in_err-constructor.ensures in
-    rw (p.1, p.2) (λ n. stop_at (first_constructor n t) (sorts n k (t + k) ∷ []) [] (items_of bytes c.args.tokens.now) (items_of bytes c.loop-made.rest.now) c.in_err-constructor.field-0.0 (λ st. i.same n st) (h n i.some))
+    rw (p.1, p.2) (λ n. stop_at (first_constructor version n t) (sorts version n k (t + k) ∷ []) [] (items_of bytes c.args.tokens.now) (items_of bytes c.loop-made.rest.now) c.in_err-constructor.field-0.0 (λ st. i.same n st) (h n i.some))

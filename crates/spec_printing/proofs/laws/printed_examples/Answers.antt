@@ -1,0 +1,13 @@
+use Rattle.std.proofs.Common.{refl}
+use Rattle.std.specs.Fmt.{digits}
+use Rattle.spec_printing.proofs.laws.printed_examples.Goals as goal
+
+pub returns : goal.returns
+unfolding digits
+returns c = record {
+  header = refl;
+  lines = refl;
+  whole = refl;
+  without_conclusions = refl;
+  without_premises = refl;
+}
