@@ -38,7 +38,7 @@ impl Accepted {
 
 /// The admitted specification that the bytes of a file stand for, or the line of their first fault.
 pub fn specification(alloc: Global, bytes: &[u8]) -> Result<Accepted, Refusal>
-    requires { length bytes.now ≤ 1048576 }
+    requires { length bytes.now ≤ 4194304 }
     ensures accepted { IfOk result (λ a. IsAcceptedAs bytes.now a.raw a.admitted.spec) }
     ensures ordered { IfOk result (λ a. a.admitted.order ≡ own_order a.admitted.spec) }
     ensures refused { IfErr result (Tells (IsRefusalOf bytes.now)) }

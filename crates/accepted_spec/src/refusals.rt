@@ -166,5 +166,9 @@ fn kind_text(kind: SortKind) -> &'static [u8]
         SortKind::TooManyVariables => b"too many variables",
         SortKind::LeftTooLarge => b"left side too large",
         SortKind::TooManyRules => b"too many rules",
+        SortKind::NotAFunction => b"not a function",
+        SortKind::EqualTwice => b"equal twice",
+        SortKind::StatusTwice => b"status twice",
+        SortKind::NoOrderOfArguments => b"no order of arguments",
     }
 }

@@ -4,8 +4,8 @@
 //!
 //! It stands on spec_syntax, sort_check, ground_eval, refuter, overlap_check, coverage_check and
 //! path_order, and promises nothing beyond being safe. The words are `search FILE DEPTH TRIES`,
-//! `eval FILE TERM BUDGET TIMES`, `above deep|wide SIZE TIMES`, or `MODE FILE TIMES` with the mode
-//! `sort`, `overlap`, `cover` or `order`.
+//! `eval FILE TERM BUDGET TIMES`, `above deep|paired|wide SIZE TIMES`, or `MODE FILE TIMES` with
+//! the mode `sort`, `overlap`, `cover` or `order`.
 #![tactic(auto)]
 
 mod towers;

@@ -3,7 +3,7 @@ use Rattle.std.proofs.Common.{◌≡◌, ◌∙◌, ◌⊎◌, inl, inr, ℕ, no
 use Rattle.std.specs.List.{AllByRecursion}
 use Rattle.std.specs.Str.{bytes_eq}
 use Rattle.clap.specs.Words.{App, Row, Text}
-use Rattle.command_line.specs.Apps.{refute_app, prove_app, eval_app, check_app, replay_app, load_app}
+use Rattle.command_line.specs.Apps.{refute_app, prove_app, eval_app, check_app, replay_app, upgrade_app, load_app}
 use Rattle.command_line.specs.FlatApps.{IsFlat}
 use Rattle.command_line.specs.Matches.{HasNumber, HasWord, Takes}
 use Rattle.command_line.specs.Readings.{AreMatches, HasSomeBounds, HasSomeNumber, HasSomeWord}
@@ -12,7 +12,7 @@ use Rattle.command_line.specs.declared.ranges.NumberRange.{NumberRange}
 use Rattle.command_line.specs.declared.ranges.TheConstants.{DEPTHS, TRIES, STEPS, GOALS, USUAL_DEPTH, USUAL_TRIES, USUAL_STEPS}
 use Rattle.command_line.specs.Apps.{depth_rule, tries_rule, steps_rule}
 use Rattle.command_line.proofs.OwnNames.{differs}
-use Rattle.command_line.specs.Tasks.{Task, refuting, proving, evaluating, checking, replaying, app_for, commands, Say, IsNamed, AreRefusedBy, Asks, AsksToLoad, AskNothing}
+use Rattle.command_line.specs.Tasks.{Task, refuting, proving, evaluating, checking, replaying, upgrading, app_for, commands, Say, IsNamed, AreRefusedBy, Asks, AsksToLoad, AskNothing}
 
 -- words have one first word at most
 pub one_name : (words : List Text) (name other : Text) → IsNamed name words → IsNamed other words → name ≡ other
@@ -87,22 +87,25 @@ nothing_asked app is_app words is named alone refused =
     record { refused = refused_among is_app words named refuses commands alone }
 
 pub check_alone : IsAloneAmong check_app commands
-check_alone = (inl refl, (inr refl, (inr refl, (inr refl, (inr refl, (inr refl, tt))))))
+check_alone = (inl refl, (inr refl, (inr refl, (inr refl, (inr refl, (inr refl, (inr refl, tt)))))))
 
 pub eval_alone : IsAloneAmong eval_app commands
-eval_alone = (inr refl, (inl refl, (inr refl, (inr refl, (inr refl, (inr refl, tt))))))
+eval_alone = (inr refl, (inl refl, (inr refl, (inr refl, (inr refl, (inr refl, (inr refl, tt)))))))
 
 pub prove_alone : IsAloneAmong prove_app commands
-prove_alone = (inr refl, (inr refl, (inl refl, (inr refl, (inr refl, (inr refl, tt))))))
+prove_alone = (inr refl, (inr refl, (inl refl, (inr refl, (inr refl, (inr refl, (inr refl, tt)))))))
 
 pub refute_alone : IsAloneAmong refute_app commands
-refute_alone = (inr refl, (inr refl, (inr refl, (inl refl, (inr refl, (inr refl, tt))))))
+refute_alone = (inr refl, (inr refl, (inr refl, (inl refl, (inr refl, (inr refl, (inr refl, tt)))))))
 
 pub replay_alone : IsAloneAmong replay_app commands
-replay_alone = (inr refl, (inr refl, (inr refl, (inr refl, (inl refl, (inr refl, tt))))))
+replay_alone = (inr refl, (inr refl, (inr refl, (inr refl, (inl refl, (inr refl, (inr refl, tt)))))))
+
+pub upgrade_alone : IsAloneAmong upgrade_app commands
+upgrade_alone = (inr refl, (inr refl, (inr refl, (inr refl, (inr refl, (inl refl, (inr refl, tt)))))))
 
 pub load_alone : IsAloneAmong load_app commands
-load_alone = (inr refl, (inr refl, (inr refl, (inr refl, (inr refl, (inl refl, tt))))))
+load_alone = (inr refl, (inr refl, (inr refl, (inr refl, (inr refl, (inr refl, (inl refl, tt)))))))
 
 -- words that ask for nothing ask for no task, and for no goals
 pub asks_no_task : (words : List Text) (file : Text) (task : Task) → AskNothing words → Asks words file task → ⊥
@@ -111,9 +114,10 @@ asks_no_task words file (proving bounds) nothing asks = nothing.refused.1.1.0 as
 asks_no_task words file (evaluating term steps) nothing asks = nothing.refused.1.0 asks.named asks.taken
 asks_no_task words file (checking print) nothing asks = nothing.refused.0 asks.named asks.taken
 asks_no_task words file (replaying report) nothing asks = nothing.refused.1.1.1.1.0 asks.named asks.taken
+asks_no_task words file upgrading nothing asks = nothing.refused.1.1.1.1.1.0 asks.named asks.taken
 
 pub asks_no_load : (words : List Text) (goals : ℕ) → AskNothing words → AsksToLoad words goals → ⊥
-asks_no_load words goals nothing asks = nothing.refused.1.1.1.1.1.0 asks.named asks.taken
+asks_no_load words goals nothing asks = nothing.refused.1.1.1.1.1.1.0 asks.named asks.taken
 
 -- no task's command has the name of the one that generates goals
 pub no_task_loads : (task : Task) → (app_for task).top.name ≡ codes "load" → ⊥
@@ -122,3 +126,4 @@ no_task_loads (proving bounds) same = differs (codes "prove") (codes "load") ref
 no_task_loads (evaluating term steps) same = differs (codes "eval") (codes "load") refl same
 no_task_loads (checking print) same = differs (codes "check") (codes "load") refl same
 no_task_loads (replaying report) same = differs (codes "replay") (codes "load") refl same
+no_task_loads upgrading same = differs (codes "upgrade") (codes "load") refl same

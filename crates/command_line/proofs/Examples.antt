@@ -9,14 +9,14 @@ use Rattle.clap.specs.Walk.{is_empty}
 use Rattle.clap.proofs.OnLiterals.{clap_on_literals}
 use Rattle.command_line.specs.declared.ranges.NumberRange.{NumberRange}
 use Rattle.command_line.specs.declared.ranges.TheConstants.{DEPTHS, TRIES, STEPS, PLAIN, NODES, GOALS}
-use Rattle.command_line.specs.Apps.{refute_app, prove_app, eval_app, check_app, replay_app, load_app}
+use Rattle.command_line.specs.Apps.{refute_app, prove_app, eval_app, check_app, replay_app, upgrade_app, load_app}
 use Rattle.command_line.specs.Matches.{HasNumber, IsGiven}
-use Rattle.command_line.specs.Tasks.{commands, AreRefusedBy, refuting, proving, evaluating, checking, replaying, Asks, AsksToLoad, AskNothing, AreBounds, AreProofBounds}
+use Rattle.command_line.specs.Tasks.{commands, AreRefusedBy, refuting, proving, evaluating, checking, replaying, upgrading, Asks, AsksToLoad, AskNothing, AreBounds, AreProofBounds}
 use Rattle.command_line.specs.Usual.{usual_search, usual_bounds}
-use Rattle.command_line.specs.Examples.{Asking, Refused, refute, prove, eval, check, replay, load, given, given_proof, least_words, least_numbers, greatest_words, greatest_numbers}
+use Rattle.command_line.specs.Examples.{Asking, Refused, refute, prove, eval, check, replay, upgrade, load, given, given_proof, least_words, least_numbers, greatest_words, greatest_numbers}
 use Rattle.command_line.proofs.OwnNames.{differs}
 use Rattle.command_line.proofs.ReadLemmas.{text_compared}
-use Rattle.command_line.proofs.Askings.{nothing_asked, refute_alone, prove_alone, eval_alone, check_alone, replay_alone, load_alone}
+use Rattle.command_line.proofs.Askings.{nothing_asked, refute_alone, prove_alone, eval_alone, check_alone, replay_alone, upgrade_alone, load_alone}
 
 faulty : (ks : Kinds) → is_empty ks ≡ false → ks ≡ [] → ⊥
 faulty [] some none = cc
@@ -37,6 +37,12 @@ no_check words fault = nothing_asked check_app check_app (codes "check" ∷ word
 no_replay : (words : List Text) → is_empty (fault_of replay_app (codes "replay" ∷ words)) ≡ false → AskNothing (codes "replay" ∷ words)
 no_replay words fault = nothing_asked replay_app replay_app (codes "replay" ∷ words) refl refl replay_alone (faulty _ fault)
 
+no_upgrade :
+    (words : List Text) → is_empty (fault_of upgrade_app (codes "upgrade" ∷ words)) ≡ false →
+    AskNothing (codes "upgrade" ∷ words)
+no_upgrade words fault =
+    nothing_asked upgrade_app upgrade_app (codes "upgrade" ∷ words) refl refl upgrade_alone (faulty _ fault)
+
 no_load : (words : List Text) → is_empty (fault_of load_app (codes "load" ∷ words)) ≡ false → AskNothing (codes "load" ∷ words)
 no_load words fault = nothing_asked load_app load_app (codes "load" ∷ words) refl refl load_alone (faulty _ fault)
 
@@ -54,7 +60,7 @@ no_words [] = tt
 no_words (app ∷ apps) = ((λ named _. named), no_words apps)
 
 no_command : AskNothing (codes "help" ∷ codes "a" ∷ [])
-no_command = record { refused = unnamed (codes "help") (codes "a" ∷ []) commands (refl, (refl, (refl, (refl, (refl, (refl, tt)))))) }
+no_command = record { refused = unnamed (codes "help") (codes "a" ∷ []) commands (refl, (refl, (refl, (refl, (refl, (refl, (refl, tt))))))) }
 
 pub refused : Refused
 unfolding clap_on_literals
@@ -84,6 +90,9 @@ refused = record {
   no_number_of_goals = no_load _ refl;
   two_numbers = no_load _ refl;
   option_of_load = no_load _ refl;
+  nothing_to_upgrade = no_upgrade _ refl;
+  two_to_upgrade = no_upgrade _ refl;
+  option_of_upgrade = no_upgrade _ refl;
   two_reports = no_replay _ refl;
 }
 
@@ -214,6 +223,10 @@ replayed : Asks (replay (codes "a" ∷ codes "b" ∷ [])) (codes "a") (replaying
 unfolding clap_on_literals
 replayed = record { named = refl; taken = refl; file_is = refl; task_is = refl }
 
+upgraded : Asks (upgrade (codes "a" ∷ [])) (codes "a") upgrading
+unfolding clap_on_literals
+upgraded = record { named = refl; taken = refl; file_is = refl; task_is = tt }
+
 loaded : AsksToLoad (load (codes "+0200" ∷ [])) 200
 unfolding clap_on_literals
 loaded = record {
@@ -248,6 +261,7 @@ asking = record {
   printed = printed;
   unprinted = unprinted;
   replayed = replayed;
+  upgraded = upgraded;
   loaded = loaded;
   one_goal = one_goal;
 }

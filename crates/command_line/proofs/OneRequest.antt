@@ -7,7 +7,7 @@ use Rattle.command_line.specs.declared.ranges.NumberRange.{NumberRange}
 use Rattle.command_line.specs.declared.bounds.SearchBounds.{SearchBounds}
 use Rattle.command_line.specs.declared.bounds.ProofBounds.{ProofBounds}
 use Rattle.command_line.specs.Matches.{HasNumber, HasWord}
-use Rattle.command_line.specs.Tasks.{Task, refuting, proving, evaluating, checking, replaying, app_for, Say, AreBounds, AreProofBounds, Asks, AsksToLoad}
+use Rattle.command_line.specs.Tasks.{Task, refuting, proving, evaluating, checking, replaying, upgrading, app_for, Say, AreBounds, AreProofBounds, Asks, AsksToLoad}
 use Rattle.command_line.proofs.OwnNames.{differs}
 use Rattle.command_line.proofs.Askings.{no_task_loads, one_name}
 
@@ -47,6 +47,7 @@ one_kind (evaluating s n) (evaluating t m) same =
     (refl, (λ rows is is_too. ap₂ evaluating (one_text _ s t is.0 is_too.0) (one_number rows _ _ n m is.1 is_too.1)))
 one_kind (checking a) (checking b) same = (refl, (λ rows is is_too. ap checking (one_flag _ a b is is_too)))
 one_kind (replaying s) (replaying t) same = (refl, (λ rows is is_too. ap replaying (one_text _ s t is is_too)))
+one_kind upgrading upgrading same = (refl, (λ rows is is_too. refl))
 one_kind task another same = absurd (differs (app_for task).top.name (app_for another).top.name refl same)
 
 pub one_task :

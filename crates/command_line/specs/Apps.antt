@@ -49,6 +49,10 @@ abbrev pub replay_app : App
 replay_app = with_rules (new_app (codes "replay"))
     (word_rule (codes "FILE") ∷ word_rule (codes "REPORT") ∷ [])
 
+-- `upgrade FILE`
+abbrev pub upgrade_app : App
+upgrade_app = with_rules (new_app (codes "upgrade")) (word_rule (codes "FILE") ∷ [])
+
 -- `load N`
 abbrev pub load_app : App
 load_app = with_rules (new_app (codes "load")) (numeral_rule (codes "N") goals_range ∷ [])

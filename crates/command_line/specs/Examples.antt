@@ -3,7 +3,7 @@ use Rattle.std.specs.Prelude.{List, [], ◌∷◌, true, false, codes}
 use Rattle.clap.specs.Words.{Text}
 use Rattle.command_line.specs.declared.bounds.SearchBounds.{SearchBounds}
 use Rattle.command_line.specs.declared.bounds.ProofBounds.{ProofBounds}
-use Rattle.command_line.specs.Tasks.{refuting, proving, evaluating, checking, replaying, Asks, AsksToLoad, AskNothing}
+use Rattle.command_line.specs.Tasks.{refuting, proving, evaluating, checking, replaying, upgrading, Asks, AsksToLoad, AskNothing}
 use Rattle.command_line.specs.Usual.{usual_search, usual_bounds}
 
 abbrev pub refute : List Text → List Text
@@ -20,6 +20,9 @@ check words = codes "check" ∷ words
 
 abbrev pub replay : List Text → List Text
 replay words = codes "replay" ∷ words
+
+abbrev pub upgrade : List Text → List Text
+upgrade words = codes "upgrade" ∷ words
 
 abbrev pub load : List Text → List Text
 load words = codes "load" ∷ words
@@ -76,6 +79,7 @@ pub record Asking : Type 0 where
   pub unprinted : Asks (check (codes "a" ∷ [])) (codes "a") (checking false)
   -- the report stands behind the file
   pub replayed : Asks (replay (codes "a" ∷ codes "b" ∷ [])) (codes "a") (replaying (codes "b"))
+  pub upgraded : Asks (upgrade (codes "a" ∷ [])) (codes "a") upgrading
   -- a plus and leading zeros, up to the greatest number
   pub loaded : AsksToLoad (load (codes "+0200" ∷ [])) 200
   pub one_goal : AsksToLoad (load (codes "1" ∷ [])) 1
@@ -108,6 +112,9 @@ pub record Refused : Type 0 where
   pub no_number_of_goals : AskNothing (load [])
   pub two_numbers : AskNothing (load (codes "1" ∷ codes "2" ∷ []))
   pub option_of_load : AskNothing (load (codes "4" ∷ codes "--steps" ∷ codes "5" ∷ []))
+  pub nothing_to_upgrade : AskNothing (upgrade [])
+  pub two_to_upgrade : AskNothing (upgrade (codes "a" ∷ codes "b" ∷ []))
+  pub option_of_upgrade : AskNothing (upgrade (codes "a" ∷ codes "--print" ∷ []))
   pub two_reports : AskNothing (replay (codes "a" ∷ codes "b" ∷ codes "c" ∷ []))
 
 pub record WorkedExamples : Type 0 where

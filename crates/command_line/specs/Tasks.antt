@@ -5,7 +5,7 @@ use Rattle.clap.specs.Words.{App, Row, Text, fault_of, matches_of}
 use Rattle.command_line.specs.declared.bounds.SearchBounds.{SearchBounds}
 use Rattle.command_line.specs.declared.bounds.ProofBounds.{ProofBounds}
 use Rattle.command_line.specs.Ranges.{depth_range, tries_range, steps_range, plain_range, nodes_range, goals_range}
-use Rattle.command_line.specs.Apps.{refute_app, prove_app, eval_app, check_app, replay_app, load_app}
+use Rattle.command_line.specs.Apps.{refute_app, prove_app, eval_app, check_app, replay_app, upgrade_app, load_app}
 use Rattle.command_line.specs.Matches.{HasNumber, HasWord, IsGiven, Takes}
 
 -- what is done with the specification of a file
@@ -15,6 +15,7 @@ pub data Task : Type 0 where
   evaluating : (term : List ℕ) (steps : ℕ) → Task
   checking : (print : Bool) → Task
   replaying : (report : List ℕ) → Task
+  upgrading : Task
 
 -- the simple command that reads the words of a task
 abbrev pub app_for : Task → App
@@ -23,6 +24,7 @@ app_for (proving bounds) = prove_app
 app_for (evaluating term steps) = eval_app
 app_for (checking print) = check_app
 app_for (replaying report) = replay_app
+app_for upgrading = upgrade_app
 
 -- how far the search for counterexamples goes
 pub record AreBounds (rows : List Row) (bounds : SearchBounds) : Type 0 where
@@ -44,6 +46,7 @@ Say rows (evaluating term steps) =
     HasWord rows (codes "TERM") term × HasNumber rows (codes "steps") steps_range steps
 Say rows (checking print) = IsTrue print ↔ IsGiven rows (codes "print")
 Say rows (replaying report) = HasWord rows (codes "REPORT") report
+Say rows upgrading = Unit {0}
 
 -- the first word is this one
 abbrev pub IsNamed : Text → List Text → Type 0
@@ -65,7 +68,7 @@ pub record AsksToLoad (words : List (List ℕ)) (goals : ℕ) : Type 0 where
 
 -- the commands, each as `clap` sees it
 abbrev pub commands : List App
-commands = check_app ∷ eval_app ∷ prove_app ∷ refute_app ∷ replay_app ∷ load_app ∷ []
+commands = check_app ∷ eval_app ∷ prove_app ∷ refute_app ∷ replay_app ∷ upgrade_app ∷ load_app ∷ []
 
 -- where the first word names the command, `clap` finds a fault in the words, help among them
 abbrev pub AreRefusedBy : List Text → App → Type 0

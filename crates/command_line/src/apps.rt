@@ -1,6 +1,6 @@
 ghost use Rattle.std.specs.Prelude.{◌≡◌, IfOk};
 ghost use Rattle.clap.specs.Words.{app_of};
-ghost use Rattle.command_line.specs.Apps.{check_app, eval_app, load_app, prove_app, refute_app, replay_app};
+ghost use Rattle.command_line.specs.Apps.{check_app, eval_app, load_app, prove_app, refute_app, replay_app, upgrade_app};
 
 use crate::arguments::{flag, number, numeral, word};
 use crate::ranges::{
@@ -64,6 +64,14 @@ pub fn replay_app<'a>(alloc: Global) -> Result<clap::Command<'a>, OutOfMemory>
     let app = clap::Command::new(alloc, "replay")
         .arg(word(alloc, "FILE"))?
         .arg(word(alloc, "REPORT"))?;
+    Ok(app)
+}
+
+/// `upgrade FILE`
+pub fn upgrade_app<'a>(alloc: Global) -> Result<clap::Command<'a>, OutOfMemory>
+    ensures { IfOk result (λ app. app_of app ≡ upgrade_app) }
+{
+    let app = clap::Command::new(alloc, "upgrade").arg(word(alloc, "FILE"))?;
     Ok(app)
 }
 

@@ -4,7 +4,7 @@ ghost use Rattle.command_line.specs.Tasks.{AreBounds, IsNamed};
 ghost use Rattle.command_line.specs.Readings.{HasSomeBounds};
 ghost use Rattle.command_line.specs.Commands.{IsAsked, file_of};
 
-use crate::apps::{check_app, eval_app, load_app, prove_app, refute_app, replay_app};
+use crate::apps::{check_app, eval_app, load_app, prove_app, refute_app, replay_app, upgrade_app};
 use crate::arguments::{is_given, number_of, word_of};
 use crate::bounds::{ProofBounds, SearchBounds};
 use crate::matching::matches_of;
@@ -51,6 +51,10 @@ pub enum Command<'a> {
         file: &'a str,
         report: &'a str,
     },
+    /// Writes an accepted file in format 2.
+    Upgrade {
+        file: &'a str,
+    },
 }
 
 impl<'a> Command<'a> {
@@ -64,6 +68,7 @@ impl<'a> Command<'a> {
             Command::Eval { file, .. } => file,
             Command::Check { file, .. } => file,
             Command::Replay { file, .. } => file,
+            Command::Upgrade { file } => file,
         }
     }
 }
@@ -93,6 +98,9 @@ pub fn request_of<'a>(
     }
     if name.as_str() == "replay" {
         return replay_command(alloc, words);
+    }
+    if name.as_str() == "upgrade" {
+        return upgrade_command(alloc, words);
     }
     if name.as_str() == "load" {
         return load_request(alloc, words);
@@ -196,6 +204,23 @@ fn replay_command<'a>(
     Ok(Some(Request::OnFile(Command::Replay {
         file: word_of(&matches, "FILE"),
         report: word_of(&matches, "REPORT"),
+    })))
+}
+
+/// The command of the words of `upgrade`.
+fn upgrade_command<'a>(
+    alloc: Global,
+    words: &'a [String],
+) -> Result<Option<Request<'a>>, OutOfMemory>
+    requires { IsNamed (codes "upgrade") (map string_bytes words.now) }
+    ensures { IfOk result (IsAsked (map string_bytes words.now)) }
+{
+    let app = upgrade_app(alloc)?;
+    let Some(matches) = matches_of(app, words)? else {
+        return Ok(None);
+    };
+    Ok(Some(Request::OnFile(Command::Upgrade {
+        file: word_of(&matches, "FILE"),
     })))
 }
 

@@ -280,6 +280,35 @@ const REPLAY: [(&str, &str); 47] = [
     ("replay a b -V", "nothing"),
 ];
 
+const UPGRADE: [(&str, &str); 26] = [
+    ("upgrade a", "upgrade [a]"),
+    ("upgrade help", "upgrade [help]"),
+    ("upgrade -", "upgrade [-]"),
+    ("upgrade ''", "upgrade []"),
+    ("upgrade a --", "upgrade [a]"),
+    ("upgrade -- a", "upgrade [a]"),
+    ("upgrade -- --print", "upgrade [--print]"),
+    ("upgrade -- --", "upgrade [--]"),
+    ("upgrade", "nothing"),
+    ("upgrade --", "nothing"),
+    ("upgrade a b", "nothing"),
+    ("upgrade a ''", "nothing"),
+    ("upgrade a -- b", "nothing"),
+    ("upgrade -a", "nothing"),
+    ("upgrade a -1", "nothing"),
+    ("upgrade a --print", "nothing"),
+    ("upgrade --print a", "nothing"),
+    ("upgrade a --depth 2", "nothing"),
+    ("upgrade a --steps=2", "nothing"),
+    ("upgrade a --help", "nothing"),
+    ("upgrade --help", "nothing"),
+    ("upgrade -h", "nothing"),
+    ("upgrade a --version", "nothing"),
+    ("upgrade a -V", "nothing"),
+    ("Upgrade a", "nothing"),
+    ("upgrades a", "nothing"),
+];
+
 /// First words that are no command of the program, and commands without their words.
 const NO_COMMAND: [(&str, &str); 26] = [
     ("''", "nothing"),
@@ -354,6 +383,7 @@ fn words_ask_for_what_the_usage_says(rt: HostRuntime) -> Result<(), Fail> {
         &EVAL,
         &CHECK,
         &REPLAY,
+        &UPGRADE,
         &LOAD,
         &NO_COMMAND,
     ] {

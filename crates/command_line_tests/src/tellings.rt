@@ -35,6 +35,9 @@ pub fn asked(alloc: Global, line: &str) -> Result<String, Fail> {
         Some(Request::OnFile(Command::Replay { file, report })) => {
             format!(in alloc; "replay [{file}] [{report}]")?
         }
+        Some(Request::OnFile(Command::Upgrade { file })) => {
+            format!(in alloc; "upgrade [{file}]")?
+        }
         Some(Request::Load(goals)) => format!(in alloc; "load {goals}")?,
         None => "nothing".to_string(alloc)?,
     };

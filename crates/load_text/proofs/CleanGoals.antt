@@ -17,7 +17,7 @@ use Rattle.sort_check.specs.GoalTests.{wanted, own_sort, after_sides, sides_test
 use Rattle.sort_check.specs.declared.faults.SortKind.TheVariants.{WrongSort}
 use Rattle.load_text.specs.LoadRaw.{x, y, z, nought, plus, successors, load_sides, goal_of_kind, goal_name, height, load_goal}
 use Rattle.load_text.specs.LoadSpec.{load_sig}
-use Rattle.load_text.proofs.SortCheckTypes.{Entry, goal_part}
+use Rattle.spec_meaning.proofs.SortCheckTypes.{Entry, goal_part}
 use Rattle.load_text.proofs.LoadGoals.{two}
 
 -- Tests of a goal's words, with the variables that come after a term.

@@ -171,7 +171,7 @@ same : {A : Type 0} {a : A} → a ≢ a → ⊥
 same h = h refl
 
 -- A rule's root, the arguments on its left side, and its right side are tested, in this order.
-pub load_rules_clean : Clean (each_after (rule_tests load_sig) [] load_rules)
+pub load_rules_clean : Clean (each_after (rule_tests load_sig 64) [] load_rules)
 load_rules_clean = (
   (
     (λ h. omega arith, (λ h. omega arith, (λ h. omega arith, same))),

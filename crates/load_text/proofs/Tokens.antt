@@ -13,11 +13,7 @@ use Rattle.std.proofs.lemmas.Str.Ascii.{IsAscii-nil, IsAscii-cons}
 use Rattle.unicode_ident.specs.Ident.{is_xid_continue}
 use Rattle.unicode_ident.proofs.IdentLemmas.{is_xid_start-ascii, is_xid_continue-ascii}
 use Rattle.spec_text.specs.Names.{IsName}
-use Rattle.spec_text.specs.Tokens.{AreTokens}
-use Rattle.spec_text.specs.Written.{Written, written, placed}
-use Rattle.spec_text.specs.declared.tokens.Token.{Token}
 use Rattle.spec_text.proofs.SpanLemmas.{and_parts}
-use Rattle.spec_text.proofs.WrittenLemmas.{written_tokens}
 use Rattle.spec_grammar.specs.declared.keys.Key.TheVariants.{Spike, Sort, Goal, Colon, Equals, Arrow}
 use Rattle.spec_grammar.specs.declared.limits.LimitKind.{LimitKind}
 use Rattle.spec_grammar.specs.declared.limits.LimitKind.TheVariants as limit
@@ -25,16 +21,14 @@ use Rattle.spec_grammar.specs.declared.raw.RawEq.{RawEq}
 use Rattle.spec_grammar.specs.declared.raw.RawGoal.{RawGoal}
 use Rattle.spec_grammar.specs.declared.raw.RawSpec.{RawSpec}
 use Rattle.spec_grammar.specs.RawTree.{RawTree, RawTrees, word, none, some}
-use Rattle.spec_grammar.specs.Items.{Item, Word, Sign, Number, reserved, items_of}
+use Rattle.spec_grammar.specs.Items.{Item, Word, Sign, Number, reserved}
 use Rattle.spec_grammar.specs.Limits.{over, name_mark, sort_mark, constructor_mark, term_mark, goal_mark}
-use Rattle.spec_grammar.specs.Grammar.{Marked, sign, number, name_text, term_text, args_text, more_text, binds_text, con_text, constructors_text, definitions_text, IsSpecText}
-use Rattle.spec_grammar.specs.Derives.{TextDerives, clean}
+use Rattle.spec_grammar.specs.Grammar.{Marked, sign, number, name_text, term_text, args_text, more_text, binds_text, con_text, constructors_text, funs_text, rules_text, IsSpecText}
+use Rattle.spec_grammar.specs.Derives.{TextDerives}
 use Rattle.spec_printing.specs.Printed.{printed}
 use Rattle.spec_printing.specs.SamePlaces.{IsSameButPlaces}
-use Rattle.spec_printing.proofs.Plain.{IsGood, AllGood, IsPlainText, plain_is_text, clause_text, goals_text}
-use Rattle.spec_printing.proofs.Moved.{Moved, spec_moves}
-use Rattle.spec_printing.proofs.Pieces.{pieces, pieces_sound, pieces_moved}
-use Rattle.spec_printing.proofs.Shown.{printed_is}
+use Rattle.spec_printing.proofs.Again.{plain_reads_back}
+use Rattle.spec_printing.proofs.Plain.{IsGood, AllGood, IsPlainText, clause_text, goals_text}
 use Rattle.load_text.specs.LoadRaw.{nat, applied, x, y, z, nought, pair, plus, successors, load_rules, load_sides, goal_of_kind, goal_name, height, load_goal, load_raw}
 
 -- Names of ASCII letters, digits and `_`.
@@ -235,14 +229,6 @@ clause_good text (suc (suc zero)) k rest h r =
 clause_good text (suc (suc (suc n))) k rest h r =
     one_good (load_sides 3 k) rest (sides_fine 3 k h) r
 
--- what a goal of each kind has beside its clause
-parts : (text : List ℕ) (kind k : ℕ) → ((goal_of_kind text kind k).head.name ≡ text)
-    × ((goal_of_kind text kind k).head.at ≡ 0) × ((goal_of_kind text kind k).binds ≡ [])
-parts text zero k = (refl, refl, refl)
-parts text (suc zero) k = (refl, refl, refl)
-parts text (suc (suc zero)) k = (refl, refl, refl)
-parts text (suc (suc (suc n))) k = (refl, refl, refl)
-
 -- the name of each goal, and its number
 abbrev is_counted : ℕ → Bool
 is_counted i = is_plain (goal_name i) && is_none (goal_mark i)
@@ -298,9 +284,12 @@ goals_good i (suc n) h =
 
 -- The whole text.
 
--- what comes behind the header
+-- the functions, which no line orders, and the rules
+abbrev rules_tokens : List Marked → List Marked
+rules_tokens rest = rules_text 1 0 load_rules rest
+
 abbrev functions_tokens : List Marked → List Marked
-functions_tokens rest = definitions_text (load_raw 0) rest
+functions_tokens rest = funs_text 1 0 (load_raw 0).funs (rules_tokens rest)
 
 abbrev sorts_tokens : List Marked → List Marked
 sorts_tokens rest = (Sign Sort, sort_mark 0) ∷ name_text None nat
@@ -316,6 +305,7 @@ all_good rest r = first_good 99 (all_tokens rest) refl r
 are_tokens : (n : ℕ) → IsPlainText (load_raw n) (all_tokens (goals_tokens 0 n))
 are_tokens n = record {
   sorts = sorts_tokens (goals_tokens 0 n);
+  order = rules_tokens (goals_tokens 0 n);
   whole = refl;
   are = (
     applied (codes "zero") [],
@@ -325,31 +315,11 @@ are_tokens n = record {
     refl,
     refl,
   );
-  format = refl;
+  ordered = (rules_tokens (goals_tokens 0 n), refl, refl);
+  format = inl (refl, refl, refl);
 }
-
--- where a plain text is good, what is printed derives the declarations again, at the places that it
--- gives them
-reads_again : (raw : RawSpec) (w : List Marked) → IsPlainText raw w → AllGood w → (again : RawSpec)
-    × TextDerives IsSpecText (printed raw) again × IsSameButPlaces again raw
-reads_again raw w plain good =
-    let ws : List Written = pieces true w in
-    let text : List ℕ = written ws (codes "\n") in
-    let tokens : List Token = placed 0 ws in
-    let are : AreTokens text tokens =
-    written_tokens ws (codes "\n") (pieces_sound true w good) (refl, tt) in
-    let moved : Moved w (clean (items_of text tokens)) =
-    pieces_moved w true [] (codes "\n") text 0 good refl refl in
-    let m = spec_moves raw w (clean (items_of text tokens)) plain moved in
-    let derives : TextDerives IsSpecText text m.0 =
-    (tokens, are, plain_is_text m.0 (clean (items_of text tokens)) m.1) in (
-      m.0,
-      subst (λ (bytes : List ℕ). TextDerives IsSpecText bytes m.0)
-          (sym (printed_is raw w plain)) derives,
-      m.2,
-    )
 
 pub load_reads : (n : ℕ) → n ≤ 200 → (again : RawSpec)
     × TextDerives IsSpecText (printed (load_raw n)) again × IsSameButPlaces again (load_raw n)
-load_reads n h = reads_again (load_raw n) (all_tokens (goals_tokens 0 n)) (are_tokens n)
+load_reads n h = plain_reads_back (load_raw n) (all_tokens (goals_tokens 0 n)) (are_tokens n)
     (all_good (goals_tokens 0 n) (goals_good 0 n (omega arith)))

@@ -9,7 +9,6 @@ use Rattle.spec_core.specs.declared.records.Goal.{Goal}
 use Rattle.spec_core.specs.declared.records.Rule.{Rule}
 use Rattle.spec_core.specs.declared.records.Spec.{Spec}
 use Rattle.spec_core.specs.declared.records.OrderInfo.{OrderInfo}
-use Rattle.spec_core.specs.Orders.{order_by_number}
 use Rattle.spec_core.specs.Sig.{Sig}
 use Rattle.spec_core.specs.Sorts.{Sorted}
 use Rattle.spec_core.specs.Declarations.{AreNewNames, IsDeclared}
@@ -26,6 +25,9 @@ use Rattle.sort_check.specs.GoalTests.{goal_tests, own_sort}
 use Rattle.sort_check.specs.Goals.{GoalStands}
 use Rattle.sort_check.specs.Words.{symbol_named, info_at, after_word, entries_after, entries_after_all, other_tests, word_tests, terms_tests, term_tests}
 use Rattle.sort_check.specs.DeclarationTests.{declarations_tests, sig_of}
+use Rattle.sort_check.specs.Limits.{most_rules_of_one}
+use Rattle.sort_check.specs.Orders.{OrderStands}
+use Rattle.sort_check.specs.OrderTests.{order_tests}
 use Rattle.sort_check.specs.RuleTests.{rule_tests}
 use Rattle.sort_check.specs.Rules.{RuleStands}
 use Rattle.sort_check.specs.Signatures.{SignatureStands}
@@ -45,7 +47,7 @@ use Rattle.sort_check.proofs.Growth.{KeepsNames, Keeps, extends_self}
 use Rattle.sort_check.proofs.Facts.{HasSorts, facts, over_stands}
 use Rattle.sort_check.proofs.OneSpec.{one_numbering}
 use Rattle.sort_check.proofs.OneTerm.{one_term}
-use Rattle.sort_check.proofs.WellSortedSpecs.{numbered_well_sorted}
+use Rattle.sort_check.proofs.WellSortedSpecs.{stands_well_sorted}
 
 -- the public clauses
 module _ {T : Type 0} (s : Search SortFault) (P : T → Type 0) (r : Result T SortFault) (a : Answers s P r) where
@@ -86,21 +88,34 @@ pub goal_names_distinct : (sig : Sig) (raws : List RawGoal) (goals : List Goal) 
 goal_names_distinct sig raws goals c p j k g h a b same = one_place [] (map (λ (r : RawGoal). r.head.name) raws) j k h.name (names_after sig [] raws c) (name_at sig raws goals p j g a ∙ ap (λ n. Some n) same) (name_at sig raws goals p k h b)
 
 -- the specification that the parts make
-pub spec_made : (raw : RawSpec) (sig : Sig) (order : OrderInfo) → order ≡ order_by_number sig →
+pub spec_made : (raw : RawSpec) (sig : Sig) (order : OrderInfo) (most : ℕ) → most ≡ most_rules_of_one raw.version →
     (xs : List RawRule) (ys : List RawGoal) (rules : List Rule) (goals : List Goal) → xs ≡ raw.rules →
     ys ≡ raw.goals → Clean (declarations_tests raw)
     × ((sig ≡ sig_of raw) × IsDeclared sig × SignatureStands raw sig) →
-    Clean (each_after (rule_tests sig) [] xs) × AllZip (RuleStands sig) xs rules →
+    Clean (order_tests sig raw) × OrderStands raw sig order →
+    Clean (each_after (rule_tests sig most) [] xs) × AllZip (RuleStands sig) xs rules →
     Clean (each_after (goal_tests sig) [] ys) × AllZip (GoalStands sig) ys goals →
     Clean (spec_tests raw) × IsNumbered raw (record { sig = sig; order = order; rules = rules; goals = goals })
-spec_made raw sig order ordered xs ys rules goals x y a b c =
-    let r : Clean (each_after (rule_tests sig) [] raw.rules) × AllZip (RuleStands sig) raw.rules rules = subst (λ us. Clean (each_after (rule_tests sig) [] us) × AllZip (RuleStands sig) us rules) x b in
+spec_made raw sig order most is xs ys rules goals x y a o b c =
+    let r : Clean (each_after (rule_tests sig (most_rules_of_one raw.version)) [] raw.rules) × AllZip (RuleStands sig) raw.rules rules =
+    subst (λ m. Clean (each_after (rule_tests sig m) [] raw.rules) × AllZip (RuleStands sig) raw.rules rules) is
+    (subst (λ us. Clean (each_after (rule_tests sig most) [] us) × AllZip (RuleStands sig) us rules) x b)
+    in
     let g : Clean (each_after (goal_tests sig) [] raw.goals) × AllZip (GoalStands sig) raw.goals goals = subst (λ us. Clean (each_after (goal_tests sig) [] us) × AllZip (GoalStands sig) us goals) y c in (
-      (a.0, (subst (λ s. Clean (each_after (rule_tests s) [] raw.rules)) a.1.0 r.0, subst (λ s. Clean (each_after (goal_tests s) [] raw.goals)) a.1.0 g.0)),
+      (
+        a.0,
+        (
+          subst (λ s. Clean (order_tests s raw)) a.1.0 o.0,
+          (
+            subst (λ s. Clean (each_after (rule_tests s (most_rules_of_one raw.version)) [] raw.rules)) a.1.0 r.0,
+            subst (λ s. Clean (each_after (goal_tests s) [] raw.goals)) a.1.0 g.0,
+          ),
+        ),
+      ),
       record {
         signature = a.1.2;
         declared = a.1.1;
-        order = ordered;
+        order = o.1;
         rules = r.1;
         goals = g.1;
         names = goal_names_distinct sig raw.goals goals g.0 g.1;
@@ -119,7 +134,7 @@ module _ (raw : RawSpec) where
 
   -- what is made is well sorted
   pub well_sorted_where : (r : Result Spec SortFault) → Answers (spec_tests raw) (IsNumbered raw) r → IfOk r (λ spec. KeepsLimits raw → IsWellSorted spec)
-  well_sorted_where (Ok spec) a = λ limits. numbered_well_sorted raw spec limits a.1
+  well_sorted_where (Ok spec) a = λ limits. stands_well_sorted raw spec limits (record { clean = a.0; numbered = a.1 })
   well_sorted_where (Err e) a = tt
 
 -- a ground term has no variables

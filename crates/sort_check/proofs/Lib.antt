@@ -21,11 +21,16 @@ pub mod OneTerm
 pub mod OneSignature
 pub mod OneRule
 pub mod OneGoal
+pub mod Levels
+pub mod Precedences
+pub mod LineLoops
+pub mod Counting
 pub mod OneSpec
 pub mod KeptSizes
 pub mod RuleSizes
 pub mod WellSortedSpecs
 pub mod NaturalsStand
+pub mod FaultyLines
 pub mod Listed
 pub mod Binds
 pub mod ClauseLists

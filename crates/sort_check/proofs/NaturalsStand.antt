@@ -14,6 +14,7 @@ use Rattle.sort_check.specs.Inference.{bound, left_argument}
 use Rattle.sort_check.specs.Signatures.{SignatureStands}
 use Rattle.sort_check.specs.Rules.{RuleStands}
 use Rattle.sort_check.specs.Goals.{GoalStands}
+use Rattle.sort_check.proofs.Precedences.{stands_by_number}
 use Rattle.sort_check.specs.StandsFor.{IsNumbered, StandsFor}
 use Rattle.sort_check.specs.DeclarationTests.{declarations_tests, values_sig}
 use Rattle.sort_check.specs.RuleTests.{rule_tests}
@@ -93,7 +94,7 @@ naturals_are_numbered : IsNumbered raw_naturals naturals
 naturals_are_numbered = record {
   signature = signature_stands;
   declared = declared;
-  order = refl;
+  order = stands_by_number naturals_sig raw_naturals refl refl;
   rules = (zero_rule_stands, (succ_rule_stands, tt));
   goals = (same_goal_stands, (unit_goal_stands, tt));
   names = well_sorted.names;
@@ -116,7 +117,7 @@ declarations_clean rs gs = (
   (((((λ h. h (search rules)), tt), (((λ h. h (search rules)), ((λ h. h.1.0 refl), tt)), tt)), tt), (((λ h. h (zero_is_small rs gs)), tt), ((((λ h. h (search rules)), ((λ h. h.1.0 refl), ((λ h. h.1.0 refl), tt))), (λ h. h.1.0 refl)), tt))),
 )
 
-rules_clean : Clean (each_after (rule_tests naturals_sig) [] raw_naturals.rules)
+rules_clean : Clean (each_after (rule_tests naturals_sig 64) [] raw_naturals.rules)
 rules_clean = (
   ((λ h. omega arith, (λ h. omega arith, (λ h. omega arith, same))), ((((λ h. h (omega arith), (same, same)), tt), (λ h. omega arith, tt)), (same, tt))),
   (
@@ -159,7 +160,7 @@ goals_clean = (
 )
 
 naturals_have_no_fault : HasNoFault raw_naturals
-naturals_have_no_fault = (declarations_clean raw_naturals.rules raw_naturals.goals, (rules_clean, goals_clean))
+naturals_have_no_fault = (declarations_clean raw_naturals.rules raw_naturals.goals, ((tt, tt), (rules_clean, goals_clean)))
 
 pub naturals_stand : StandsFor raw_naturals naturals
 naturals_stand = record { clean = naturals_have_no_fault; numbered = naturals_are_numbered }
@@ -167,27 +168,33 @@ naturals_stand = record { clean = naturals_have_no_fault; numbered = naturals_ar
 pub loose_first : HasFirstFault (naturals_with (loose_rule ∷ []) []) 5 NotOnTheLeft
 loose_first = inr (
   declarations_clean (loose_rule ∷ []) [],
-  inl (inl (inr (
-    (λ h. omega arith, (λ h. omega arith, (λ h. omega arith, same))),
-    inr ((((λ h. h (omega arith), (same, same)), tt), (λ h. omega arith, tt)), inl (tt, refl)),
-  ))),
+  inr (
+    (tt, tt),
+    inl (inl (inr (
+      (λ h. omega arith, (λ h. omega arith, (λ h. omega arith, same))),
+      inr ((((λ h. h (omega arith), (same, same)), tt), (λ h. omega arith, tt)), inl (tt, refl)),
+    ))),
+  ),
 )
 
 pub free_first : HasFirstFault (naturals_with [] (free_goal ∷ [])) 3 SortNotInferred
 free_first = inr (
   declarations_clean [] (free_goal ∷ []),
   inr (
-    tt,
-    inl (inr (
-      λ h. h tt,
-      inr (
-        (tt, tt),
+    (tt, tt),
+    inr (
+      tt,
+      inl (inr (
+        λ h. h tt,
         inr (
-          ((λ h. omega arith, λ h. omega arith), tt),
-          inr ((tt, tt), inr ((((λ h. h), tt), (((λ h. h), tt), (((λ h. h), tt), tt))), inl (refl, refl))),
+          (tt, tt),
+          inr (
+            ((λ h. omega arith, λ h. omega arith), tt),
+            inr ((tt, tt), inr ((((λ h. h), tt), (((λ h. h), tt), (((λ h. h), tt), tt))), inl (refl, refl))),
+          ),
         ),
-      ),
-    )),
+      )),
+    ),
   ),
 )
 

@@ -20,10 +20,10 @@ use Rattle.sort_check.proofs.Names.{place_is}
 
 module _ (sig : Sig) where
   -- the numbers stand for the rules before
-  root_same : (Q : Search SortFault → Type 0) (at size before n : ℕ) (args : RawTrees) (o : Option ℕ) → ((f : ℕ) → o ≡ Some f → n ≡ before) → Q (root_tests sig at size n args o) → Q (root_tests sig at size before args o)
-  root_same Q at size before n args (Some f) e h = subst (λ m. Q (root_tests sig at size m args (Some f))) (e f refl) h
-  root_same Q at size before n no_raws None e h = h
-  root_same Q at size before n (more_raws t ts) None e h = h
+  root_same : (most : ℕ) (Q : Search SortFault → Type 0) (at size before n : ℕ) (args : RawTrees) (o : Option ℕ) → ((f : ℕ) → o ≡ Some f → n ≡ before) → Q (root_tests sig most at size n args o) → Q (root_tests sig most at size before args o)
+  root_same most Q at size before n args (Some f) e h = subst (λ m. Q (root_tests sig most at size m args (Some f))) (e f refl) h
+  root_same most Q at size before n no_raws None e h = h
+  root_same most Q at size before n (more_raws t ts) None e h = h
 
   counted_is : (counts : List ℕ) (before : List RawRule) (name : List ℕ) (o : Option ℕ) → symbol_named sig name ≡ o → AreCounts sig before counts → (f : ℕ) → o ≡ Some f → counted counts o ≡ rules_of name before
   counted_is counts before name (Some g) k c f e =
@@ -33,13 +33,13 @@ module _ (sig : Sig) where
   counted_is counts before name None k c f e = absurd (let z : None ≡ Some f = e in cc)
 
   -- a rule is tested at its root, and then below it
-  left_split : (counts : List ℕ) (before : List RawRule) (left : RawTree) (rule : RawRule) → AreCounts sig before counts → (Q : Search SortFault → Type 0) → Q (then (counted_tests sig counts left) (below_tests sig left rule)) → Q (left_tests sig before left rule)
-  left_split counts before (word name at args) rule c Q h =
+  left_split : (most : ℕ) (counts : List ℕ) (before : List RawRule) (left : RawTree) (rule : RawRule) → AreCounts sig before counts → (Q : Search SortFault → Type 0) → Q (then (counted_tests sig most counts left) (below_tests sig left rule)) → Q (left_tests sig most before left rule)
+  left_split most counts before (word name at args) rule c Q h =
       let o = symbol_named sig name in
-      root_same (λ s. Q (then s (inner_tests sig args rule o))) at (words (word name at args)) (rules_of name before) (counted counts o) args o (counted_is counts before name o refl c) h
+      root_same most (λ s. Q (then s (inner_tests sig args rule o))) at (words (word name at args)) (rules_of name before) (counted counts o) args o (counted_is counts before name o refl c) h
 
-  pub rule_split : (counts : List ℕ) (before : List RawRule) (rule : RawRule) → AreCounts sig before counts → (Q : Search SortFault → Type 0) → Q (then (counted_tests sig counts rule.left) (below_tests sig rule.left rule)) → Q (rule_tests sig before rule)
-  rule_split counts before rule c Q h = left_split counts before rule.left rule c Q h
+  pub rule_split : (most : ℕ) (counts : List ℕ) (before : List RawRule) (rule : RawRule) → AreCounts sig before counts → (Q : Search SortFault → Type 0) → Q (then (counted_tests sig most counts rule.left) (below_tests sig rule.left rule)) → Q (rule_tests sig most before rule)
+  rule_split most counts before rule c Q h = left_split most counts before rule.left rule c Q h
 
   root_named : (left : RawTree) (f : ℕ) → IsRoot sig left f → symbol_named sig (root_name left) ≡ Some f
   root_named (word name at args) f h = h.0

@@ -45,26 +45,26 @@ pub root_whole : (raw : RawTree) (xs : List RawTree) → raw_trees xs ≡ argume
 root_whole (word name at args) xs e = ap (λ rs. word name at rs) e
 
 -- the root of a left side
-module _ (sig : Sig) (counts : List ℕ) (name : List ℕ) (at : ℕ) (args : List RawTree) (raw : RawTree) (is : word name at (raw_trees args) ≡ raw) (o : Option ℕ) (k : symbol_named sig name ≡ o) where
-  pub at_root : (Q : Search SortFault → Type 0) → Q (root_tests sig at (words raw) (counted counts o) (raw_trees args) o) → Q (counted_tests sig counts raw)
+module _ (sig : Sig) (most : ℕ) (counts : List ℕ) (name : List ℕ) (at : ℕ) (args : List RawTree) (raw : RawTree) (is : word name at (raw_trees args) ≡ raw) (o : Option ℕ) (k : symbol_named sig name ≡ o) where
+  pub at_root : (Q : Search SortFault → Type 0) → Q (root_tests sig most at (words raw) (counted counts o) (raw_trees args) o) → Q (counted_tests sig most counts raw)
   at_root Q h =
-      let a : Q (root_tests sig at (words (word name at (raw_trees args))) (counted counts o) (raw_trees args) o) = subst (λ r. Q (root_tests sig at (words r) (counted counts o) (raw_trees args) o)) (sym is) h in
-      subst (λ r. Q (counted_tests sig counts r)) is (subst (λ x. Q (root_tests sig at (words (word name at (raw_trees args))) (counted counts x) (raw_trees args) x)) (sym k) a)
+      let a : Q (root_tests sig most at (words (word name at (raw_trees args))) (counted counts o) (raw_trees args) o) = subst (λ r. Q (root_tests sig most at (words r) (counted counts o) (raw_trees args) o)) (sym is) h in
+      subst (λ r. Q (counted_tests sig most counts r)) is (subst (λ x. Q (root_tests sig most at (words (word name at (raw_trees args))) (counted counts x) (raw_trees args) x)) (sym k) a)
 
   pub root_is : (f n m : ℕ) → o ≡ Some f → ¬ (IsConstructor sig f) → n ≡ length args → m ≡ length (info_at sig f).args → n ≡ m → IsRoot sig raw f
   root_is f n m e c a b same = subst (λ r. IsRoot sig r f) is (k ∙ e, c, omega (arith, count_is args))
 
-pub no_root : (sig : Sig) (at size before n : ℕ) (args : List RawTree) (kind : SortKind) → n ≡ length args → ((n ≡ 0) × (kind ≡ NoFunction)) ⊎ ((n ≢ 0) × (kind ≡ UnknownName)) → First (root_tests sig at size before (raw_trees args) None) (Sort at kind)
-no_root sig at size before n [] kind l (inl h) = (tt, ap (λ k. Sort at k) h.1)
-no_root sig at size before n [] kind l (inr h) = absurd (h.0 l)
-no_root sig at size before n (r ∷ rs) kind l (inl h) = absurd (omega (arith, h.0))
-no_root sig at size before n (r ∷ rs) kind l (inr h) = (tt, ap (λ k. Sort at k) h.1)
+pub no_root : (sig : Sig) (most at size before n : ℕ) (args : List RawTree) (kind : SortKind) → n ≡ length args → ((n ≡ 0) × (kind ≡ NoFunction)) ⊎ ((n ≢ 0) × (kind ≡ UnknownName)) → First (root_tests sig most at size before (raw_trees args) None) (Sort at kind)
+no_root sig most at size before n [] kind l (inl h) = (tt, ap (λ k. Sort at k) h.1)
+no_root sig most at size before n [] kind l (inr h) = absurd (h.0 l)
+no_root sig most at size before n (r ∷ rs) kind l (inl h) = absurd (omega (arith, h.0))
+no_root sig most at size before n (r ∷ rs) kind l (inr h) = (tt, ap (λ k. Sort at k) h.1)
 
-module _ (sig : Sig) (at size before n m f : ℕ) (args : List RawTree) (other : ¬ (IsConstructor sig f)) (few : before < 64) (small : size ≤ 200) (long : n ≡ length args) (wide : m ≡ length (info_at sig f).args) where
-  pub root_number : n ≢ m → First (root_tests sig at size before (raw_trees args) (Some f)) (Sort at WrongNumberOfArguments)
+module _ (sig : Sig) (most at size before n m f : ℕ) (args : List RawTree) (other : ¬ (IsConstructor sig f)) (few : before < most) (small : size ≤ 200) (long : n ≡ length args) (wide : m ≡ length (info_at sig f).args) where
+  pub root_number : n ≢ m → First (root_tests sig most at size before (raw_trees args) (Some f)) (Sort at WrongNumberOfArguments)
   root_number d = inr (other, inr ((λ h. omega arith), inr ((λ h. omega arith), ((λ e. d (omega (arith, count_is args))), refl))))
 
-  pub root_clean : n ≡ m → Clean (root_tests sig at size before (raw_trees args) (Some f))
+  pub root_clean : n ≡ m → Clean (root_tests sig most at size before (raw_trees args) (Some f))
   root_clean e = (other, ((λ h. omega arith), ((λ h. omega arith), (λ d. d (omega (arith, count_is args))))))
 
 sorts_long : (vs : List VarInfo) → length (sorts_of vs) ≡ length vs

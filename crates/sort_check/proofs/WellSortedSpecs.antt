@@ -10,8 +10,7 @@ use Rattle.spec_core.specs.declared.records.Rule.{Rule}
 use Rattle.spec_core.specs.declared.records.Spec.{Spec}
 use Rattle.spec_core.specs.Sig.{Sig}
 use Rattle.spec_core.specs.Declarations.{all_symbols}
-use Rattle.spec_core.specs.Orders.{IsOrderOf}
-use Rattle.spec_core.proofs.ByNumber.{is_order_by_number}
+use Rattle.spec_core.specs.Findings.{Clean}
 use Rattle.spec_core.specs.WellSorted.{RuleIsSorted, GoalIsSorted, IsShallow, HasFewArguments, IsWellSorted, sorts_of}
 use Rattle.spec_core.specs.TermText.{variable_names}
 use Rattle.spec_grammar.specs.RawTree.{RawTree}
@@ -27,9 +26,14 @@ use Rattle.sort_check.specs.Signatures.{sort_names, SortStands, ConstructorStand
 use Rattle.sort_check.specs.Terms.{TermStands}
 use Rattle.sort_check.specs.Rules.{GuardStands, RuleStands}
 use Rattle.sort_check.specs.Goals.{GoalStands}
-use Rattle.sort_check.specs.StandsFor.{IsNumbered}
+use Rattle.sort_check.specs.StandsFor.{StandsFor}
+use Rattle.sort_check.specs.DeclarationTests.{sig_of}
+use Rattle.sort_check.specs.OrderTests.{order_tests}
 use Rattle.sort_check.proofs.KeptSizes.{same_depth}
 use Rattle.sort_check.proofs.Pairs.{pairs_have}
+use Rattle.sort_check.proofs.DeclaringTests.{sig_stands}
+use Rattle.sort_check.proofs.OneSignature.{one_signature}
+use Rattle.sort_check.proofs.Precedences.{stands_is_order}
 use Rattle.term_core.proofs.Items.{all_at, all_append}
 use Rattle.spec_core.proofs.Values.{numbered_occurs}
 
@@ -84,14 +88,27 @@ module _ (sig : Sig) where
         shallow_guards = pairs_have (GuardStands sig names) (λ (g : RawGuard). TermKeepsLimits g.test) (λ (g : Guard). IsShallow g.test) (λ r g k p. shallow names r.test g.test k p.0) raw.guards rule.guards keeps.guards stands.guards;
       }
 
-pub numbered_well_sorted : (raw : RawSpec) (spec : Spec) → KeepsLimits raw → IsNumbered raw spec → IsWellSorted spec
-numbered_well_sorted raw spec keeps stands = record {
-  order = subst (λ o. IsOrderOf spec.sig o) (sym stands.order) (is_order_by_number spec.sig);
-  signature = stands.declared;
-  arities = few_arguments raw spec.sig keeps stands.signature;
-  rules = all_at (RuleIsSorted spec.sig) spec.rules (pairs_have (RuleStands spec.sig) RuleKeepsLimits (RuleIsSorted spec.sig) (rule_is_sorted spec.sig) raw.rules spec.rules keeps.rules stands.rules);
-  goals = all_at (GoalIsSorted spec.sig) spec.goals (pairs_have (GoalStands spec.sig) GoalKeepsLimits (GoalIsSorted spec.sig) (λ r g k p. p.sorted) raw.goals spec.goals keeps.goals stands.goals);
-  names = stands.names;
-  few_rules = omega (arith, AllZip-long (RuleStands spec.sig) raw.rules spec.rules stands.rules, keeps.few_rules, few_rules raw.version);
-  few_goals = omega (arith, AllZip-long (GoalStands spec.sig) raw.goals spec.goals stands.goals, keeps.few_goals);
-}
+-- its signature is the one of which the tests speak
+signature_is : (raw : RawSpec) (spec : Spec) → StandsFor raw spec → spec.sig ≡ sig_of raw
+signature_is raw spec stands =
+    let clean = stands.clean.0 in
+    one_signature raw spec.sig (sig_of raw) stands.numbered.declared stands.numbered.signature
+    (sig_stands raw clean.0 clean.1.0 clean.1.1.1)
+
+pub stands_well_sorted :
+    (raw : RawSpec) (spec : Spec) → KeepsLimits raw → StandsFor raw spec → IsWellSorted spec
+stands_well_sorted raw spec keeps stands_for =
+    let stands = stands_for.numbered in
+    record {
+      order =
+          stands_is_order spec.sig raw spec.order
+          (subst (λ (s : Sig). Clean (order_tests s raw)) (sym (signature_is raw spec stands_for)) stands_for.clean.1.0)
+          stands.order;
+      signature = stands.declared;
+      arities = few_arguments raw spec.sig keeps stands.signature;
+      rules = all_at (RuleIsSorted spec.sig) spec.rules (pairs_have (RuleStands spec.sig) RuleKeepsLimits (RuleIsSorted spec.sig) (rule_is_sorted spec.sig) raw.rules spec.rules keeps.rules stands.rules);
+      goals = all_at (GoalIsSorted spec.sig) spec.goals (pairs_have (GoalStands spec.sig) GoalKeepsLimits (GoalIsSorted spec.sig) (λ r g k p. p.sorted) raw.goals spec.goals keeps.goals stands.goals);
+      names = stands.names;
+      few_rules = omega (arith, AllZip-long (RuleStands spec.sig) raw.rules spec.rules stands.rules, keeps.few_rules, few_rules raw.version);
+      few_goals = omega (arith, AllZip-long (GoalStands spec.sig) raw.goals spec.goals stands.goals, keeps.few_goals);
+    }

@@ -1,5 +1,5 @@
 -- What the definitions say of raw naturals with addition, and of a few that have faults.
-use Rattle.std.specs.Prelude.{ℕ, List, [], ◌∷◌, codes}
+use Rattle.std.specs.Prelude.{◌≡◌, ℕ, List, [], ◌∷◌, codes, map}
 use Rattle.spec_core.specs.Naturals.{naturals}
 use Rattle.spec_grammar.specs.FormatOne.{format_one}
 use Rattle.spec_grammar.specs.RawTree.{RawTree, word, none, some}
@@ -7,17 +7,21 @@ use Rattle.spec_grammar.specs.declared.raw.RawName.{RawName}
 use Rattle.spec_grammar.specs.declared.raw.RawNames.{RawNames}
 use Rattle.spec_grammar.specs.declared.raw.RawSort.{RawSort}
 use Rattle.spec_grammar.specs.declared.raw.RawFun.{RawFun}
+use Rattle.spec_grammar.specs.declared.raw.RawEqual.{RawEqual}
+use Rattle.spec_grammar.specs.declared.raw.RawStatus.{RawStatus}
 use Rattle.spec_grammar.specs.declared.raw.RawEq.{RawEq}
 use Rattle.spec_grammar.specs.declared.raw.RawBind.{RawBind}
 use Rattle.spec_grammar.specs.declared.raw.RawRule.{RawRule}
 use Rattle.spec_grammar.specs.declared.raw.RawGoal.{RawGoal}
 use Rattle.spec_grammar.specs.declared.raw.RawSpec.{RawSpec}
+use Rattle.sort_check.specs.Orders.{level_in, status_in}
+use Rattle.sort_check.specs.DeclarationTests.{sig_of}
 use Rattle.sort_check.specs.StandsFor.{StandsFor}
 use Rattle.sort_check.specs.FirstFault.{HasFirstFault}
-use Rattle.sort_check.specs.declared.faults.SortKind.TheVariants.{RepeatedName, NotOnTheLeft, SortNotInferred}
+use Rattle.sort_check.specs.declared.faults.SortKind.TheVariants.{UnknownName, RepeatedName, WrongNumberOfArguments, NotOnTheLeft, SortNotInferred, NotAFunction, EqualTwice, StatusTwice, NoOrderOfArguments}
 
 -- a name at a place, 0 where the place doesn't matter
-abbrev name_at : List ℕ → ℕ → RawName
+abbrev pub name_at : List ℕ → ℕ → RawName
 name_at name at = record { name = name; at = at }
 
 abbrev raw_symbol : List ℕ → List RawName → RawNames
@@ -109,6 +113,51 @@ nat_twice =
     let again : RawSort = record { head = name_at (codes "Nat") 9; constructors = [] } in
     format_one (nat_sort ∷ again ∷ []) (plus_function ∷ []) (loose_rule ∷ []) []
 
+-- fun of this name: Nat, Nat to Nat, or Nat to Nat
+abbrev binary : List ℕ → RawFun
+binary name = record { head = raw_symbol name (nat ∷ nat ∷ []); result = nat }
+
+abbrev unary : List ℕ → RawFun
+unary name = record { head = raw_symbol name (nat ∷ []); result = nat }
+
+abbrev pub plus_at : ℕ → RawName
+plus_at at = name_at (codes "plus") at
+
+abbrev pub times_at : ℕ → RawName
+times_at at = name_at (codes "times") at
+
+abbrev pub double_at : ℕ → RawName
+double_at at = name_at (codes "double") at
+
+abbrev pub half_at : ℕ → RawName
+half_at at = name_at (codes "half") at
+
+abbrev pub equal : List RawName → RawEqual
+equal names = record { names = names }
+
+abbrev pub status : RawName → List ℕ → RawStatus
+status head numbers = record { head = head; numbers = numbers }
+
+-- naturals with plus, times, double and half, which have the numbers 4 to 7, and these lines and rules
+abbrev pub ordered_with : List RawEqual → List RawStatus → List RawRule → RawSpec
+ordered_with equals statuses rules =
+    record {
+      version = 2;
+      sorts = nat_sort ∷ [];
+      funs =
+          plus_function ∷ binary (codes "times") ∷ unary (codes "double") ∷ unary (codes "half")
+          ∷ [];
+      equals = equals;
+      statuses = statuses;
+      rules = rules;
+      goals = [];
+    }
+
+-- equal times, plus and status plus(2, 1)
+abbrev pub ordered_naturals : RawSpec
+ordered_naturals =
+    ordered_with (equal (times_at 0 ∷ plus_at 0 ∷ []) ∷ []) (status (plus_at 0) (2 ∷ 1 ∷ []) ∷ []) []
+
 pub record WorkedExamples : Type 0 where
   -- raw naturals stand for naturals
   pub stands : StandsFor raw_naturals naturals
@@ -118,3 +167,41 @@ pub record WorkedExamples : Type 0 where
   pub free : HasFirstFault (naturals_with [] (free_goal ∷ [])) 3 SortNotInferred
   -- a repeated sort comes before the fault of a rule, although it stands later in the text
   pub repeated : HasFirstFault nat_twice 9 RepeatedName
+  -- by equal times, plus both have the number of times as their level, and double has its own
+  pub levels : map (level_in (sig_of ordered_naturals) ordered_naturals.equals) (4 ∷ 5 ∷ 6 ∷ [])
+      ≡ 5 ∷ 5 ∷ 6 ∷ []
+  -- by status plus(2, 1) its second argument comes first, and those of times are compared as written
+  pub statuses : map (status_in (sig_of ordered_naturals) ordered_naturals.statuses) (4 ∷ 5 ∷ [])
+      ≡ (2 ∷ 1 ∷ []) ∷ (1 ∷ 2 ∷ []) ∷ []
+  -- equal plus, minus
+  pub no_symbol : HasFirstFault
+      (ordered_with (equal (plus_at 0 ∷ name_at (codes "minus") 5 ∷ []) ∷ []) [] [])
+      5 UnknownName
+  -- equal plus, succ: the constructor comes before the status line's name, which is no symbol
+  pub constructor : HasFirstFault
+      (ordered_with (equal (plus_at 0 ∷ name_at (codes "succ") 5 ∷ []) ∷ [])
+      (status (name_at (codes "minus") 3) (1 ∷ []) ∷ []) [])
+      5 NotAFunction
+  -- equal plus, plus
+  pub same_line : HasFirstFault (ordered_with (equal (plus_at 0 ∷ plus_at 5 ∷ []) ∷ []) [] [])
+      5 EqualTwice
+  -- equal double, half and equal plus, half: half stands in the first line, and it has not as many arguments as plus
+  pub other_line : HasFirstFault
+      (ordered_with (equal (double_at 0 ∷ half_at 0 ∷ []) ∷ equal (plus_at 0 ∷ half_at 5 ∷ []) ∷ [])
+      [] [])
+      5 EqualTwice
+  -- equal plus, double
+  pub unlike : HasFirstFault (ordered_with (equal (plus_at 0 ∷ double_at 5 ∷ []) ∷ []) [] [])
+      5 WrongNumberOfArguments
+  -- status plus(2, 1) and status plus(2, 2): the second line comes before its numbers
+  pub second_status : HasFirstFault
+      (ordered_with []
+      (status (plus_at 0) (2 ∷ 1 ∷ []) ∷ status (plus_at 5) (2 ∷ 2 ∷ []) ∷ []) [])
+      5 StatusTwice
+  -- status plus(2, 2), whose fault comes before that of the rule plus(zero, y) = x
+  pub no_order : HasFirstFault
+      (ordered_with [] (status (plus_at 9) (2 ∷ 2 ∷ []) ∷ []) (loose_rule ∷ []))
+      9 NoOrderOfArguments
+  -- status plus(1)
+  pub few_numbers : HasFirstFault (ordered_with [] (status (plus_at 5) (1 ∷ []) ∷ []) [])
+      5 NoOrderOfArguments

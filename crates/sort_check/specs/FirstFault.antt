@@ -6,6 +6,8 @@ use Rattle.spec_grammar.specs.RawTree.{RawTree}
 use Rattle.spec_grammar.specs.declared.raw.RawSpec.{RawSpec}
 use Rattle.sort_check.specs.Words.{term_tests}
 use Rattle.sort_check.specs.DeclarationTests.{declarations_tests, sig_of}
+use Rattle.sort_check.specs.OrderTests.{order_tests}
+use Rattle.sort_check.specs.Limits.{most_rules_of_one}
 use Rattle.sort_check.specs.RuleTests.{rule_tests}
 use Rattle.sort_check.specs.GoalTests.{goal_tests}
 use Rattle.sort_check.specs.declared.faults.SortFault.{SortFault}
@@ -14,11 +16,13 @@ use Rattle.sort_check.specs.declared.faults.SortKind.{SortKind}
 use Rattle.sort_check.specs.declared.faults.SortKind.TheVariants.{WrongSort}
 use Rattle.sort_check.specs.declared.faults.Part.TheVariants.{Ground}
 
--- faults are looked for in the declarations, then in the rules in order, then in the goals in order
+-- faults are looked for in the declarations, then in the lines that order functions and their arguments, then in the rules
+-- in order, then in the goals in order
 abbrev pub spec_tests : RawSpec → Search SortFault
 spec_tests raw = then (declarations_tests raw)
-    (then (each_after (rule_tests (sig_of raw)) [] raw.rules)
-    (each_after (goal_tests (sig_of raw)) [] raw.goals))
+    (then (order_tests (sig_of raw) raw)
+    (then (each_after (rule_tests (sig_of raw) (most_rules_of_one raw.version)) [] raw.rules)
+    (each_after (goal_tests (sig_of raw)) [] raw.goals)))
 
 -- no test finds a fault
 abbrev pub HasNoFault : RawSpec → Type 0

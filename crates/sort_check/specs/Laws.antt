@@ -43,7 +43,7 @@ abbrev pub NumberingKeepsSizes : Type 0
 NumberingKeepsSizes = (n : ℕ) (raw : RawSpec) (spec : Spec) → HasFewWords n raw
     → IsNumbered raw spec → RulesAreWithin n spec
 
--- the numbering of a raw specification within the limits is well sorted, and so is what it stands for
+-- what a raw specification within the limits stands for is well sorted
 abbrev pub StandsWellSorted : Type 0
 StandsWellSorted =
-    (raw : RawSpec) (spec : Spec) → KeepsLimits raw → IsNumbered raw spec → IsWellSorted spec
+    (raw : RawSpec) (spec : Spec) → KeepsLimits raw → StandsFor raw spec → IsWellSorted spec

@@ -5,13 +5,16 @@ pub mod Rules
 pub mod Occurrence
 pub mod Inference
 pub mod Goals
+pub mod Orders
 -- The first fault of a raw specification, in the order in which to read it.
 pub mod Entries
 pub mod Words
 pub mod RuleTests
+pub mod Limits
 pub mod Rounds
 pub mod GoalTests
 pub mod DeclarationTests
+pub mod OrderTests
 pub mod FirstFault
 -- A raw specification without a fault stands for its numbering.
 pub mod StandsFor
@@ -23,3 +26,4 @@ pub mod Examples
 pub mod Answers
 pub mod Over
 pub mod Parts
+pub mod Marks

@@ -25,16 +25,6 @@ abbrev pub rules_of : List ℕ → List RawRule → ℕ
 rules_of name rules = count_by (λ (r : RawRule). has_root name r.left) rules
 
 module _ (sig : Sig) where
-  -- the root of a left side of so many words, where so many rules before are of this function
-  abbrev pub root_tests : ℕ → ℕ → ℕ → RawTrees → Option ℕ → Search SortFault
-  root_tests at size before args (Some f) =
-      then (test (Sort at NoFunction) (IsConstructor sig f))
-      (then (test (Sort at TooManyRules) (64 ≤ before))
-      (then (test (Sort at LeftTooLarge) (200 < size))
-      (test (Sort at WrongNumberOfArguments) (count args ≢ length (info_at sig f).args))))
-  root_tests at size before no_raws None = test (Sort at NoFunction) (Unit {0})
-  root_tests at size before (more_raws t ts) None = test (Sort at UnknownName) (Unit {0})
-
   abbrev pub guard_tests : List Entry → RawGuard → Search SortFault
   guard_tests es g = term_tests sig Right es GuardNotBool g.test (Some bool_sort)
 
@@ -49,11 +39,23 @@ module _ (sig : Sig) where
       (body_tests (entries_after_all sig [] args (info_at sig f).args) rule (info_at sig f).result)
   inner_tests args rule None = nothing
 
-  abbrev pub left_tests : List RawRule → RawTree → RawRule → Search SortFault
-  left_tests before (word name at args) rule =
-      then (root_tests at (words (word name at args)) (rules_of name before) args
-      (symbol_named sig name)) (inner_tests args rule (symbol_named sig name))
+  -- where a function may have so many rules
+  module _ (most : ℕ) where
+    -- the root of a left side of so many words, where so many rules before are of this function
+    abbrev pub root_tests : ℕ → ℕ → ℕ → RawTrees → Option ℕ → Search SortFault
+    root_tests at size before args (Some f) =
+        then (test (Sort at NoFunction) (IsConstructor sig f))
+        (then (test (Sort at TooManyRules) (most ≤ before))
+        (then (test (Sort at LeftTooLarge) (200 < size))
+        (test (Sort at WrongNumberOfArguments) (count args ≢ length (info_at sig f).args))))
+    root_tests at size before no_raws None = test (Sort at NoFunction) (Unit {0})
+    root_tests at size before (more_raws t ts) None = test (Sort at UnknownName) (Unit {0})
 
-  -- a rule with those before it
-  abbrev pub rule_tests : List RawRule → RawRule → Search SortFault
-  rule_tests before rule = left_tests before rule.left rule
+    abbrev pub left_tests : List RawRule → RawTree → RawRule → Search SortFault
+    left_tests before (word name at args) rule =
+        then (root_tests at (words (word name at args)) (rules_of name before) args
+        (symbol_named sig name)) (inner_tests args rule (symbol_named sig name))
+
+    -- a rule with those before it
+    abbrev pub rule_tests : List RawRule → RawRule → Search SortFault
+    rule_tests before rule = left_tests before rule.left rule

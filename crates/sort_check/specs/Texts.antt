@@ -22,6 +22,10 @@ kind_text kind.NoSmallValue = codes "no small value"
 kind_text kind.TooManyVariables = codes "too many variables"
 kind_text kind.LeftTooLarge = codes "left side too large"
 kind_text kind.TooManyRules = codes "too many rules"
+kind_text kind.NotAFunction = codes "not a function"
+kind_text kind.EqualTwice = codes "equal twice"
+kind_text kind.StatusTwice = codes "status twice"
+kind_text kind.NoOrderOfArguments = codes "no order of arguments"
 
 -- the words of a fault: its place and its kind
 abbrev pub fault_text : SortFault → List ℕ

@@ -16,17 +16,19 @@ ghost use Rattle.sort_check.specs.declared.faults.SortFault.TheVariants.{Sort};
 use crate::declarations::signature_of;
 use crate::faults::{Part, SortFault, SortKind};
 use crate::goals::goals_of;
+use crate::limits::rules_of_one;
+use crate::orders::order_of;
 use crate::rules::rules_of;
 use crate::walk::Walk;
-use spec_core::{Signature, Spec, order_by_number};
+use spec_core::{Signature, Spec};
 use spec_grammar::{RawSpec, RawTerm};
 use std::alloc::Global;
 use term_core::Term;
 
 /// The specification that a raw one stands for, or the first of its faults: declarations come
-/// before rules, and these before goals. It is well sorted where the raw one keeps the limits of
-/// the grammar, as each one that a text derives does. A symbol of more than 255 arguments is
-/// answered as want of memory.
+/// before the lines that give an order, these before rules, and rules before goals. It is well
+/// sorted where the raw one keeps the limits of the grammar, as each one that a text derives does.
+/// A symbol of more than 255 arguments is answered as want of memory.
 pub fn elaborate(alloc: Global, raw: &RawSpec) -> Result<Spec, SortFault>
     requires few { HasFewDeclarations raw.now }
     ensures stands { IfOk result (StandsFor raw.now) }
@@ -61,9 +63,10 @@ fn spec_of(alloc: Global, raw: &RawSpec) -> Result<Spec, SortFault>
     ensures { Answers (spec_tests raw.now) (IsNumbered raw.now) result }
 {
     let sig = signature_of(alloc, raw)?;
-    let rules = rules_of(alloc, &sig, raw.rules.as_slice())?;
+    let order = order_of(alloc, &sig, raw)?;
+    let most = rules_of_one(raw.version);
+    let rules = rules_of(alloc, &sig, most, raw.rules.as_slice())?;
     let goals = goals_of(alloc, &sig, raw.goals.as_slice())?;
-    let order = order_by_number(alloc, &sig)?;
     Ok(Spec {
         sig,
         order,

@@ -28,8 +28,16 @@ pub enum SortKind {
     TooManyVariables,
     /// A left side of more than 200 symbols and variables.
     LeftTooLarge,
-    /// The 65th rule of a function.
+    /// The 65th rule of a function, or in format 2 the 129th.
     TooManyRules,
+    /// A constructor in an equal or status line.
+    NotAFunction,
+    /// A function that stands earlier in an equal line.
+    EqualTwice,
+    /// A function with an earlier status line.
+    StatusTwice,
+    /// Numbers of a status line that aren't each of 1 to the number of arguments once.
+    NoOrderOfArguments,
 }
 
 impl fmt::Display for SortKind {
@@ -53,6 +61,10 @@ impl fmt::Display for SortKind {
             SortKind::TooManyVariables => "too many variables",
             SortKind::LeftTooLarge => "left side too large",
             SortKind::TooManyRules => "too many rules",
+            SortKind::NotAFunction => "not a function",
+            SortKind::EqualTwice => "equal twice",
+            SortKind::StatusTwice => "status twice",
+            SortKind::NoOrderOfArguments => "no order of arguments",
         })
     }
 }

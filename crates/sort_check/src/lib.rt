@@ -2,7 +2,8 @@
 //!
 //! It stands on spec_core and on spec_grammar. The folder `specs/` says which tests of a raw
 //! specification are made in which order (`specs/FirstFault.antt`), and apart from this what its
-//! numbering is, with the sorts that a goal's variables get (`specs/Inference.antt`). A raw
+//! numbering is, with the sorts that a goal's variables get (`specs/Inference.antt`) and the levels
+//! and statuses that equal and status lines give (`specs/Orders.antt`). A raw
 //! specification stands for its numbering where no test finds a fault (`specs/StandsFor.antt`). The
 //! layer above uses the contracts of [`elaborate`] and [`elaborate_term`]: what the raw one stands
 //! for is answered wherever there is such a thing, and nothing else is; the first fault is told
@@ -19,6 +20,7 @@ mod faults;
 mod goals;
 mod laws;
 mod limits;
+mod orders;
 mod rounds;
 mod rules;
 mod variables;

@@ -12,7 +12,7 @@ ghost use Rattle.sort_check.specs.declared.faults.Part.TheVariants.{Right};
 
 use crate::entries::Entry;
 use crate::faults::{Part, SortFault, SortKind, fault};
-use crate::limits::{LEFT_SIZE, RULES_OF_ONE};
+use crate::limits::LEFT_SIZE;
 use crate::variables::variables_of_rule;
 use crate::walk::{Walk, arguments};
 use spec_core::{Guard, Rule, Signature};
@@ -22,19 +22,20 @@ use term_core::{OutOfMemory, Seq, SortId, SymId, Term, Terms, front};
 
 const BOOL: SortId = SortId(0);
 
-/// The rules that raw ones stand for, in their order.
+/// The rules that raw ones stand for, in their order. A function may have `most` of them.
 pub(crate) fn rules_of(
     alloc: Global,
     sig: &Signature,
+    most: u32,
     raws: &[RawRule],
 ) -> Result<Seq<Rule>, SortFault>
-    ensures { Answers (each_after (rule_tests sig.now) [] raws.now)
+    ensures { Answers (each_after (rule_tests sig.now most) [] raws.now)
         (λ rules. AllZip (RuleStands sig.now) raws.now rules) result }
 {
     let mut counts = no_counts(alloc, sig)?;
     let mut made = Seq::new(alloc);
     for raw in raws {
-        let sym = root(sig, &counts, &raw.left)?;
+        let sym = root(sig, most, &counts, &raw.left)?;
         made.push(rule_of(alloc, sig, sym, raw)?)?;
         counts[sym.0 as usize] += 1;
     }
@@ -49,11 +50,12 @@ fn no_counts(alloc: Global, sig: &Signature) -> Result<Vec<u32>, OutOfMemory>
     Ok(counts)
 }
 
-/// The function at the root of a left side, where so many rules of each symbol stand before.
-fn root(sig: &Signature, counts: &[u32], raw: &RawTerm) -> Result<SymId, SortFault>
+/// The function at the root of a left side, where so many rules of each symbol stand before, fewer
+/// than `most` of this one.
+fn root(sig: &Signature, most: u32, counts: &[u32], raw: &RawTerm) -> Result<SymId, SortFault>
     requires { length counts.now ≡ length sig.now.table }
-    ensures few { IfOk result (λ f. slice_index counts.now f.0 < 64) }
-    ensures root { Answers (counted_tests sig.now counts.now raw.now)
+    ensures few { IfOk result (λ f. slice_index counts.now f.0 < most) }
+    ensures root { Answers (counted_tests sig.now most counts.now raw.now)
         (λ f. IsRoot sig.now raw.now f.0) result }
 {
     let Some(sym) = sig.symbol(raw.name.as_bytes()) else {
@@ -67,7 +69,7 @@ fn root(sig: &Signature, counts: &[u32], raw: &RawTerm) -> Result<SymId, SortFau
     if sig.is_constructor(sym) {
         return Err(fault(raw.at, SortKind::NoFunction));
     }
-    if counts[sym.0 as usize] >= RULES_OF_ONE {
+    if counts[sym.0 as usize] >= most {
         return Err(fault(raw.at, SortKind::TooManyRules));
     }
     if size(raw, LEFT_SIZE + 1) > LEFT_SIZE {

@@ -12,6 +12,8 @@ use Rattle.spec_grammar.specs.declared.raw.RawName.{RawName}
 use Rattle.spec_grammar.specs.declared.raw.RawNames.{RawNames}
 use Rattle.spec_grammar.specs.declared.raw.RawSort.{RawSort}
 use Rattle.spec_grammar.specs.declared.raw.RawFun.{RawFun}
+use Rattle.spec_grammar.specs.declared.raw.RawEqual.{RawEqual}
+use Rattle.spec_grammar.specs.declared.raw.RawStatus.{RawStatus}
 use Rattle.spec_grammar.specs.declared.raw.RawEq.{RawEq}
 use Rattle.spec_grammar.specs.declared.raw.RawGuard.{RawGuard}
 use Rattle.spec_grammar.specs.declared.raw.RawRule.{RawRule}
@@ -21,9 +23,9 @@ use Rattle.spec_grammar.specs.declared.raw.RawSpec.{RawSpec}
 use Rattle.spec_grammar.specs.RawTree.{RawTree, RawTrees, word, none, some}
 use Rattle.spec_grammar.specs.Items.{Item, items_of}
 use Rattle.spec_grammar.specs.Limits.{most_constructors, most_functions, most_rules, over, or_else, name_mark, constructor_mark, arity_mark, term_mark, variable_mark}
-use Rattle.spec_grammar.specs.Grammar.{Marked, sign, name_text, term_text, args_text, more_text, more_names_text, names_text, con_text, constructors_text, AreSorts, funs_text, guards_text, sides_text, rules_text, commas_text, premises_text, bars_text, conclusions_text, IsClause, bind_text, more_binds_text, binds_text, AreGoals, IsSpecText, IsTermText}
+use Rattle.spec_grammar.specs.Grammar.{Marked, sign, name_text, term_text, args_text, more_text, more_names_text, names_text, con_text, constructors_text, AreSorts, funs_text, more_equal_text, AreEquals, more_numbers_text, AreStatuses, guards_text, sides_text, rules_text, commas_text, premises_text, bars_text, conclusions_text, IsClause, bind_text, more_binds_text, binds_text, AreGoals, IsSpecText, IsTermText}
 use Rattle.spec_grammar.specs.Derives.{clean, Derives, TextDerives}
-use Rattle.spec_grammar.specs.KeepsLimits.{raw_depth, raw_depths, raw_count, WordsKeepLimits, AllWordsKeepLimits, TermKeepsLimits, NameKeepsLimits, NamesKeepLimits, SortKeepsLimits, FunctionKeepsLimits, RuleKeepsLimits, EquationKeepsLimits, BindKeepsLimits, GoalKeepsLimits, KeepsLimits}
+use Rattle.spec_grammar.specs.KeepsLimits.{raw_depth, raw_depths, raw_count, WordsKeepLimits, AllWordsKeepLimits, TermKeepsLimits, NameKeepsLimits, NamesKeepLimits, SortKeepsLimits, FunctionKeepsLimits, EqualKeepsLimits, StatusKeepsLimits, RuleKeepsLimits, EquationKeepsLimits, BindKeepsLimits, GoalKeepsLimits, KeepsLimits}
 use Rattle.spec_grammar.proofs.Stacks.{limit_none}
 
 -- no token passes a limit
@@ -168,6 +170,44 @@ funs_kept version n (f ∷ fs) v le h =
     let rest = funs_kept version (n + 1) fs v (omega (arith, below)) head.2.1.1 in
     (omega (arith, rest.0), (record { head = head.1; result = result.0 }, rest.1), rest.2)
 
+-- the lines that order functions
+more_equal_kept : (xs : List RawName) (v : List Marked) → HasNoMark (more_equal_text xs v)
+    → AllByRecursion NameKeepsLimits xs × HasNoMark v
+more_equal_kept [] v h = (tt, h)
+more_equal_kept (x ∷ xs) v h =
+    let name = name_none x.name None h.1.0 in
+    let rest = more_equal_kept xs v h.1.1 in
+    ((name.0, rest.0), rest.1)
+
+equals_kept : (es : List RawEqual) (w v : List Marked) → AreEquals es w v → HasNoMark w
+    → AllByRecursion EqualKeepsLimits es × HasNoMark v
+equals_kept [] w v is h = (tt, subst HasNoMark is h)
+equals_kept (e ∷ es) w v (first, second, others, after, listed, is, rest) h =
+    let marks = subst HasNoMark is h in
+    let name = name_none first.name None marks.1.0 in
+    let kept = more_equal_kept (second ∷ others) after marks.1.1 in
+    let all = equals_kept es after v rest kept.1 in
+    ((subst (AllByRecursion NameKeepsLimits) (sym listed) (name.0, kept.0), all.0), all.1)
+
+more_numbers_kept : (n : ℕ) (is : List ℕ) (v : List Marked) → n ≤ 8
+    → HasNoMark (more_numbers_text n is v) → (n + length is ≤ 8) × HasNoMark v
+more_numbers_kept n [] v le h = (omega arith, h)
+more_numbers_kept n (i ∷ is) v le h =
+    let below = over_none n 8 limit.Arity h.1.0 in
+    let rest = more_numbers_kept (n + 1) is v (omega (arith, below)) h.1.1 in
+    (omega (arith, rest.0), rest.1)
+
+statuses_kept : (ss : List RawStatus) (w v : List Marked) → AreStatuses ss w v → HasNoMark w
+    → AllByRecursion StatusKeepsLimits ss × HasNoMark v
+statuses_kept [] w v is h = (tt, subst HasNoMark is h)
+statuses_kept (s ∷ ss) w v (first, others, after, listed, is, rest) h =
+    let marks = subst HasNoMark is h in
+    let name = name_none s.head.name None marks.1.0 in
+    let kept = more_numbers_kept 1 others (sign RightPar ∷ after) (omega arith) marks.1.1.1.1 in
+    let all = statuses_kept ss after v rest kept.1.1 in
+    let number : length s.numbers ≡ length (first ∷ others) = ap (λ (is : List ℕ). length is) listed in
+    (((name.0, omega (arith, number, kept.0)), all.0), all.1)
+
 guards_kept : (n : ℕ) (gs : List RawGuard) (v : List Marked) → n ≤ 8 → HasNoMark (guards_text n gs v) → (n + length gs ≤ 8) × AllByRecursion (λ (g : RawGuard). TermKeepsLimits g.test) gs × HasNoMark v
 guards_kept n [] v le h = (omega arith, tt, h)
 guards_kept n (g ∷ gs) v le h =
@@ -261,11 +301,15 @@ goals_kept n (g ∷ gs) text v le (clause, after, is, are_clause, are) h =
 
 -- a specification, and a term alone
 pub derived_keeps_limits : (items : List Item) (raw : RawSpec) → Derives IsSpecText items raw → KeepsLimits raw
-derived_keeps_limits items raw (sorts_text, goals_text, is, are_sorts, are_goals, known) =
+derived_keeps_limits items raw (sorts_text, order_text, goals_text, is, are_sorts, is_order, are_goals, known) =
+    let version = raw.version in
     let marks = subst HasNoMark is (HasNoMark-clean items) in
-    let sorts = sorts_kept raw.version 0 0 raw.sorts sorts_text (funs_text raw.version 0 raw.funs (rules_text raw.version 0 raw.rules goals_text)) (omega arith) (omega arith) are_sorts marks.1.1 in
-    let funs = funs_kept raw.version 0 raw.funs (rules_text raw.version 0 raw.rules goals_text) (omega arith) sorts.3 in
-    let rules = rules_kept raw.version 0 raw.rules goals_text (omega arith) funs.2 in
+    let sorts = sorts_kept version 0 0 raw.sorts sorts_text (funs_text version 0 raw.funs order_text)
+    (omega arith) (omega arith) are_sorts marks.1.1 in
+    let funs = funs_kept version 0 raw.funs order_text (omega arith) sorts.3 in
+    let equals = equals_kept raw.equals order_text is_order.0 is_order.1 funs.2 in
+    let statuses = statuses_kept raw.statuses is_order.0 _ is_order.2 equals.1 in
+    let rules = rules_kept version 0 raw.rules goals_text (omega arith) statuses.1 in
     let goals = goals_kept 0 raw.goals goals_text [] (omega arith) are_goals rules.2 in
     record {
       few_sorts = omega (arith, sorts.0);
@@ -273,6 +317,8 @@ derived_keeps_limits items raw (sorts_text, goals_text, is, are_sorts, are_goals
       sorts = sorts.2;
       few_functions = omega (arith, funs.0);
       functions = funs.1;
+      equals = equals.0;
+      statuses = statuses.0;
       few_rules = omega (arith, rules.0);
       rules = rules.1;
       few_goals = omega (arith, goals.0);

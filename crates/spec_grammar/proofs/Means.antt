@@ -1,7 +1,7 @@
 -- Each stack has texts: whatever it has taken, some text begins with it.
 use Rattle.std.proofs.Common.{◌≡◌, ◌≢◌, ℕ, zero, suc, ◌+◌, List, [], ◌∷◌, ◌++◌, ◌⊎◌, inl, inr, Option, None, Bool, true, false, cond, length, refl, ap, sym, subst, ◌∙◌, add-one, add-zero, arith}
 use Rattle.std.proofs.lemmas.Bool.{eqb-true}
-use Rattle.std.specs.Prelude.{◌==◌}
+use Rattle.std.specs.Prelude.{◌==◌, ◌||◌}
 use Rattle.spec_grammar.specs.declared.keys.Key.{Key}
 use Rattle.spec_grammar.specs.declared.keys.Key.TheVariants.{Spike, Sort, Fun, Rule, Goal, If, Unless, Equal, Status, Order, LeftPar, RightPar, Comma, Colon, Equals, Bar, Arrow, Stray}
 use Rattle.spec_grammar.specs.declared.limits.LimitKind.{LimitKind}
@@ -9,6 +9,8 @@ use Rattle.spec_grammar.specs.declared.raw.RawName.{RawName}
 use Rattle.spec_grammar.specs.declared.raw.RawNames.{RawNames}
 use Rattle.spec_grammar.specs.declared.raw.RawSort.{RawSort}
 use Rattle.spec_grammar.specs.declared.raw.RawFun.{RawFun}
+use Rattle.spec_grammar.specs.declared.raw.RawEqual.{RawEqual}
+use Rattle.spec_grammar.specs.declared.raw.RawStatus.{RawStatus}
 use Rattle.spec_grammar.specs.declared.raw.RawEq.{RawEq}
 use Rattle.spec_grammar.specs.declared.raw.RawGuard.{RawGuard}
 use Rattle.spec_grammar.specs.declared.raw.RawRule.{RawRule}
@@ -19,14 +21,15 @@ use Rattle.spec_grammar.specs.RawTree.{RawTree, RawTrees, word, none, some}
 use Rattle.spec_grammar.specs.FormatOne.{format_one}
 use Rattle.spec_grammar.specs.Items.{Item, Word, Sign, Number}
 use Rattle.spec_grammar.specs.Limits.{name_mark, sort_mark, constructor_mark, fun_mark, arity_mark, term_mark, rule_mark, guard_mark, goal_mark, variable_mark, premise_mark, conclusion_mark}
-use Rattle.spec_grammar.specs.Grammar.{Marked, sign, number, name_text, term_text, args_text, more_text, more_names_text, names_text, con_text, constructors_text, AreSorts, funs_text, guard_key, guards_text, sides_text, rules_text, commas_text, bars_text, conclusions_text, IsClause, bind_text, more_binds_text, binds_text, AreGoals, IsSpecText, IsTermText}
-use Rattle.spec_grammar.specs.Symbols.{Reaction, fail, key_code, react_args, react_more, react_names, react_more_names, react_bar, react_sorts, react_funs, react_rules, react_guards, react_goals, react_binds, react_more_binds, react_clause, react_tail, react_number, react_commas, react_bars, joined, feed, ends, Symbol, key, name, args, more, names, more_names, format, body, sorts, funs, rules, guards, goals, binds, more_binds, clause, tail, commas, conclusions, bars, pass, react, react_key, react_word, term_then, right_then, sides_then, bind_then, take, is_empty, spec_symbols, term_symbols}
+use Rattle.spec_grammar.specs.Grammar.{Marked, sign, number, name_text, term_text, args_text, more_text, more_names_text, names_text, con_text, constructors_text, AreSorts, funs_text, more_equal_text, AreEquals, numeral_text, more_numbers_text, AreStatuses, IsOrderText, IsFormat, guard_key, guards_text, sides_text, rules_text, commas_text, bars_text, conclusions_text, IsClause, bind_text, more_binds_text, binds_text, AreGoals, IsSpecText, IsTermText}
+use Rattle.spec_grammar.specs.Symbols.{Reaction, fail, key_code, react_args, react_more, react_names, react_more_names, react_bar, react_sorts, react_funs, react_equals, react_more_equal, react_statuses, react_more_numbers, react_rules, react_guards, react_goals, react_binds, react_more_binds, react_clause, react_tail, react_number, react_commas, react_bars, joined, feed, ends, Symbol, key, name, args, more, names, more_names, format, body, is_format, sorts, funs, equals, more_equal, statuses, numeral, more_numbers, rules, guards, goals, binds, more_binds, clause, tail, commas, conclusions, bars, pass, react, react_key, react_word, term_then, right_then, sides_then, bind_then, take, is_empty, spec_symbols, term_symbols}
 
--- the texts of the declarations of a format
-abbrev pub Declared : ℕ → List Marked → List Marked → Type 0
-Declared version w v =
-    (ss : List RawSort) × (fs : List RawFun) × (rs : List RawRule) × (gs : List RawGoal) × (u : List Marked)
-    × AreSorts version 0 0 ss w (funs_text version 0 fs (rules_text version 0 rs u)) × AreGoals 0 gs u v
+-- the declarations of a raw specification, before what stands behind them
+abbrev pub AreDeclarations : RawSpec → List Marked → List Marked → Type 0
+AreDeclarations raw w v = (order : List Marked) × (goals : List Marked)
+    × AreSorts raw.version 0 0 raw.sorts w (funs_text raw.version 0 raw.funs order)
+    × IsOrderText raw order (rules_text raw.version 0 raw.rules goals)
+    × AreGoals 0 raw.goals goals v
 
 -- the texts of a symbol, before what stands behind it
 abbrev pub Means : Symbol → List Marked → List Marked → Type 0
@@ -36,10 +39,16 @@ Means (args d) w v = (ts : RawTrees) × (w ≡ args_text d ts v)
 Means (more d n) w v = (ts : RawTrees) × (w ≡ more_text d n ts v)
 Means names w v = (xs : List RawName) × (w ≡ names_text xs v)
 Means (more_names n) w v = (xs : List RawName) × (w ≡ more_names_text n xs v)
-Means format w v = (u : List Marked) × (w ≡ number 1 ∷ u) × Declared 1 u v
+Means format w v = (raw : RawSpec) × (u : List Marked)
+    × (w ≡ number raw.version ∷ u) × AreDeclarations raw u v × IsFormat raw
 Means (sorts version n zero t) w v = (ss : List RawSort) × AreSorts version n t ss w v
 Means (sorts version n (suc k) t) w v = (cs : List RawNames) × (ss : List RawSort) × (u : List Marked) × (w ≡ constructors_text version (suc k) t cs u) × AreSorts version n (t + length cs) ss u v
 Means (funs version n) w v = (fs : List RawFun) × (w ≡ funs_text version n fs v)
+Means equals w v = (es : List RawEqual) × AreEquals es w v
+Means more_equal w v = (xs : List RawName) × (w ≡ more_equal_text xs v)
+Means statuses w v = (ss : List RawStatus) × AreStatuses ss w v
+Means (numeral m) w v = (i : ℕ) × (w ≡ numeral_text m i v)
+Means (more_numbers n) w v = (is : List ℕ) × (w ≡ more_numbers_text n is v)
 Means (rules version n) w v = (rs : List RawRule) × (w ≡ rules_text version n rs v)
 Means (guards n) w v = (gs : List RawGuard) × (w ≡ guards_text n gs v)
 Means (goals n) w v = (gs : List RawGoal) × AreGoals n gs w v
@@ -150,15 +159,126 @@ built_more_names : (n : ℕ) (w v : List Marked) → MeansTo (name (arity_mark n
 built_more_names n w v h =
     (h.1.0 ∷ h.2.1.0, ap (λ (x : List Marked). sign Comma ∷ x) (h.1.1 ∙ ap (name_text (arity_mark n) h.1.0) (h.2.1.1 ∙ ap (more_names_text (n + 1) h.2.1.0) h.2.2)))
 
-built_format : (w v : List Marked) → MeansTo (body 1) w v → Means format (number 1 ∷ w) v
-built_format w v h =
-    let fs = h.2.1 in
-    let rs = h.2.2.1 in
-    let gs = h.2.2.2.1 in
-    let behind = fs.1 ∙ ap (funs_text 1 0 fs.0) rs.1 in
-    let goals = subst (AreGoals 0 gs.0 h.2.2.0) h.2.2.2.2 gs.1 in
-    let sorts = subst (AreSorts 1 0 0 h.1.0 w) behind h.1.1 in
-    (w, refl, (h.1.0, fs.0, rs.0, gs.0, h.2.2.0, sorts, goals))
+-- the lines that order functions
+built_more_equal : (w v : List Marked)
+    → MeansTo (name None ∷ more_equal ∷ []) w v → Means more_equal (sign Comma ∷ w) v
+built_more_equal w v (u, (x, x_is), (t, (xs, xs_are), end)) =
+    (x ∷ xs, ap (λ y. sign Comma ∷ y) (x_is ∙ ap (name_text None x) (xs_are ∙ ap (more_equal_text xs) end)))
+
+built_equals : (w v : List Marked)
+    → MeansTo (name None ∷ key Comma ∷ name None ∷ more_equal ∷ equals ∷ []) w v
+    → Means equals (sign Equal ∷ w) v
+built_equals w v (u, (first, first_is), after_first) =
+    let k = key_then Comma (name None ∷ more_equal ∷ equals ∷ []) u v after_first in
+    let second = k.2.1 in
+    let others = k.2.2.1 in
+    let rest = k.2.2.0 in
+    let es = k.2.2.2.1 in
+    let made : RawEqual = record { names = first ∷ second.0 ∷ others.0 } in
+    let behind = k.1 ∙ ap (λ y. sign Comma ∷ y) (second.1 ∙ ap (name_text None second.0) others.1) in (
+      made ∷ es.0,
+      (
+        first,
+        second.0,
+        others.0,
+        rest,
+        refl,
+        ap (λ y. sign Equal ∷ y) (first_is ∙ ap (name_text None first) behind),
+        subst (AreEquals es.0 rest) k.2.2.2.2 es.1,
+      ),
+    )
+
+built_more_numbers : (n : ℕ) (w v : List Marked)
+    → MeansTo (numeral (arity_mark n) ∷ more_numbers (n + 1) ∷ []) w v
+    → Means (more_numbers n) (sign Comma ∷ w) v
+built_more_numbers n w v (u, (i, i_is), (t, (is, is_are), end)) = (
+  i ∷ is,
+  ap (λ y. sign Comma ∷ y)
+      (i_is ∙ ap (numeral_text (arity_mark n) i) (is_are ∙ ap (more_numbers_text (n + 1) is) end)),
+)
+
+built_statuses : (w v : List Marked)
+    → MeansTo (name None ∷ key LeftPar ∷ numeral (arity_mark 0) ∷ more_numbers 1
+    ∷ key RightPar ∷ statuses ∷ []) w v
+    → Means statuses (sign Status ∷ w) v
+built_statuses w v (u, (head, head_is), after_head) =
+    let inner = numeral (arity_mark 0) ∷ more_numbers 1 ∷ key RightPar ∷ statuses ∷ [] in
+    let k = key_then LeftPar inner u v after_head in
+    let first = k.2.1 in
+    let others = k.2.2.1 in
+    let c = key_then RightPar (statuses ∷ []) k.2.2.0 v k.2.2.2 in
+    let ss = c.2.1 in
+    let made : RawStatus = record { head = head; numbers = first.0 ∷ others.0 } in
+    let numbers = first.1
+    ∙ ap (numeral_text (arity_mark 0) first.0) (others.1 ∙ ap (more_numbers_text 1 others.0) c.1) in (
+      made ∷ ss.0,
+      (
+        first.0,
+        others.0,
+        c.0,
+        refl,
+        ap (λ y. sign Status ∷ y) (head_is ∙ ap (name_text None head) (k.1 ∙ ap (λ y. sign LeftPar ∷ y) numbers)),
+        subst (AreStatuses ss.0 c.0) c.2.2 ss.1,
+      ),
+    )
+
+-- the declarations of each format
+built_first : (w v : List Marked) → MeansTo (body 1) w v → Means format (number 1 ∷ w) v
+built_first w v (a, (ss, are_sorts), (b, (fs, funs_are), (c, (rs, rules_are), (d, (gs, are_goals), end)))) = (
+  format_one ss fs rs gs,
+  w,
+  refl,
+  (
+    b,
+    c,
+    subst (AreSorts 1 0 0 ss w) funs_are are_sorts,
+    (b, refl, rules_are),
+    subst (AreGoals 0 gs c) end are_goals,
+  ),
+  inl (refl, refl, refl),
+)
+
+built_second : (w v : List Marked) → MeansTo (body 2) w v → Means format (number 2 ∷ w) v
+built_second w v (a, (ss, are_sorts), (b, (fs, funs_are), (c, (es, are_equals), others))) =
+    let ts = others.1 in
+    let rs = others.2.1 in
+    let gs = others.2.2.1 in
+    let after_rules = others.2.0 in
+    let raw : RawSpec = record {
+      version = 2;
+      sorts = ss;
+      funs = fs;
+      equals = es;
+      statuses = ts.0;
+      rules = rs.0;
+      goals = gs.0;
+    } in (
+      raw,
+      w,
+      refl,
+      (
+        b,
+        after_rules,
+        subst (AreSorts 2 0 0 ss w) funs_are are_sorts,
+        (c, are_equals, subst (AreStatuses ts.0 c) rs.1 ts.1),
+        subst (AreGoals 0 gs.0 after_rules) others.2.2.2 gs.1,
+      ),
+      inr refl,
+    )
+
+built_format : (n : ℕ) (w v : List Marked) → (n ≡ 1) ⊎ (n ≡ 2)
+    → MeansTo (body n) w v → Means format (number n ∷ w) v
+built_format n w v (inl e) h =
+    subst (λ i. Means format (number i ∷ w) v) (sym e)
+    (built_first w v (subst (λ i. MeansTo (body i) w v) e h))
+built_format n w v (inr e) h =
+    subst (λ i. Means format (number i ∷ w) v) (sym e)
+    (built_second w v (subst (λ i. MeansTo (body i) w v) e h))
+
+-- there are two formats
+which_format : (n : ℕ) (b : Bool) → (n == 1) ≡ b → (b || (n == 2)) ≡ true → (n ≡ 1) ⊎ (n ≡ 2)
+which_format n true e h = inl (eqb-true n 1 e)
+which_format n false e h = inr (eqb-true n 2 h)
 
 built_bar : (version n k t : ℕ) (w v : List Marked) → MeansTo (name (constructor_mark version (suc k) t) ∷ names ∷ sorts version n (suc (suc k)) (t + 1) ∷ []) w v → Means (sorts version n (suc k) t) (sign Bar ∷ w) v
 built_bar version n k t w v h =
@@ -323,6 +443,29 @@ module _ (v : List Marked) where
   rules_mean version n Rule m ss w e h = takes (rules version n) (Sign Rule) (rule_mark version n) m _ ss w e h (λ u k. built_rules version n u v k)
   rules_mean version n _ m ss w e h = absurd (pass_take e)
 
+  equals_mean : (j : Key) (m : Option LimitKind) (ss : List Symbol) (w : List Marked)
+      → react_equals j ≡ take m ss → MeansTo ss w v → Means equals ((Sign j, m) ∷ w) v
+  equals_mean Equal m ss w e h = takes equals (Sign Equal) None m _ ss w e h (λ u k. built_equals u v k)
+  equals_mean _ m ss w e h = absurd (pass_take e)
+
+  more_equal_means : (j : Key) (m : Option LimitKind) (ss : List Symbol) (w : List Marked)
+      → react_more_equal j ≡ take m ss → MeansTo ss w v → Means more_equal ((Sign j, m) ∷ w) v
+  more_equal_means Comma m ss w e h =
+      takes more_equal (Sign Comma) None m _ ss w e h (λ u k. built_more_equal u v k)
+  more_equal_means _ m ss w e h = absurd (pass_take e)
+
+  statuses_mean : (j : Key) (m : Option LimitKind) (ss : List Symbol) (w : List Marked)
+      → react_statuses j ≡ take m ss → MeansTo ss w v → Means statuses ((Sign j, m) ∷ w) v
+  statuses_mean Status m ss w e h =
+      takes statuses (Sign Status) None m _ ss w e h (λ u k. built_statuses u v k)
+  statuses_mean _ m ss w e h = absurd (pass_take e)
+
+  more_numbers_mean : (n : ℕ) (j : Key) (m : Option LimitKind) (ss : List Symbol) (w : List Marked)
+      → react_more_numbers n j ≡ take m ss → MeansTo ss w v → Means (more_numbers n) ((Sign j, m) ∷ w) v
+  more_numbers_mean n Comma m ss w e h =
+      takes (more_numbers n) (Sign Comma) None m _ ss w e h (λ u k. built_more_numbers n u v k)
+  more_numbers_mean n _ m ss w e h = absurd (pass_take e)
+
   guards_mean : (n : ℕ) (j : Key) (m : Option LimitKind) (ss : List Symbol) (w : List Marked) → react_guards n j ≡ take m ss → MeansTo ss w v → Means (guards n) ((Sign j, m) ∷ w) v
   guards_mean n If m ss w e h = takes (guards n) (Sign If) (guard_mark n) m _ ss w e h (λ u k. built_guard n true u v k)
   guards_mean n Unless m ss w e h = takes (guards n) (Sign Unless) (guard_mark n) m _ ss w e h (λ u k. built_guard n false u v k)
@@ -369,6 +512,11 @@ module _ (v : List Marked) where
   key_means format j m ss w e h = absurd (fail_take e)
   key_means (sorts version n k t) j m ss w e h = sorts_mean version n k t j m ss w e h
   key_means (funs version n) j m ss w e h = funs_mean version n j m ss w e h
+  key_means equals j m ss w e h = equals_mean j m ss w e h
+  key_means more_equal j m ss w e h = more_equal_means j m ss w e h
+  key_means statuses j m ss w e h = statuses_mean j m ss w e h
+  key_means (numeral n) j m ss w e h = absurd (fail_take e)
+  key_means (more_numbers n) j m ss w e h = more_numbers_mean n j m ss w e h
   key_means (rules version n) j m ss w e h = rules_mean version n j m ss w e h
   key_means (guards n) j m ss w e h = guards_mean n j m ss w e h
   key_means (goals n) j m ss w e h = goals_mean n j m ss w e h
@@ -384,23 +532,25 @@ module _ (v : List Marked) where
   word_means (key k) b a m ss w e h = absurd (fail_take e)
   word_means (name n) b a m ss w e h = takes (name n) (Word b a) (name_mark b n) m [] ss w e h (λ u none. (record { name = b; at = a }, ap (λ (x : List Marked). (Word b a, name_mark b n) ∷ x) none))
   word_means format b a m ss w e h = absurd (fail_take e)
+  word_means (numeral n) b a m ss w e h = absurd (fail_take e)
   word_means clause b a m ss w e h = takes clause (Word b a) (name_mark b None) m _ ss w e h (λ u k. built_clause b a u v k)
   word_means (commas n) b a m ss w e h = absurd (fail_take e)
   word_means conclusions b a m ss w e h = takes conclusions (Word b a) (name_mark b None) m _ ss w e h (λ u k. built_conclusions b a u v k)
   word_means _ b a m ss w e h = absurd (pass_take e)
 
-  format_means : (n : ℕ) (b : Bool) (m : Option LimitKind) (ss : List Symbol) (w : List Marked) → (b ≡ true → n ≡ 1) → cond b (take None (body n)) fail ≡ take m ss → MeansTo ss w v → Means format ((Number n, m) ∷ w) v
-  format_means n true m ss w one e h =
-      let body_is : ss ≡ body 1 = sym (stacks e) ∙ ap body (one refl) in
-      let built = built_format w v (subst (λ (st : List Symbol). MeansTo st w v) body_is h) in
-      subst (λ (k : Option LimitKind). Means format ((Number n, k) ∷ w) v) (marks e)
-      (subst (λ (i : ℕ). Means format (number i ∷ w) v) (sym (one refl)) built)
-  format_means n false m ss w one e h = absurd (fail_take e)
+  format_means : (n : ℕ) (b : Bool) (m : Option LimitKind) (ss : List Symbol) (w : List Marked)
+      → (b ≡ true → (n ≡ 1) ⊎ (n ≡ 2)) → cond b (take None (body n)) fail ≡ take m ss
+      → MeansTo ss w v → Means format ((Number n, m) ∷ w) v
+  format_means n true m ss w known e h =
+      takes format (Number n) None m _ ss w e h (λ u k. built_format n u v (known refl) k)
+  format_means n false m ss w known e h = absurd (fail_take e)
 
   number_means : (s : Symbol) (n : ℕ) (m : Option LimitKind) (ss : List Symbol) (w : List Marked) → react_number s n ≡ take m ss → MeansTo ss w v → Means s ((Number n, m) ∷ w) v
   number_means (key k) n m ss w e h = absurd (fail_take e)
   number_means (name o) n m ss w e h = absurd (fail_take e)
-  number_means format n m ss w e h = format_means n (n == 1) m ss w (eqb-true n 1) e h
+  number_means format n m ss w e h = format_means n (is_format n) m ss w (which_format n (n == 1) refl) e h
+  number_means (numeral o) n m ss w e h =
+      takes (numeral o) (Number n) o m [] ss w e h (λ u none. (n, ap (λ y. (Number n, o) ∷ y) none))
   number_means clause n m ss w e h = absurd (fail_take e)
   number_means (commas k) n m ss w e h = absurd (fail_take e)
   number_means _ n m ss w e h = absurd (pass_take e)
@@ -422,6 +572,11 @@ empty_means format v e = absurd (let q : false ≡ true = e in cc)
 empty_means (sorts version n zero t) v e = ([], refl)
 empty_means (sorts version n (suc k) t) v e = ([], [], v, refl, refl)
 empty_means (funs version n) v e = ([], refl)
+empty_means equals v e = ([], refl)
+empty_means more_equal v e = ([], refl)
+empty_means statuses v e = ([], refl)
+empty_means (numeral m) v e = absurd (let q : false ≡ true = e in cc)
+empty_means (more_numbers n) v e = ([], refl)
 empty_means (rules version n) v e = ([], refl)
 empty_means (guards n) v e = ([], refl)
 empty_means (goals n) v e = ([], refl)
@@ -461,7 +616,10 @@ pass_empty (name m) (Sign j) e = absurd (fail_pass e)
 pass_empty (name m) (Number n) e = absurd (fail_pass e)
 pass_empty format (Word b a) e = absurd (fail_pass e)
 pass_empty format (Sign j) e = absurd (fail_pass e)
-pass_empty format (Number n) e = absurd (key_pass (n == 1) (body n) e)
+pass_empty format (Number n) e = absurd (key_pass (is_format n) (body n) e)
+pass_empty (numeral m) (Word b a) e = absurd (fail_pass e)
+pass_empty (numeral m) (Sign j) e = absurd (fail_pass e)
+pass_empty (numeral m) (Number n) e = absurd (take_pass e)
 pass_empty clause (Word b a) e = absurd (take_pass e)
 pass_empty clause (Sign j) e = absurd (clause_pass j e)
 pass_empty clause (Number n) e = absurd (fail_pass e)
@@ -474,7 +632,10 @@ pass_empty _ x e = refl
 least : (s : Symbol) (v : List Marked) → (w : List Marked) × Means s w v
 least (key k) v = (sign k ∷ v, (k, refl, refl))
 least (name m) v = (name_text m (record { name = []; at = 0 }) v, (record { name = []; at = 0 }, refl))
-least format v = (number 1 ∷ v, (v, refl, ([], [], [], [], v, refl, refl)))
+least format v =
+    let whole : AreDeclarations (format_one [] [] [] []) v v = (v, v, refl, (v, refl, refl), refl) in
+    (number 1 ∷ v, (format_one [] [] [] [], v, refl, whole, inl (refl, refl, refl)))
+least (numeral m) v = (numeral_text m 0 v, (0, refl))
 least clause v = (sign Arrow ∷ v, ([], [], inl refl))
 least (commas n) v = (sign Arrow ∷ v, ([], [], refl))
 least s v = (v, empty_means s v refl)
@@ -509,10 +670,13 @@ ends_mean (s ∷ st) h = let b = ends_step s st (is_empty s) refl h in ([], empt
 pub spec_means : (w : List Marked) → MeansTo spec_symbols w [] → (raw : RawSpec) × IsSpecText raw w
 spec_means w h =
     let a = key_then Spike (format ∷ []) w [] h in
-    let b = a.2.1 in
-    let d = subst (Declared 1 b.0) a.2.2 b.2 in
-    let raw : RawSpec = format_one d.0 d.1 d.2 d.3 in
-    (raw, (b.0, d.4, a.1 ∙ ap (λ (x : List Marked). sign Spike ∷ x) b.1, d.5, d.6, refl))
+    spec_of a.0 a.1 a.2
+  where
+    spec_of : (u : List Marked) → w ≡ sign Spike ∷ u → MeansTo (format ∷ []) u []
+        → (raw : RawSpec) × IsSpecText raw w
+    spec_of u begins (v, (raw, declarations, is, declared, known), end) =
+        let whole = subst (AreDeclarations raw declarations) end declared in
+        (raw, (declarations, whole.0, whole.1, begins ∙ ap (λ y. sign Spike ∷ y) is, whole.2, whole.3, whole.4, known))
 
 pub term_means : (w : List Marked) → MeansTo term_symbols w [] → (t : RawTree) × IsTermText t w
 term_means w h = let t = term_of 0 None [] w [] h in (t.0, t.2 ∙ ap (term_text 0 None t.0) t.3)

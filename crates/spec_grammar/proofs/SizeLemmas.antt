@@ -6,6 +6,8 @@ use Rattle.spec_grammar.specs.declared.raw.RawName.{RawName}
 use Rattle.spec_grammar.specs.declared.raw.RawNames.{RawNames}
 use Rattle.spec_grammar.specs.declared.raw.RawSort.{RawSort}
 use Rattle.spec_grammar.specs.declared.raw.RawFun.{RawFun}
+use Rattle.spec_grammar.specs.declared.raw.RawEqual.{RawEqual}
+use Rattle.spec_grammar.specs.declared.raw.RawStatus.{RawStatus}
 use Rattle.spec_grammar.specs.declared.raw.RawEq.{RawEq}
 use Rattle.spec_grammar.specs.declared.raw.RawGuard.{RawGuard}
 use Rattle.spec_grammar.specs.declared.raw.RawRule.{RawRule}
@@ -15,7 +17,7 @@ use Rattle.spec_grammar.specs.declared.raw.RawSpec.{RawSpec}
 use Rattle.spec_grammar.specs.declared.keys.Key.TheVariants.{Equals, Colon, Arrow, RightPar}
 use Rattle.spec_grammar.specs.RawTree.{RawTree, RawTrees, word, none, some}
 use Rattle.spec_grammar.specs.Limits.{term_mark, premise_mark, conclusion_mark}
-use Rattle.spec_grammar.specs.Grammar.{Marked, sign, name_text, term_text, args_text, more_text, more_names_text, names_text, constructors_text, AreSorts, funs_text, guards_text, sides_text, rules_text, commas_text, premises_text, bars_text, conclusions_text, IsClause, more_binds_text, binds_text, AreGoals, IsSpecText}
+use Rattle.spec_grammar.specs.Grammar.{Marked, sign, name_text, term_text, args_text, more_text, more_names_text, names_text, constructors_text, AreSorts, funs_text, more_equal_text, AreEquals, more_numbers_text, AreStatuses, IsOrderText, guards_text, sides_text, rules_text, commas_text, premises_text, bars_text, conclusions_text, IsClause, more_binds_text, binds_text, AreGoals, IsSpecText}
 use Rattle.spec_grammar.specs.Sizes.{words, words_all, EquationHasFewWords, RuleHasFewWords, GoalHasFewWords, HasFewWords}
 
 mutual
@@ -161,14 +163,42 @@ sorts_len version n t (s ∷ ss) w v h =
     let first = names_len h.0.args (constructors_text version 1 (t + 1) h.1 h.2) in
     omega (arith, rest, cons, first, ap (λ (x : List Marked). length x) h.4)
 
+-- the lines that order functions
+more_equal_len : (xs : List RawName) (v : List Marked) → length v ≤ length (more_equal_text xs v)
+more_equal_len [] v = omega arith
+more_equal_len (x ∷ xs) v = omega (arith, more_equal_len xs v)
+
+equals_len : (es : List RawEqual) (w v : List Marked) → AreEquals es w v → length v ≤ length w
+equals_len [] w v is = omega (arith, ap (λ (x : List Marked). length x) is)
+equals_len (e ∷ es) w v (first, second, others, after, listed, is, rest) =
+    omega (arith, equals_len es after v rest, more_equal_len others after, ap (λ (x : List Marked). length x) is)
+
+more_numbers_len : (n : ℕ) (is : List ℕ) (v : List Marked) → length v ≤ length (more_numbers_text n is v)
+more_numbers_len n [] v = omega arith
+more_numbers_len n (i ∷ is) v = omega (arith, more_numbers_len (n + 1) is v)
+
+statuses_len : (ss : List RawStatus) (w v : List Marked) → AreStatuses ss w v → length v ≤ length w
+statuses_len [] w v is = omega (arith, ap (λ (x : List Marked). length x) is)
+statuses_len (s ∷ ss) w v (first, others, after, listed, is, rest) =
+    let numbers = more_numbers_len 1 others (sign RightPar ∷ after) in
+    omega (arith, statuses_len ss after v rest, numbers, ap (λ (x : List Marked). length x) is)
+
+order_len : (raw : RawSpec) (w v : List Marked) → IsOrderText raw w v → length v ≤ length w
+order_len raw w v (after, are_equals, are_statuses) =
+    omega (arith, equals_len raw.equals w after are_equals, statuses_len raw.statuses after v are_statuses)
+
 pub spec_words : (raw : RawSpec) (w : List Marked) → IsSpecText raw w → HasFewWords (length w) raw
-spec_words raw w h =
-    let whole = ap (λ (x : List Marked). length x) h.2 in
-    let sorted = sorts_len raw.version 0 0 raw.sorts h.0 (funs_text raw.version 0 raw.funs (rules_text raw.version 0 raw.rules h.1)) h.3 in
-    let declared = funs_len raw.version 0 raw.funs (rules_text raw.version 0 raw.rules h.1) in
-    let ruled = rules_len raw.version 0 raw.rules h.1 in
-    let goals = goals_len 0 raw.goals h.1 [] h.4 in
-    (rules_more _ _ raw.rules (omega (arith, whole, sorted, declared)) ruled.1, goals_more _ _ raw.goals (omega (arith, whole, sorted, declared, ruled.0)) goals)
+spec_words raw w (sorts, order, goals_text, is, are_sorts, is_order, are_goals, known) =
+    let version = raw.version in
+    let whole = ap (λ (x : List Marked). length x) is in
+    let sorted = sorts_len version 0 0 raw.sorts sorts (funs_text version 0 raw.funs order) are_sorts in
+    let declared = funs_len version 0 raw.funs order in
+    let ordered = order_len raw order (rules_text version 0 raw.rules goals_text) is_order in
+    let ruled = rules_len version 0 raw.rules goals_text in
+    let goals = goals_len 0 raw.goals goals_text [] are_goals in (
+      rules_more _ _ raw.rules (omega (arith, whole, sorted, declared, ordered)) ruled.1,
+      goals_more _ _ raw.goals (omega (arith, whole, sorted, declared, ordered, ruled.0)) goals,
+    )
 
 pub few_more : (n k : ℕ) (raw : RawSpec) → n ≤ k → HasFewWords n raw → HasFewWords k raw
 few_more n k raw le h = (rules_more n k raw.rules le h.0, goals_more n k raw.goals le h.1)

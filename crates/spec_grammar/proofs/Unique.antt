@@ -3,12 +3,14 @@ use Rattle.std.proofs.Common.{◌≡◌, ◌≢◌, ℕ, ◌+◌, List, [], ◌�
 use Rattle.std.specs.Prelude.{◌==◌}
 use Rattle.std.proofs.lemmas.Bool.{eqb-false}
 use Rattle.spec_grammar.specs.declared.keys.Key.{Key}
-use Rattle.spec_grammar.specs.declared.keys.Key.TheVariants.{Sort, Fun, Rule, Goal, If, Unless, LeftPar, RightPar, Comma, Colon, Equals, Bar, Arrow}
+use Rattle.spec_grammar.specs.declared.keys.Key.TheVariants.{Sort, Fun, Rule, Goal, If, Unless, Equal, Status, LeftPar, RightPar, Comma, Colon, Equals, Bar, Arrow}
 use Rattle.spec_grammar.specs.declared.limits.LimitKind.{LimitKind}
 use Rattle.spec_grammar.specs.declared.raw.RawName.{RawName}
 use Rattle.spec_grammar.specs.declared.raw.RawNames.{RawNames}
 use Rattle.spec_grammar.specs.declared.raw.RawSort.{RawSort}
 use Rattle.spec_grammar.specs.declared.raw.RawFun.{RawFun}
+use Rattle.spec_grammar.specs.declared.raw.RawEqual.{RawEqual}
+use Rattle.spec_grammar.specs.declared.raw.RawStatus.{RawStatus}
 use Rattle.spec_grammar.specs.declared.raw.RawEq.{RawEq}
 use Rattle.spec_grammar.specs.declared.raw.RawGuard.{RawGuard}
 use Rattle.spec_grammar.specs.declared.raw.RawRule.{RawRule}
@@ -18,9 +20,9 @@ use Rattle.spec_grammar.specs.declared.raw.RawSpec.{RawSpec}
 use Rattle.spec_grammar.specs.RawTree.{RawTree, RawTrees, word, none, some}
 use Rattle.spec_grammar.specs.Items.{Item, Word, Sign, Number}
 use Rattle.spec_grammar.specs.Limits.{constructor_mark, arity_mark, term_mark, guard_mark, variable_mark, premise_mark, conclusion_mark}
-use Rattle.spec_grammar.specs.Grammar.{Marked, sign, name_text, term_text, args_text, more_text, more_names_text, names_text, con_text, constructors_text, AreSorts, funs_text, guard_key, guards_text, sides_text, rules_text, commas_text, premises_text, bars_text, conclusions_text, IsClause, bind_text, more_binds_text, binds_text, AreGoals, IsSpecText, IsTermText}
+use Rattle.spec_grammar.specs.Grammar.{Marked, sign, name_text, term_text, args_text, more_text, more_names_text, names_text, con_text, constructors_text, AreSorts, funs_text, more_equal_text, AreEquals, numeral_text, more_numbers_text, AreStatuses, IsOrderText, guard_key, guards_text, sides_text, rules_text, commas_text, premises_text, bars_text, conclusions_text, IsClause, bind_text, more_binds_text, binds_text, AreGoals, IsSpecText, IsTermText}
 use Rattle.spec_grammar.specs.Symbols.{key_code}
-use Rattle.spec_grammar.proofs.Agrees.{BeginsIn, HeadIn, head_goals, head_rules, head_funs, head_sorts, head_constructors, head_guards, head_bars}
+use Rattle.spec_grammar.proofs.Agrees.{BeginsIn, HeadIn, after_funs, after_sorts, head_statuses, head_equals, head_order, head_goals, head_rules, head_funs, head_sorts, head_constructors, head_guards, head_bars}
 
 heads : {x y : Marked} {xs ys : List Marked} → x ∷ xs ≡ y ∷ ys → x ≡ y
 heads e = cc
@@ -156,13 +158,13 @@ one_sides m l r p q u v hu hv e =
     (a.0, b.0, b.1)
 
 -- constructors and sorts
-no_names : (version i j : ℕ) (es : List RawNames) (w : List Marked) → HeadIn (Sort ∷ Fun ∷ Rule ∷ Goal ∷ []) w → Apart LeftPar (constructors_text version i j es w)
-no_names version i j es w h = apart_head LeftPar (Bar ∷ Sort ∷ Fun ∷ Rule ∷ Goal ∷ []) _ (refl, (refl, (refl, (refl, (refl, tt))))) (head_constructors version i j es w h)
+no_names : (version i j : ℕ) (es : List RawNames) (w : List Marked) → HeadIn (Sort ∷ after_sorts) w → Apart LeftPar (constructors_text version i j es w)
+no_names version i j es w h = apart_head LeftPar (Bar ∷ Sort ∷ after_sorts) _ (refl, (refl, (refl, (refl, (refl, (refl, (refl, tt))))))) (head_constructors version i j es w h)
 
-one_constructors : (version k t : ℕ) (cs ds : List RawNames) (u v : List Marked) → HeadIn (Sort ∷ Fun ∷ Rule ∷ Goal ∷ []) u → HeadIn (Sort ∷ Fun ∷ Rule ∷ Goal ∷ []) v → constructors_text version k t cs u ≡ constructors_text version k t ds v → (cs ≡ ds) × (u ≡ v)
+one_constructors : (version k t : ℕ) (cs ds : List RawNames) (u v : List Marked) → HeadIn (Sort ∷ after_sorts) u → HeadIn (Sort ∷ after_sorts) v → constructors_text version k t cs u ≡ constructors_text version k t ds v → (cs ≡ ds) × (u ≡ v)
 one_constructors version k t [] [] u v hu hv e = (refl, e)
-one_constructors version k t [] (d ∷ ds) u v hu hv e = absurd (apart_head Bar (Sort ∷ Fun ∷ Rule ∷ Goal ∷ []) u (refl, (refl, (refl, (refl, tt)))) hu None _ e)
-one_constructors version k t (c ∷ cs) [] u v hu hv e = absurd (apart_head Bar (Sort ∷ Fun ∷ Rule ∷ Goal ∷ []) v (refl, (refl, (refl, (refl, tt)))) hv None _ (sym e))
+one_constructors version k t [] (d ∷ ds) u v hu hv e = absurd (apart_head Bar (Sort ∷ after_sorts) u (refl, (refl, (refl, (refl, (refl, (refl, tt)))))) hu None _ e)
+one_constructors version k t (c ∷ cs) [] u v hu hv e = absurd (apart_head Bar (Sort ∷ after_sorts) v (refl, (refl, (refl, (refl, (refl, (refl, tt)))))) hv None _ (sym e))
 one_constructors version k t (c ∷ cs) (d ∷ ds) u v hu hv e =
     let a = one_con (constructor_mark version k t) c d _ _ (no_names version (k + 1) (t + 1) cs u hu) (no_names version (k + 1) (t + 1) ds v hv) (tails e) in
     let b = one_constructors version (k + 1) (t + 1) cs ds u v hu hv a.1 in
@@ -171,10 +173,10 @@ one_constructors version k t (c ∷ cs) (d ∷ ds) u v hu hv e =
 sort_is : (s r : RawSort) → s.head ≡ r.head → s.constructors ≡ r.constructors → s ≡ r
 sort_is s r a b = λ i. record { head = a i; constructors = b i }
 
-no_sort : (v : List Marked) → HeadIn (Fun ∷ Rule ∷ Goal ∷ []) v → Apart Sort v
-no_sort v h = apart_head Sort (Fun ∷ Rule ∷ Goal ∷ []) v (refl, (refl, (refl, tt))) h
+no_sort : (v : List Marked) → HeadIn after_sorts v → Apart Sort v
+no_sort v h = apart_head Sort after_sorts v (refl, (refl, (refl, (refl, (refl, tt))))) h
 
-one_sorts : (version n t : ℕ) (ss rs : List RawSort) (w u v : List Marked) → HeadIn (Fun ∷ Rule ∷ Goal ∷ []) u → HeadIn (Fun ∷ Rule ∷ Goal ∷ []) v → AreSorts version n t ss w u → AreSorts version n t rs w v → (ss ≡ rs) × (u ≡ v)
+one_sorts : (version n t : ℕ) (ss rs : List RawSort) (w u v : List Marked) → HeadIn after_sorts u → HeadIn after_sorts v → AreSorts version n t ss w u → AreSorts version n t rs w v → (ss ≡ rs) × (u ≡ v)
 one_sorts version n t [] [] w u v hu hv a b = (refl, sym a ∙ b)
 one_sorts version n t [] (r ∷ rs) w u v hu hv a b = absurd (no_sort u hu _ _ (sym a ∙ b.4))
 one_sorts version n t (s ∷ ss) [] w u v hu hv a b = absurd (no_sort v hv _ _ (sym b ∙ a.4))
@@ -193,10 +195,10 @@ one_sorts version n t (s ∷ ss) (r ∷ rs) w u v hu hv a b =
 fun_is : (f g : RawFun) → f.head ≡ g.head → f.result ≡ g.result → f ≡ g
 fun_is f g a b = λ i. record { head = a i; result = b i }
 
-no_fun : (v : List Marked) → HeadIn (Rule ∷ Goal ∷ []) v → Apart Fun v
-no_fun v h = apart_head Fun (Rule ∷ Goal ∷ []) v (refl, (refl, tt)) h
+no_fun : (v : List Marked) → HeadIn after_funs v → Apart Fun v
+no_fun v h = apart_head Fun after_funs v (refl, (refl, (refl, (refl, tt)))) h
 
-one_funs : (version n : ℕ) (fs gs : List RawFun) (u v : List Marked) → HeadIn (Rule ∷ Goal ∷ []) u → HeadIn (Rule ∷ Goal ∷ []) v → funs_text version n fs u ≡ funs_text version n gs v → (fs ≡ gs) × (u ≡ v)
+one_funs : (version n : ℕ) (fs gs : List RawFun) (u v : List Marked) → HeadIn after_funs u → HeadIn after_funs v → funs_text version n fs u ≡ funs_text version n gs v → (fs ≡ gs) × (u ≡ v)
 one_funs version n [] [] u v hu hv e = (refl, e)
 one_funs version n [] (g ∷ gs) u v hu hv e = absurd (no_fun u hu _ _ e)
 one_funs version n (f ∷ fs) [] u v hu hv e = absurd (no_fun v hv _ _ (sym e))
@@ -205,6 +207,92 @@ one_funs version n (f ∷ fs) (g ∷ gs) u v hu hv e =
     let result = one_name None f.result g.result _ _ (tails con.1) in
     let others = one_funs version (n + 1) fs gs u v hu hv result.1 in
     (both (fun_is f g con.0 result.0) others.0, others.1)
+
+-- the lines that order functions
+equal_is : (p q : RawEqual) → p.names ≡ q.names → p ≡ q
+equal_is p q a = λ i. record { names = a i }
+
+no_comma : (v : List Marked) → HeadIn after_funs v → Apart Comma v
+no_comma v h = apart_head Comma after_funs v (refl, (refl, (refl, (refl, tt)))) h
+
+one_more_equal : (xs ys : List RawName) (u v : List Marked) → HeadIn after_funs u → HeadIn after_funs v
+    → more_equal_text xs u ≡ more_equal_text ys v → (xs ≡ ys) × (u ≡ v)
+one_more_equal [] [] u v hu hv e = (refl, e)
+one_more_equal [] (y ∷ ys) u v hu hv e = absurd (no_comma u hu _ _ e)
+one_more_equal (x ∷ xs) [] u v hu hv e = absurd (no_comma v hv _ _ (sym e))
+one_more_equal (x ∷ xs) (y ∷ ys) u v hu hv e =
+    let a = one_name None x y _ _ (tails e) in
+    let b = one_more_equal xs ys u v hu hv a.1 in
+    (both a.0 b.0, b.1)
+
+no_equal : (v : List Marked) → HeadIn (Status ∷ Rule ∷ Goal ∷ []) v → Apart Equal v
+no_equal v h = apart_head Equal (Status ∷ Rule ∷ Goal ∷ []) v (refl, (refl, (refl, tt))) h
+
+one_equals : (ps qs : List RawEqual) (w u v : List Marked)
+    → HeadIn (Status ∷ Rule ∷ Goal ∷ []) u → HeadIn (Status ∷ Rule ∷ Goal ∷ []) v
+    → AreEquals ps w u → AreEquals qs w v → (ps ≡ qs) × (u ≡ v)
+one_equals [] [] w u v hu hv a b = (refl, sym a ∙ b)
+one_equals [] (q ∷ qs) w u v hu hv a (first, second, others, after, listed, is, rest) =
+    absurd (no_equal u hu _ _ (sym a ∙ is))
+one_equals (p ∷ ps) [] w u v hu hv (first, second, others, after, listed, is, rest) b =
+    absurd (no_equal v hv _ _ (sym b ∙ is))
+one_equals (p ∷ ps) (q ∷ qs) w u v hu hv (x, y, xs, a, a_listed, a_is, a_rest) (z, t, zs, b, b_listed, b_is, b_rest) =
+    let first = one_name None x z _ _ (tails (sym a_is ∙ b_is)) in
+    let head_a = head_equals ps a u hu a_rest in
+    let head_b = head_equals qs b v hv b_rest in
+    let others = one_more_equal (y ∷ xs) (t ∷ zs) a b head_a head_b first.1 in
+    let same = equal_is p q (a_listed ∙ both first.0 others.0 ∙ sym b_listed) in
+    let rest = one_equals ps qs a u v hu hv a_rest (subst (λ x. AreEquals qs x v) (sym others.1) b_rest) in
+    (both same rest.0, rest.1)
+
+status_is : (p q : RawStatus) → p.head ≡ q.head → p.numbers ≡ q.numbers → p ≡ q
+status_is p q a b = λ i. record { head = a i; numbers = b i }
+
+one_numeral : (m : Option LimitKind) (i j : ℕ) (u v : List Marked)
+    → numeral_text m i u ≡ numeral_text m j v → (i ≡ j) × (u ≡ v)
+one_numeral m i j u v e = (number_is (ap (λ (x : Marked). x.0) (heads e)), tails e)
+
+one_more_numbers : (n : ℕ) (is js : List ℕ) (u v : List Marked)
+    → more_numbers_text n is (sign RightPar ∷ u) ≡ more_numbers_text n js (sign RightPar ∷ v)
+    → (is ≡ js) × (u ≡ v)
+one_more_numbers n [] [] u v e = (refl, tails e)
+one_more_numbers n [] (j ∷ js) u v e = absurd (other RightPar Comma None None _ _ refl e)
+one_more_numbers n (i ∷ is) [] u v e = absurd (other Comma RightPar None None _ _ refl e)
+one_more_numbers n (i ∷ is) (j ∷ js) u v e =
+    let a = one_numeral (arity_mark n) i j _ _ (tails e) in
+    let b = one_more_numbers (n + 1) is js u v a.1 in
+    let first : i ≡ j = a.0 in
+    let others : is ≡ js = b.0 in
+    (both first others, b.1)
+
+no_status : (v : List Marked) → HeadIn (Rule ∷ Goal ∷ []) v → Apart Status v
+no_status v h = apart_head Status (Rule ∷ Goal ∷ []) v (refl, (refl, tt)) h
+
+one_statuses : (ps qs : List RawStatus) (w u v : List Marked)
+    → HeadIn (Rule ∷ Goal ∷ []) u → HeadIn (Rule ∷ Goal ∷ []) v
+    → AreStatuses ps w u → AreStatuses qs w v → (ps ≡ qs) × (u ≡ v)
+one_statuses [] [] w u v hu hv a b = (refl, sym a ∙ b)
+one_statuses [] (q ∷ qs) w u v hu hv a (first, others, after, listed, is, rest) =
+    absurd (no_status u hu _ _ (sym a ∙ is))
+one_statuses (p ∷ ps) [] w u v hu hv (first, others, after, listed, is, rest) b =
+    absurd (no_status v hv _ _ (sym b ∙ is))
+one_statuses (p ∷ ps) (q ∷ qs) w u v hu hv (i, is, a, a_listed, a_is, a_rest) (j, js, b, b_listed, b_is, b_rest) =
+    let head = one_name None p.head q.head _ _ (tails (sym a_is ∙ b_is)) in
+    let first = one_numeral (arity_mark 0) i j _ _ (tails head.1) in
+    let others = one_more_numbers 1 is js a b first.1 in
+    let same = status_is p q head.0 (a_listed ∙ both first.0 others.0 ∙ sym b_listed) in
+    let rest = one_statuses ps qs a u v hu hv a_rest (subst (λ x. AreStatuses qs x v) (sym others.1) b_rest) in
+    (both same rest.0, rest.1)
+
+one_order : (r q : RawSpec) (w u v : List Marked) → HeadIn (Rule ∷ Goal ∷ []) u → HeadIn (Rule ∷ Goal ∷ []) v
+    → IsOrderText r w u → IsOrderText q w v → (r.equals ≡ q.equals) × (r.statuses ≡ q.statuses) × (u ≡ v)
+one_order r q w u v hu hv (a, a_equals, a_statuses) (b, b_equals, b_statuses) =
+    let head_a = head_statuses r.statuses a u hu a_statuses in
+    let head_b = head_statuses q.statuses b v hv b_statuses in
+    let e = one_equals r.equals q.equals w a b head_a head_b a_equals b_equals in
+    let moved = subst (λ x. AreStatuses q.statuses x v) (sym e.1) b_statuses in
+    let s = one_statuses r.statuses q.statuses a u v hu hv a_statuses moved in
+    (e.0, s.0, s.1)
 
 -- rules
 guard_is : (g h : RawGuard) → g.test ≡ h.test → g.wanted ≡ h.wanted → g ≡ h
@@ -382,34 +470,38 @@ one_goals n (g ∷ gs) (h ∷ hs) w a b =
     let others = one_goals (n + 1) gs hs a.1 a.4 (subst (λ (x : List Marked). AreGoals (n + 1) hs x []) (sym body.2) b.4) in
     both (goal_is g h named.0 bound.0 body.0 body.1) others
 
-spec_is : (r q : RawSpec) → r.version ≡ q.version → r.sorts ≡ q.sorts → r.funs ≡ q.funs → r.rules ≡ q.rules → r.goals ≡ q.goals → r ≡ q
-spec_is r q n a b c d = λ i. record { version = n i; sorts = a i; funs = b i; rules = c i; goals = d i }
+spec_is : (r q : RawSpec) → r.version ≡ q.version → r.sorts ≡ q.sorts → r.funs ≡ q.funs → r.equals ≡ q.equals → r.statuses ≡ q.statuses → r.rules ≡ q.rules → r.goals ≡ q.goals → r ≡ q
+spec_is r q n a b e t c d = λ i. record { version = n i; sorts = a i; funs = b i; equals = e i; statuses = t i; rules = c i; goals = d i }
 
--- the declarations of a format, with goals before the end
-abbrev HasDeclarations : ℕ → RawSpec → List Marked → List Marked → Type 0
-HasDeclarations version raw sorts goals =
-    AreSorts version 0 0 raw.sorts sorts (funs_text version 0 raw.funs (rules_text version 0 raw.rules goals))
+-- the texts of the declarations of a format: its sorts and functions, and its lines that order these
+abbrev HasDeclarations : ℕ → RawSpec → List Marked → List Marked → List Marked → Type 0
+HasDeclarations version raw sorts order goals =
+    AreSorts version 0 0 raw.sorts sorts (funs_text version 0 raw.funs order)
+    × IsOrderText raw order (rules_text version 0 raw.rules goals)
 
 -- a text is that of one raw specification, and of one term, at most
 pub one_spec : (r q : RawSpec) (w : List Marked) → IsSpecText r w → IsSpecText q w → r ≡ q
-one_spec r q w a b =
+one_spec r q w (x, a, c, r_is, r_sorts, r_order, r_goals, r_known) (y, b, d, q_is, q_sorts, q_order, q_goals, q_known) =
     let version = r.version in
-    let behind = tails (sym a.2 ∙ b.2) in
+    let behind = tails (sym r_is ∙ q_is) in
     let n = number_is (ap (λ (x : Marked). x.0) (heads behind)) in
-    let e : a.0 ≡ b.0 = tails behind in
-    let there = subst (λ (k : ℕ). HasDeclarations k q b.0 b.1) (sym n) b.3 in
-    let here = subst (λ (x : List Marked). HasDeclarations version q x b.1) (sym e) there in
-    let ga = head_goals 0 r.goals a.1 a.4 in
-    let gb = head_goals 0 q.goals b.1 b.4 in
-    let ra = head_rules version 0 r.rules a.1 ga in
-    let rb = head_rules version 0 q.rules b.1 gb in
-    let fa = head_funs version 0 r.funs _ ra in
-    let fb = head_funs version 0 q.funs _ rb in
-    let s = one_sorts version 0 0 r.sorts q.sorts a.0 _ _ fa fb a.3 here in
-    let f = one_funs version 0 r.funs q.funs _ _ ra rb s.1 in
-    let u = one_rules version 0 r.rules q.rules a.1 b.1 ga gb f.1 in
-    let g = one_goals 0 r.goals q.goals a.1 a.4 (subst (λ (x : List Marked). AreGoals 0 q.goals x []) (sym u.1) b.4) in
-    spec_is r q n s.0 f.0 u.0 g
+    let e : x ≡ y = tails behind in
+    let declared = subst (λ k. HasDeclarations k q y b d) (sym n) (q_sorts, q_order) in
+    let here = subst (λ text. HasDeclarations version q text b d) (sym e) declared in
+    let rules_head = head_rules version 0 r.rules c (head_goals 0 r.goals c r_goals) in
+    let other_rules_head = head_rules version 0 q.rules d (head_goals 0 q.goals d q_goals) in
+    let order_head = head_order r a _ rules_head r_order in
+    let other_order_head = head_order q b _ other_rules_head here.1 in
+    let funs_head = head_funs version 0 r.funs a order_head in
+    let other_funs_head = head_funs version 0 q.funs b other_order_head in
+    let s = one_sorts version 0 0 r.sorts q.sorts x _ _ funs_head other_funs_head r_sorts here.0 in
+    let f = one_funs version 0 r.funs q.funs a b order_head other_order_head s.1 in
+    let moved = subst (λ text. IsOrderText q text (rules_text version 0 q.rules d)) (sym f.1) here.1 in
+    let o = one_order r q a _ _ rules_head other_rules_head r_order moved in
+    let u = one_rules version 0 r.rules q.rules c d (head_goals 0 r.goals c r_goals)
+    (head_goals 0 q.goals d q_goals) o.2 in
+    let g = one_goals 0 r.goals q.goals c r_goals (subst (λ text. AreGoals 0 q.goals text []) (sym u.1) q_goals) in
+    spec_is r q n s.0 f.0 o.0 o.1 u.0 g
 
 pub one_term_text : (s t : RawTree) (w : List Marked) → IsTermText s w → IsTermText t w → s ≡ t
 one_term_text s t w a b = (one_term 0 None s t [] [] (λ m v e. nil_cons e) (λ m v e. nil_cons e) (sym a ∙ b)).0

@@ -84,7 +84,8 @@ module _ {R : Type 0} (start : List Symbol) (IsText : R → List Marked → Type
       let s = means (clean done ++ ((x, m) ∷ w.0)) (reached_means done ((x, m) ∷ w.0) start end h (feed_means end x m next w.0 [] e w.1)) in
       (s.0, w.0, subst (IsText s.0) (sym (append_assoc (clean done) ((x, m) ∷ []) w.0)) s.1)
 
-  is_fault : (done left : List Item) (why : Option LimitKind) (end : List Symbol) → Reached start done end → AtFault end left why → run start (done ++ left) ≡ Some (length left, why) → IsFault IsText done left why
+  -- what stops the machine after these tokens is their fault
+  pub is_fault : (done left : List Item) (why : Option LimitKind) (end : List Symbol) → Reached start done end → AtFault end left why → run start (done ++ left) ≡ Some (length left, why) → IsFault IsText done left why
   is_fault done [] None end h a r =
       (begins done end h, λ q w t e. no_end done start w (agrees q w t) e (subst (λ (xs : List Item). run start xs ≡ Some (0, None)) (append-nil done) r))
   is_fault done [] (Some why) end h a r = a

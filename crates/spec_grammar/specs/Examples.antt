@@ -1,8 +1,10 @@
 -- Small texts and faults.
-use Rattle.std.specs.Prelude.{◌≡◌, ℕ, zero, suc, List, [], ◌∷◌, Some, None, codes}
-use Rattle.spec_grammar.specs.declared.keys.Key.TheVariants.{Spike, Goal, LeftPar, RightPar, Comma, Colon, Equals, Arrow}
+use Rattle.std.specs.Prelude.{◌≡◌, ℕ, zero, suc, List, [], ◌∷◌, ◌++◌, Some, None, codes}
+use Rattle.spec_grammar.specs.declared.keys.Key.TheVariants.{Spike, Goal, Equal, Status, LeftPar, RightPar, Comma, Colon, Equals, Arrow}
 use Rattle.spec_grammar.specs.declared.limits.LimitKind.TheVariants as limit
 use Rattle.spec_grammar.specs.declared.raw.RawEq.{RawEq}
+use Rattle.spec_grammar.specs.declared.raw.RawEqual.{RawEqual}
+use Rattle.spec_grammar.specs.declared.raw.RawStatus.{RawStatus}
 use Rattle.spec_grammar.specs.declared.raw.RawGoal.{RawGoal}
 use Rattle.spec_grammar.specs.declared.raw.RawName.{RawName}
 use Rattle.spec_grammar.specs.declared.raw.RawSpec.{RawSpec}
@@ -47,11 +49,48 @@ goal_items clause = Sign Spike ∷ Number 1 ∷ Sign Goal ∷ Word (codes "g") 1
 abbrev pub equation_items : ℕ → ℕ → List Item
 equation_items x y = Word (codes "x") x ∷ Sign Equals ∷ Word (codes "y") y ∷ []
 
+-- `equal f, g` and `status h(2, 1)` at these places
+abbrev pub one_equal : RawEqual
+one_equal = record {
+  names = record { name = codes "f"; at = 14 } ∷ record { name = codes "g"; at = 17 } ∷ [];
+}
+
+abbrev pub equal_items : List Item
+equal_items = Sign Equal ∷ Word (codes "f") 14 ∷ Sign Comma ∷ Word (codes "g") 17 ∷ []
+
+abbrev pub one_status : RawStatus
+one_status = record { head = record { name = codes "h"; at = 26 }; numbers = 2 ∷ 1 ∷ [] }
+
+abbrev pub status_items : List Item
+status_items = Sign Status ∷ Word (codes "h") 26 ∷ Sign LeftPar ∷ Number 2 ∷ Sign Comma
+    ∷ Number 1 ∷ Sign RightPar ∷ []
+
+-- these lines alone, in format 2
+abbrev pub format_two : List RawEqual → List RawStatus → RawSpec
+format_two equals statuses = record {
+  version = 2;
+  sorts = [];
+  funs = [];
+  equals = equals;
+  statuses = statuses;
+  rules = [];
+  goals = [];
+}
+
 pub record WorkedExamples : Type 0 where
   -- the header alone
   pub header : Derives IsSpecText (Sign Spike ∷ Number 1 ∷ []) (format_one [] [] [] [])
-  -- format 1 is the only one
-  pub other_format : IsFault IsSpecText (Sign Spike ∷ []) (Number 2 ∷ []) None
+  pub header_of_format_two : Derives IsSpecText (Sign Spike ∷ Number 2 ∷ []) (format_two [] [])
+  -- there is no third format, and no function is ordered in the first
+  pub other_format : IsFault IsSpecText (Sign Spike ∷ []) (Number 3 ∷ []) None
+  -- two functions of one level, and an order of two arguments
+  pub ordered : Derives IsSpecText (Sign Spike ∷ Number 2 ∷ equal_items ++ status_items)
+      (format_two (one_equal ∷ []) (one_status ∷ []))
+  -- a line `equal` names two functions at least, and comes before each line `status`
+  pub one_name : IsFault IsSpecText
+      (Sign Spike ∷ Number 2 ∷ Sign Equal ∷ Word (codes "f") 14 ∷ []) [] None
+  pub equal_after_status :
+      IsFault IsSpecText (Sign Spike ∷ Number 2 ∷ status_items) equal_items None
   -- a conclusion without the arrow and with it, and no equation at all
   pub without_arrow :
       Derives IsSpecText (goal_items (equation_items 17 21)) (one_goal (equation 17 21 ∷ []))

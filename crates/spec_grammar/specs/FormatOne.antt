@@ -1,5 +1,5 @@
 -- Raw specifications of format 1.
-use Rattle.std.specs.Prelude.{List}
+use Rattle.std.specs.Prelude.{List, []}
 use Rattle.spec_grammar.specs.declared.raw.RawSort.{RawSort}
 use Rattle.spec_grammar.specs.declared.raw.RawFun.{RawFun}
 use Rattle.spec_grammar.specs.declared.raw.RawRule.{RawRule}
@@ -9,4 +9,12 @@ use Rattle.spec_grammar.specs.declared.raw.RawSpec.{RawSpec}
 -- the one with these declarations
 abbrev pub format_one : List RawSort → List RawFun → List RawRule → List RawGoal → RawSpec
 format_one sorts funs rules goals =
-    record { version = 1; sorts = sorts; funs = funs; rules = rules; goals = goals }
+    record {
+      version = 1;
+      sorts = sorts;
+      funs = funs;
+      equals = [];
+      statuses = [];
+      rules = rules;
+      goals = goals;
+    }

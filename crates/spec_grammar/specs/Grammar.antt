@@ -3,12 +3,14 @@
 -- many items stand before.
 use Rattle.std.specs.Prelude.{◌≡◌, ◌≢◌, ℕ, ◌+◌, ◌⊎◌, List, [], ◌∷◌, Option, None, Bool, true, false, length}
 use Rattle.spec_grammar.specs.declared.keys.Key.{Key}
-use Rattle.spec_grammar.specs.declared.keys.Key.TheVariants.{Spike, Sort, Fun, Rule, Goal, If, Unless, LeftPar, RightPar, Comma, Colon, Equals, Bar, Arrow}
+use Rattle.spec_grammar.specs.declared.keys.Key.TheVariants.{Spike, Sort, Fun, Rule, Goal, If, Unless, Equal, Status, LeftPar, RightPar, Comma, Colon, Equals, Bar, Arrow}
 use Rattle.spec_grammar.specs.declared.limits.LimitKind.{LimitKind}
 use Rattle.spec_grammar.specs.declared.raw.RawName.{RawName}
 use Rattle.spec_grammar.specs.declared.raw.RawNames.{RawNames}
 use Rattle.spec_grammar.specs.declared.raw.RawSort.{RawSort}
 use Rattle.spec_grammar.specs.declared.raw.RawFun.{RawFun}
+use Rattle.spec_grammar.specs.declared.raw.RawEqual.{RawEqual}
+use Rattle.spec_grammar.specs.declared.raw.RawStatus.{RawStatus}
 use Rattle.spec_grammar.specs.declared.raw.RawEq.{RawEq}
 use Rattle.spec_grammar.specs.declared.raw.RawGuard.{RawGuard}
 use Rattle.spec_grammar.specs.declared.raw.RawRule.{RawRule}
@@ -84,6 +86,41 @@ funs_text version n [] rest = rest
 funs_text version n (f ∷ fs) rest = (Sign Fun, fun_mark version n)
     ∷ con_text None f.head (sign Colon ∷ name_text None f.result (funs_text version (n + 1) fs rest))
 
+-- equal = "equal" NAME "," NAME {"," NAME}
+abbrev pub more_equal_text : List RawName → List Marked → List Marked
+more_equal_text [] rest = rest
+more_equal_text (x ∷ xs) rest = sign Comma ∷ name_text None x (more_equal_text xs rest)
+
+abbrev pub AreEquals : List RawEqual → List Marked → List Marked → Type 0
+AreEquals [] text rest = text ≡ rest
+AreEquals (e ∷ es) text rest =
+    (first : RawName) × (second : RawName) × (others : List RawName) × (after : List Marked)
+    × (e.names ≡ first ∷ second ∷ others)
+    × (text ≡ sign Equal ∷ name_text None first (more_equal_text (second ∷ others) after))
+    × AreEquals es after rest
+
+-- status = "status" NAME "(" NUMBER {"," NUMBER} ")"
+abbrev pub numeral_text : Option LimitKind → ℕ → List Marked → List Marked
+numeral_text mark i rest = (Number i, mark) ∷ rest
+
+abbrev pub more_numbers_text : ℕ → List ℕ → List Marked → List Marked
+more_numbers_text n [] rest = rest
+more_numbers_text n (i ∷ is) rest =
+    sign Comma ∷ numeral_text (arity_mark n) i (more_numbers_text (n + 1) is rest)
+
+abbrev pub AreStatuses : List RawStatus → List Marked → List Marked → Type 0
+AreStatuses [] text rest = text ≡ rest
+AreStatuses (s ∷ ss) text rest =
+    (first : ℕ) × (others : List ℕ) × (after : List Marked) × (s.numbers ≡ first ∷ others)
+    × (text ≡ sign Status ∷ name_text None s.head (sign LeftPar
+    ∷ numeral_text (arity_mark 0) first (more_numbers_text 1 others (sign RightPar ∷ after))))
+    × AreStatuses ss after rest
+
+-- how the functions are ordered: {equal} {status}
+abbrev pub IsOrderText : RawSpec → List Marked → List Marked → Type 0
+IsOrderText raw text rest = (statuses : List Marked)
+    × AreEquals raw.equals text statuses × AreStatuses raw.statuses statuses rest
+
 -- rule = "rule" term "=" term {("if" | "unless") term}
 abbrev pub guard_key : Bool → Key
 guard_key true = If
@@ -151,21 +188,19 @@ AreGoals n (g ∷ gs) text rest =
     ∷ name_text None g.head (binds_text g.binds (sign Colon ∷ clause)))
     × IsClause g.premises g.conclusions clause after × AreGoals (n + 1) gs after rest
 
--- the raw specification is one of a format that there is
+-- format 1 has no line that orders functions
 abbrev pub IsFormat : RawSpec → Type 0
-IsFormat raw = raw.version ≡ 1
-
--- the functions, and the rules that define them
-abbrev pub definitions_text : RawSpec → List Marked → List Marked
-definitions_text raw rest =
-    funs_text raw.version 0 raw.funs (rules_text raw.version 0 raw.rules rest)
+IsFormat raw =
+    ((raw.version ≡ 1) × (raw.equals ≡ []) × (raw.statuses ≡ [])) ⊎ (raw.version ≡ 2)
 
 -- file = "spike" "1" {sort} {fun} {rule} {goal}
+--      | "spike" "2" {sort} {fun} {equal} {status} {rule} {goal}
 abbrev pub IsSpecText : RawSpec → List Marked → Type 0
 IsSpecText raw text =
-    (sorts : List Marked) × (goals : List Marked)
+    (sorts : List Marked) × (order : List Marked) × (goals : List Marked)
     × (text ≡ sign Spike ∷ number raw.version ∷ sorts)
-    × AreSorts raw.version 0 0 raw.sorts sorts (definitions_text raw goals)
+    × AreSorts raw.version 0 0 raw.sorts sorts (funs_text raw.version 0 raw.funs order)
+    × IsOrderText raw order (rules_text raw.version 0 raw.rules goals)
     × AreGoals 0 raw.goals goals [] × IsFormat raw
 
 -- one term alone

@@ -5,6 +5,8 @@ use Rattle.spec_grammar.specs.declared.raw.RawName.{RawName}
 use Rattle.spec_grammar.specs.declared.raw.RawNames.{RawNames}
 use Rattle.spec_grammar.specs.declared.raw.RawSort.{RawSort}
 use Rattle.spec_grammar.specs.declared.raw.RawFun.{RawFun}
+use Rattle.spec_grammar.specs.declared.raw.RawEqual.{RawEqual}
+use Rattle.spec_grammar.specs.declared.raw.RawStatus.{RawStatus}
 use Rattle.spec_grammar.specs.declared.raw.RawEq.{RawEq}
 use Rattle.spec_grammar.specs.declared.raw.RawGuard.{RawGuard}
 use Rattle.spec_grammar.specs.declared.raw.RawRule.{RawRule}
@@ -64,6 +66,14 @@ pub record FunctionKeepsLimits (f : RawFun) : Type 0 where
   pub head : NamesKeepLimits f.head
   pub result : NameKeepsLimits f.result
 
+-- functions of one level
+abbrev pub EqualKeepsLimits : RawEqual → Type 0
+EqualKeepsLimits e = AllByRecursion NameKeepsLimits e.names
+
+-- an order of few enough arguments
+abbrev pub StatusKeepsLimits : RawStatus → Type 0
+StatusKeepsLimits s = NameKeepsLimits s.head × (length s.numbers ≤ 8)
+
 -- a rule of few enough guards
 pub record RuleKeepsLimits (r : RawRule) : Type 0 where
   pub left : TermKeepsLimits r.left
@@ -97,6 +107,8 @@ pub record KeepsLimits (raw : RawSpec) : Type 0 where
   pub sorts : AllByRecursion SortKeepsLimits raw.sorts
   pub few_functions : length raw.funs ≤ most_functions raw.version
   pub functions : AllByRecursion FunctionKeepsLimits raw.funs
+  pub equals : AllByRecursion EqualKeepsLimits raw.equals
+  pub statuses : AllByRecursion StatusKeepsLimits raw.statuses
   pub few_rules : length raw.rules ≤ most_rules raw.version
   pub rules : AllByRecursion RuleKeepsLimits raw.rules
   pub few_goals : length raw.goals ≤ 200

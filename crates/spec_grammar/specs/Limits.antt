@@ -1,5 +1,6 @@
 -- The limits of the grammar. Each says which limit a token passes, if any.
-use Rattle.std.specs.Prelude.{ℕ, List, Option, Some, None, nat_le, ◌==◌, length, codes, if◌then◌else◌}
+use Rattle.std.specs.Prelude.{ℕ, List, Option, Some, None, nat_le, ◌==◌, length, take, codes, if◌then◌else◌}
+use Rattle.std.specs.Str.{bytes_eq}
 use Rattle.spec_grammar.specs.declared.limits.LimitKind.{LimitKind}
 use Rattle.spec_grammar.specs.declared.limits.LimitKind.TheVariants as limit
 
@@ -12,6 +13,10 @@ most_functions version = if version == 2 then 1000 else 500
 
 abbrev pub most_rules : ℕ → ℕ
 most_rules version = if version == 2 then 4000 else 1000
+
+-- the most bytes of a file, by how it begins
+abbrev pub file_limit : List ℕ → ℕ
+file_limit bytes = if bytes_eq (take 7 bytes) (codes "spike 2") then 4194304 else 1048576
 
 -- the item of this number, from 0, of at most so many
 abbrev pub over : ℕ → ℕ → LimitKind → Option LimitKind

@@ -1,5 +1,5 @@
 -- The grammar as a stack of symbols, of which the first reacts to the next token.
-use Rattle.std.specs.Prelude.{ℕ, zero, suc, ◌+◌, List, [], ◌∷◌, ◌++◌, Option, Some, None, Bool, true, false, if◌then◌else◌, ◌==◌, length}
+use Rattle.std.specs.Prelude.{ℕ, zero, suc, ◌+◌, List, [], ◌∷◌, ◌++◌, Option, Some, None, Bool, true, false, ◌||◌, if◌then◌else◌, ◌==◌, length}
 use Rattle.spec_grammar.specs.declared.keys.Key.{Key}
 use Rattle.spec_grammar.specs.declared.keys.Key.TheVariants.{Spike, Sort, Fun, Rule, Goal, If, Unless, Equal, Status, Order, LeftPar, RightPar, Comma, Colon, Equals, Bar, Arrow, Stray}
 use Rattle.spec_grammar.specs.declared.limits.LimitKind.{LimitKind}
@@ -20,6 +20,11 @@ pub data Symbol : Type 0 where
   -- n sorts were read, the last one with k constructors, and t constructors in all
   sorts : ℕ → ℕ → ℕ → ℕ → Symbol
   funs : ℕ → ℕ → Symbol
+  equals : Symbol
+  more_equal : Symbol
+  statuses : Symbol
+  numeral : Option LimitKind → Symbol
+  more_numbers : ℕ → Symbol
   rules : ℕ → ℕ → Symbol
   guards : ℕ → Symbol
   goals : ℕ → Symbol
@@ -105,6 +110,23 @@ react_funs version n Fun = take (fun_mark version n)
     (name None ∷ names ∷ key Colon ∷ name None ∷ funs version (n + 1) ∷ [])
 react_funs version n _ = pass
 
+abbrev pub react_equals : Key → Reaction
+react_equals Equal = take None (name None ∷ key Comma ∷ name None ∷ more_equal ∷ equals ∷ [])
+react_equals _ = pass
+
+abbrev pub react_more_equal : Key → Reaction
+react_more_equal Comma = take None (name None ∷ more_equal ∷ [])
+react_more_equal _ = pass
+
+abbrev pub react_statuses : Key → Reaction
+react_statuses Status = take None (name None ∷ key LeftPar ∷ numeral (arity_mark 0)
+    ∷ more_numbers 1 ∷ key RightPar ∷ statuses ∷ [])
+react_statuses _ = pass
+
+abbrev pub react_more_numbers : ℕ → Key → Reaction
+react_more_numbers n Comma = take None (numeral (arity_mark n) ∷ more_numbers (n + 1) ∷ [])
+react_more_numbers n _ = pass
+
 abbrev pub react_rules : ℕ → ℕ → Key → Reaction
 react_rules version n Rule =
     take (rule_mark version n) (sides_then None (guards 0 ∷ rules version (n + 1) ∷ []))
@@ -158,6 +180,11 @@ react_key (more_names n) j = react_more_names n j
 react_key format j = fail
 react_key (sorts version n k t) j = react_sorts version n k t j
 react_key (funs version n) j = react_funs version n j
+react_key equals j = react_equals j
+react_key more_equal j = react_more_equal j
+react_key statuses j = react_statuses j
+react_key (numeral m) j = fail
+react_key (more_numbers n) j = react_more_numbers n j
 react_key (rules version n) j = react_rules version n j
 react_key (guards n) j = react_guards n j
 react_key (goals n) j = react_goals n j
@@ -174,19 +201,29 @@ abbrev pub react_word : Symbol → List ℕ → Reaction
 react_word (key k) b = fail
 react_word (name m) b = take (name_mark b m) []
 react_word format b = fail
+react_word (numeral m) b = fail
 react_word clause b = take (name_mark b None) (args 0 ∷ right_then (tail ∷ []))
 react_word (commas n) b = fail
 react_word conclusions b = take (name_mark b None) (args 0 ∷ right_then (bars 1 ∷ []))
 react_word _ b = pass
 
--- the declarations of a format
+-- the declarations of a format, of which only the second has lines that order functions
+abbrev pub order_then : Bool → List Symbol → List Symbol
+order_then true st = equals ∷ statuses ∷ st
+order_then false st = st
+
 abbrev pub body : ℕ → List Symbol
-body version = sorts version 0 0 0 ∷ funs version 0 ∷ rules version 0 ∷ goals 0 ∷ []
+body version =
+    sorts version 0 0 0 ∷ funs version 0 ∷ order_then (version == 2) (rules version 0 ∷ goals 0 ∷ [])
+
+abbrev pub is_format : ℕ → Bool
+is_format version = (version == 1) || (version == 2)
 
 abbrev pub react_number : Symbol → ℕ → Reaction
 react_number (key k) m = fail
 react_number (name mark) m = fail
-react_number format m = if m == 1 then take None (body m) else fail
+react_number format m = if is_format m then take None (body m) else fail
+react_number (numeral mark) m = take mark []
 react_number clause m = fail
 react_number (commas n) m = fail
 react_number _ m = pass
@@ -210,6 +247,7 @@ abbrev pub is_empty : Symbol → Bool
 is_empty (key k) = false
 is_empty (name m) = false
 is_empty format = false
+is_empty (numeral m) = false
 is_empty clause = false
 is_empty (commas n) = false
 is_empty _ = true

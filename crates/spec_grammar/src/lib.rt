@@ -20,10 +20,11 @@ pub use keys::Key;
 pub use laws::{one_reading, within_limits, worked_examples};
 pub use limits::{
     LimitKind, MAX_ARGUMENTS, MAX_CONCLUSIONS, MAX_DEPTH, MAX_FILE_BYTES, MAX_GOALS, MAX_GUARDS,
-    MAX_NAME_BYTES, MAX_PREMISES, MAX_SORT_CONSTRUCTORS, MAX_SORTS, MAX_VARIABLES,
+    MAX_NAME_BYTES, MAX_PREMISES, MAX_SORT_CONSTRUCTORS, MAX_SORTS, MAX_VARIABLES, file_limit,
     max_constructors, max_functions, max_rules,
 };
 pub use raw::{
-    RawBind, RawEq, RawFun, RawGoal, RawGuard, RawName, RawNames, RawRule, RawSort, RawSpec,
+    RawBind, RawEq, RawEqual, RawFun, RawGoal, RawGuard, RawName, RawNames, RawRule, RawSort,
+    RawSpec, RawStatus,
 };
 pub use terms::{RawTerm, RawTerms};

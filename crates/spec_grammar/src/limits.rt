@@ -1,10 +1,10 @@
 ghost use Rattle.std.specs.Prelude.{◌≡◌};
-ghost use Rattle.spec_grammar.specs.Limits.{most_constructors, most_functions, most_rules};
+ghost use Rattle.spec_grammar.specs.Limits.{file_limit as most_bytes, most_constructors, most_functions, most_rules};
 
 use std::fmt;
 
-/// The most bytes of a file that is read as a specification.
-pub const MAX_FILE_BYTES: usize = 1_048_576;
+/// The most bytes of a file of any format; [`file_limit`] has the limit of one file.
+pub const MAX_FILE_BYTES: usize = 4_194_304;
 
 /// The most bytes of a name.
 pub const MAX_NAME_BYTES: usize = 64;
@@ -55,6 +55,17 @@ pub fn max_rules(version: u32) -> usize
     ensures { result ≡ most_rules version }
 {
     if version == 2 { 4000 } else { 1000 }
+}
+
+/// The most bytes of a file that begins like this: more where it begins with `spike 2`.
+pub fn file_limit(bytes: &[u8]) -> usize
+    ensures { result ≡ most_bytes bytes.now }
+{
+    if bytes.starts_with(b"spike 2") {
+        MAX_FILE_BYTES
+    } else {
+        1_048_576
+    }
 }
 
 /// Which limit of the grammar a token passes.

@@ -30,6 +30,19 @@ pub struct RawFun {
     pub result: RawName,
 }
 
+/// `equal NAME, NAME`, whose names are functions of one level.
+#[derive(Drop)]
+pub struct RawEqual {
+    pub names: Seq<RawName>,
+}
+
+/// `status HEAD(2, 1)`: the numbers of the arguments, from 1, in the order in which they are compared.
+#[derive(Drop)]
+pub struct RawStatus {
+    pub head: RawName,
+    pub numbers: Seq<u32>,
+}
+
 /// `LEFT = RIGHT`
 #[derive(Drop)]
 pub struct RawEq {
@@ -74,6 +87,8 @@ pub struct RawSpec {
     pub version: u32,
     pub sorts: Seq<RawSort>,
     pub funs: Seq<RawFun>,
+    pub equals: Seq<RawEqual>,
+    pub statuses: Seq<RawStatus>,
     pub rules: Seq<RawRule>,
     pub goals: Seq<RawGoal>,
 }

@@ -11,14 +11,19 @@ use Rattle.spec_grammar.specs.declared.raw.RawSpec.{RawSpec}
 use Rattle.spec_grammar.specs.Items.{items_of}
 use Rattle.spec_grammar.specs.Grammar.{Marked, IsSpecText}
 use Rattle.spec_grammar.specs.Derives.{TextDerives, clean}
+use Rattle.spec_grammar.specs.Laws.{OneReading}
 use Rattle.spec_printing.specs.Printed.{printed}
+use Rattle.spec_printing.specs.ReadsBack.{PrintedReadsBack}
 use Rattle.spec_printing.specs.SamePlaces.{IsSameButPlaces}
 use Rattle.spec_printing.proofs.Plain.{AllGood, IsPlainText, plain_is_text, plain_text}
 use Rattle.spec_printing.proofs.Moved.{Moved, spec_moves}
 use Rattle.spec_printing.proofs.Pieces.{pieces, pieces_sound, pieces_moved, tokens_good}
 use Rattle.spec_printing.proofs.Shown.{printed_is}
+use Rattle.spec_printing.proofs.PrintedAgain.{printed_same}
 
-plain_reads_back : (raw : RawSpec) (w : List Marked) → IsPlainText raw w → AllGood w → (again : RawSpec) × TextDerives IsSpecText (printed raw) again × IsSameButPlaces again raw
+pub plain_reads_back :
+    (raw : RawSpec) (w : List Marked) → IsPlainText raw w → AllGood w →
+    (again : RawSpec) × TextDerives IsSpecText (printed raw) again × IsSameButPlaces again raw
 plain_reads_back raw w plain good =
     let ws : List Written = pieces true w in
     let text : List ℕ = written ws (codes "\n") in
@@ -33,4 +38,21 @@ pub reads_back : (bytes : List ℕ) (raw : RawSpec) → TextDerives IsSpecText b
 reads_back bytes raw h =
     let spans = spans_hold bytes h.0 h.1 in
     let plain = plain_text raw (clean (items_of bytes h.0)) h.2 (tokens_good bytes h.0 spans.spelled) in
-    plain_reads_back raw plain.0 plain.1 plain.2
+    plain_reads_back raw plain.plain plain.is plain.good
+
+-- there is one reading of what is printed
+module _ (reading : OneReading) where
+  same :
+      (bytes : List ℕ) (raw again : RawSpec) → TextDerives IsSpecText bytes raw →
+      TextDerives IsSpecText (printed raw) again → IsSameButPlaces again raw
+  same bytes raw again d p =
+      let back = reads_back bytes raw d in
+      let one = reading.one_spec (printed raw) back.0 again back.1 p in
+      subst (λ (r : RawSpec). IsSameButPlaces r raw) one back.2
+
+  pub printed_reads_back : PrintedReadsBack
+  printed_reads_back = record {
+    derives = λ bytes raw d. let back = reads_back bytes raw d in (back.0, back.1);
+    same = same;
+    printed_again = λ bytes raw again d p. printed_same again raw (same bytes raw again d p);
+  }

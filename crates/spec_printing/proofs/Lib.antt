@@ -1,6 +1,11 @@
 pub mod Texts
+pub mod Spellings
+pub mod Looser
 pub mod Plain
 pub mod Moved
 pub mod Pieces
 pub mod Shown
+pub mod PrintedAgain
 pub mod Again
+pub mod Short
+pub mod Upgrades

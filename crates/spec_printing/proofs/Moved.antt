@@ -1,14 +1,16 @@
 -- Marked tokens whose names stand at other places, and texts of such tokens.
-use Rattle.std.proofs.Common.{◌≡◌, ℕ, ◌+◌, List, [], ◌∷◌, Option, None, length, refl, ap, sym, subst, ◌∙◌}
+use Rattle.std.proofs.Common.{◌≡◌, ◌⊎◌, inl, inr, ℕ, ◌+◌, List, [], ◌∷◌, Option, None, length, refl, ap, sym, subst, ◌∙◌}
 use Rattle.std.specs.List.{AllZip}
 use Rattle.std.proofs.lemmas.List.Elements.{length_all_zip}
 use Rattle.spec_grammar.specs.declared.keys.Key.{Key}
-use Rattle.spec_grammar.specs.declared.keys.Key.TheVariants.{Spike, Sort, Fun, Rule, Goal, LeftPar, RightPar, Comma, Colon, Equals, Bar, Arrow}
+use Rattle.spec_grammar.specs.declared.keys.Key.TheVariants.{Spike, Sort, Fun, Equal, Status, Rule, Goal, LeftPar, RightPar, Comma, Colon, Equals, Bar, Arrow}
 use Rattle.spec_grammar.specs.declared.limits.LimitKind.{LimitKind}
 use Rattle.spec_grammar.specs.declared.raw.RawName.{RawName}
 use Rattle.spec_grammar.specs.declared.raw.RawNames.{RawNames}
 use Rattle.spec_grammar.specs.declared.raw.RawSort.{RawSort}
 use Rattle.spec_grammar.specs.declared.raw.RawFun.{RawFun}
+use Rattle.spec_grammar.specs.declared.raw.RawEqual.{RawEqual}
+use Rattle.spec_grammar.specs.declared.raw.RawStatus.{RawStatus}
 use Rattle.spec_grammar.specs.declared.raw.RawEq.{RawEq}
 use Rattle.spec_grammar.specs.declared.raw.RawGuard.{RawGuard}
 use Rattle.spec_grammar.specs.declared.raw.RawRule.{RawRule}
@@ -18,8 +20,8 @@ use Rattle.spec_grammar.specs.declared.raw.RawSpec.{RawSpec}
 use Rattle.spec_grammar.specs.RawTree.{RawTree, RawTrees, word, none, some}
 use Rattle.spec_grammar.specs.Items.{Item, Word, Sign, Number}
 use Rattle.spec_grammar.specs.Limits.{name_mark, sort_mark, constructor_mark, fun_mark, arity_mark, term_mark, rule_mark, guard_mark, goal_mark, variable_mark, premise_mark, conclusion_mark}
-use Rattle.spec_grammar.specs.Grammar.{Marked, sign, number, name_text, term_text, args_text, more_text, more_names_text, names_text, con_text, constructors_text, AreSorts, funs_text, guard_key, guards_text, sides_text, rules_text, commas_text, bars_text, bind_text, more_binds_text, binds_text}
-use Rattle.spec_printing.specs.SamePlaces.{SameName, SameNames, SameTerm, SameTerms, SameSort, SameFun, SameEquation, SameGuard, SameRule, SameBind, SameGoal, IsSameButPlaces}
+use Rattle.spec_grammar.specs.Grammar.{Marked, sign, number, name_text, term_text, args_text, more_text, more_names_text, names_text, con_text, constructors_text, AreSorts, funs_text, more_equal_text, AreEquals, numeral_text, more_numbers_text, AreStatuses, guard_key, guards_text, sides_text, rules_text, commas_text, bars_text, bind_text, more_binds_text, binds_text}
+use Rattle.spec_printing.specs.SamePlaces.{SameName, SameNames, SameTerm, SameTerms, SameSort, SameFun, SameEqual, SameStatus, SameEquation, SameGuard, SameRule, SameBind, SameGoal, IsSameButPlaces}
 use Rattle.spec_printing.proofs.Plain.{clause_text, goals_text, IsPlainText}
 
 -- one token, a name at any place, and then what follows
@@ -181,6 +183,91 @@ funs_moves version n (f ∷ fs) rest v h =
       whole = h.1 ∙ ap (λ (w : List Marked). (Sign Fun, fun_mark version n) ∷ w) (a.whole ∙ ap (con_text None a.it) (colon.1 ∙ ap (λ (w : List Marked). sign Colon ∷ w) (b.whole ∙ ap (name_text None b.it) c.whole)));
       same = ((a.same, b.same), c.same);
       moved = c.moved;
+    }
+
+-- how functions are ordered
+more_equal_moves : (xs : List RawName) (rest v : List Marked) → Moved (more_equal_text xs rest) v →
+    Moves more_equal_text (AllZip SameName) xs rest v
+more_equal_moves xs rest v h =
+    behind_moves Comma (λ n. more_equal_text) (λ n. name_text None) SameName (λ n w. refl) (λ n y ys w. refl)
+    (λ n. name_moves None) 0 xs rest v h
+
+-- The tokens begin with a text of equal lines that are the same apart from places.
+record EqualsMove (es : List RawEqual) (rest v : List Marked) : Type 0 where
+  it : List RawEqual
+  after : List Marked
+  whole : AreEquals it v after
+  same : AllZip SameEqual it es
+  moved : Moved rest after
+
+equals_move : (es : List RawEqual) (w rest v : List Marked) → AreEquals es w rest → Moved w v → EqualsMove es rest v
+equals_move [] w rest v e h =
+    record { it = []; after = v; whole = refl; same = tt; moved = subst (λ (x : List Marked). Moved x v) e h }
+equals_move (e ∷ es) w rest v a h =
+    let others : List Marked = more_equal_text a.2 a.3 in
+    let line : Moved (sign Equal ∷ name_text None a.0 (sign Comma ∷ name_text None a.1 others)) v =
+    subst (λ (x : List Marked). Moved x v) a.5 h in
+    let first = name_moves None a.0 (sign Comma ∷ name_text None a.1 others) line.0 line.2 in
+    let comma = first.moved in
+    let second = name_moves None a.1 others comma.0 comma.2 in
+    let more = more_equal_moves a.2 a.3 second.after second.moved in
+    let b = equals_move es a.3 rest more.after a.6 more.moved in
+    let names : List RawName = first.it ∷ second.it ∷ more.it in
+    let same : AllZip SameName names e.names =
+    subst (λ (xs : List RawName). AllZip SameName names xs) (sym a.4) (first.same, (second.same, more.same)) in
+    let whole : v ≡ sign Equal ∷ name_text None first.it (more_equal_text (second.it ∷ more.it) more.after) =
+    line.1 ∙ ap (λ (x : List Marked). sign Equal ∷ x) (first.whole ∙ ap (name_text None first.it)
+    (comma.1 ∙ ap (λ (x : List Marked). sign Comma ∷ x) (second.whole ∙ ap (name_text None second.it) more.whole))) in
+    record {
+      it = record { names = names } ∷ b.it;
+      after = b.after;
+      whole = (first.it, second.it, more.it, more.after, refl, whole, b.whole);
+      same = (same, b.same);
+      moved = b.moved;
+    }
+
+-- numbers have no places
+numbers_move : (n : ℕ) (is : List ℕ) (rest v : List Marked) → Moved (more_numbers_text n is rest) v →
+    (after : List Marked) × (v ≡ more_numbers_text n is after) × Moved rest after
+numbers_move n [] rest v h = (v, refl, h)
+numbers_move n (i ∷ is) rest v h =
+    let a = numbers_move (n + 1) is rest h.2.0 h.2.2 in
+    (a.0, h.1 ∙ ap (λ (w : List Marked). sign Comma ∷ w) (h.2.1 ∙ ap (numeral_text (arity_mark n) i) a.1), a.2)
+
+-- The tokens begin with a text of status lines that are the same apart from places.
+record StatusesMove (ss : List RawStatus) (rest v : List Marked) : Type 0 where
+  it : List RawStatus
+  after : List Marked
+  whole : AreStatuses it v after
+  same : AllZip SameStatus it ss
+  moved : Moved rest after
+
+statuses_move :
+    (ss : List RawStatus) (w rest v : List Marked) → AreStatuses ss w rest → Moved w v → StatusesMove ss rest v
+statuses_move [] w rest v e h =
+    record { it = []; after = v; whole = refl; same = tt; moved = subst (λ (x : List Marked). Moved x v) e h }
+statuses_move (s ∷ ss) w rest v a h =
+    let numbers : List Marked = numeral_text (arity_mark 0) a.0 (more_numbers_text 1 a.1 (sign RightPar ∷ a.2)) in
+    let line : Moved (sign Status ∷ name_text None s.head (sign LeftPar ∷ numbers)) v =
+    subst (λ (x : List Marked). Moved x v) a.4 h in
+    let head = name_moves None s.head (sign LeftPar ∷ numbers) line.0 line.2 in
+    let open_par = head.moved in
+    let first = open_par.2 in
+    let more = numbers_move 1 a.1 (sign RightPar ∷ a.2) first.0 first.2 in
+    let close = more.2 in
+    let b = statuses_move ss a.2 rest close.0 a.5 close.2 in
+    let inside : open_par.0 ≡ numeral_text (arity_mark 0) a.0 (more_numbers_text 1 a.1 (sign RightPar ∷ close.0)) =
+    first.1 ∙ ap (numeral_text (arity_mark 0) a.0) (more.1 ∙ ap (more_numbers_text 1 a.1) close.1) in
+    let whole : v ≡ sign Status ∷ name_text None head.it (sign LeftPar ∷ numeral_text (arity_mark 0) a.0
+    (more_numbers_text 1 a.1 (sign RightPar ∷ close.0))) =
+    line.1 ∙ ap (λ (x : List Marked). sign Status ∷ x) (head.whole ∙ ap (name_text None head.it)
+    (open_par.1 ∙ ap (λ (x : List Marked). sign LeftPar ∷ x) inside)) in
+    record {
+      it = record { head = head.it; numbers = a.0 ∷ a.1 } ∷ b.it;
+      after = b.after;
+      whole = (a.0, a.1, close.0, refl, whole, b.whole);
+      same = ((head.same, sym a.3), b.same);
+      moved = b.moved;
     }
 
 -- terms
@@ -368,6 +455,24 @@ goals_moves n (g ∷ gs) rest v h =
       moved = d.moved;
     }
 
+-- lists of as many elements are both empty
+as_empty : {X : Type 0} (Same : X → X → Type 0) (xs ys : List X) → AllZip Same xs ys → ys ≡ [] → xs ≡ []
+as_empty Same [] ys all e = refl
+as_empty Same (x ∷ xs) [] all e = absurd all
+as_empty Same (x ∷ xs) (y ∷ ys) all e = absurd (let bad : y ∷ ys ≡ [] = e in cc)
+
+-- the format of a raw specification has nothing to do with places
+abbrev HasFormat : ℕ → List RawEqual → List RawStatus → Type 0
+HasFormat version equals statuses =
+    ((version ≡ 1) × (equals ≡ []) × (statuses ≡ [])) ⊎ (version ≡ 2)
+
+same_format :
+    (es fs : List RawEqual) (ss ts : List RawStatus) (version : ℕ) → AllZip SameEqual fs es → AllZip SameStatus ts ss →
+    HasFormat version es ss → HasFormat version fs ts
+same_format es fs ss ts version e s (inl one) =
+    inl (one.0, as_empty SameEqual fs es e one.1, as_empty SameStatus ts ss s one.2)
+same_format es fs ss ts version e s (inr two) = inr two
+
 -- tokens of a raw specification with names at other places are those of one that is the same apart from places
 pub spec_moves : (raw : RawSpec) (w v : List Marked) → IsPlainText raw w → Moved w v → (again : RawSpec) × IsPlainText again v × IsSameButPlaces again raw
 spec_moves raw w v p h =
@@ -376,17 +481,40 @@ spec_moves raw w v p h =
     let after = m.2 in
     let goals : List Marked = goals_text 0 raw.goals [] in
     let rules : List Marked = rules_text version 0 raw.rules goals in
-    let s = sorts_move version 0 0 raw.sorts p.sorts (funs_text version 0 raw.funs rules) after.0 p.are after.2 in
-    let f = funs_moves version 0 raw.funs rules s.after s.moved in
-    let r = rules_moves version 0 raw.rules goals f.after f.moved in
+    let s = sorts_move version 0 0 raw.sorts p.sorts (funs_text version 0 raw.funs p.order) after.0 p.are after.2 in
+    let f = funs_moves version 0 raw.funs p.order s.after s.moved in
+    let e = equals_move raw.equals p.order p.ordered.0 f.after p.ordered.1 f.moved in
+    let t = statuses_move raw.statuses p.ordered.0 rules e.after p.ordered.2 e.moved in
+    let r = rules_moves version 0 raw.rules goals t.after t.moved in
     let g = goals_moves 0 raw.goals [] r.after r.moved in
-    let rest : s.after ≡ funs_text version 0 f.it (rules_text version 0 r.it (goals_text 0 g.it [])) = f.whole ∙ ap (funs_text version 0 f.it) (r.whole ∙ ap (rules_text version 0 r.it) (g.whole ∙ ap (goals_text 0 g.it) g.moved)) in (
-      record { version = version; sorts = s.it; funs = f.it; rules = r.it; goals = g.it },
+    let rest : t.after ≡ rules_text version 0 r.it (goals_text 0 g.it []) =
+    r.whole ∙ ap (rules_text version 0 r.it) (g.whole ∙ ap (goals_text 0 g.it) g.moved) in
+    let statuses : AreStatuses t.it e.after (rules_text version 0 r.it (goals_text 0 g.it [])) =
+    subst (λ (x : List Marked). AreStatuses t.it e.after x) rest t.whole in (
+      record {
+        version = version;
+        sorts = s.it;
+        funs = f.it;
+        equals = e.it;
+        statuses = t.it;
+        rules = r.it;
+        goals = g.it;
+      },
       record {
         sorts = after.0;
+        order = f.after;
         whole = m.1 ∙ ap (λ (x : List Marked). sign Spike ∷ x) after.1;
-        format = p.format;
-        are = subst (λ (x : List Marked). AreSorts version 0 0 s.it after.0 x) rest s.whole;
+        are = subst (λ (x : List Marked). AreSorts version 0 0 s.it after.0 x) f.whole s.whole;
+        ordered = (e.after, e.whole, statuses);
+        format = same_format raw.equals e.it raw.statuses t.it version e.same t.same p.format;
       },
-      record { version = refl; sorts = s.same; funs = f.same; rules = r.same; goals = g.same },
+      record {
+        version = refl;
+        sorts = s.same;
+        funs = f.same;
+        equals = e.same;
+        statuses = t.same;
+        rules = r.same;
+        goals = g.same;
+      },
     )

@@ -2,7 +2,6 @@
 use Rattle.std.proofs.Common.{◌≡◌, ℕ, ◌+◌, ◌<◌, ◌^◌, List, [], ◌∷◌, ◌++◌, Bool, true, false, ◌&&◌, Option, Some, None, length, take, drop, refl, ap, sym, subst, ◌∙◌, append_assoc, length-append, arith, lit<}
 use Rattle.std.specs.Prelude.{◌==◌, ◌||◌, IsTrue, codes, nat_lt}
 use Rattle.std.specs.Char.{is_ascii_alphabetic, is_ascii_alphanumeric}
-use Rattle.std.specs.Fmt.{decimal}
 use Rattle.std.specs.List.{AllByRecursion}
 use Rattle.std.specs.Str.Parse.{AllDigits, digits_value}
 use Rattle.std.specs.Str.{chars, IsUtf8, IsAscii}
@@ -24,63 +23,13 @@ use Rattle.spec_text.proofs.WrittenLemmas.{word_sound, sign_sound, number_sound}
 use Rattle.spec_grammar.specs.declared.keys.Key.{Key}
 use Rattle.spec_grammar.specs.declared.keys.Key.TheVariants.{Spike, Sort, Fun, Rule, Goal, If, Unless, Equal, Status, Order, LeftPar, RightPar, Comma, Colon, Equals, Bar, Arrow, Stray}
 use Rattle.spec_grammar.specs.declared.limits.LimitKind.{LimitKind}
-use Rattle.spec_grammar.specs.Items.{Item, Word, Sign, Number, reserved, key_of, key_or_name, item_as, items_of, text_of}
+use Rattle.spec_grammar.specs.Items.{Item, Word, Sign, Number, reserved, key_or_name, item_as, items_of, text_of}
 use Rattle.spec_grammar.specs.Grammar.{Marked}
 use Rattle.spec_grammar.specs.Derives.{clean}
+use Rattle.spec_printing.proofs.Spellings.{key_kind, key_text, item_kind, item_text}
 use Rattle.spec_printing.proofs.Plain.{IsGood, AllGood}
 use Rattle.spec_printing.proofs.Moved.{Step, Moved}
 use Rattle.spec_text.proofs.SpanLemmas.{and_parts}
-
--- how a key is written
-abbrev pub key_kind : Key → TokenKind
-key_kind LeftPar = kinds.LeftPar
-key_kind RightPar = kinds.RightPar
-key_kind Comma = kinds.Comma
-key_kind Colon = kinds.Colon
-key_kind Equals = kinds.Equals
-key_kind Bar = kinds.Bar
-key_kind Arrow = kinds.Arrow
-key_kind Spike = kinds.Word
-key_kind Sort = kinds.Word
-key_kind Fun = kinds.Word
-key_kind Rule = kinds.Word
-key_kind Goal = kinds.Word
-key_kind If = kinds.Word
-key_kind Unless = kinds.Word
-key_kind Equal = kinds.Word
-key_kind Status = kinds.Word
-key_kind Order = kinds.Word
-key_kind Stray = kinds.Word
-
-abbrev pub key_text : Key → List ℕ
-key_text Spike = codes "spike"
-key_text Sort = codes "sort"
-key_text Fun = codes "fun"
-key_text Rule = codes "rule"
-key_text Goal = codes "goal"
-key_text If = codes "if"
-key_text Unless = codes "unless"
-key_text Equal = codes "equal"
-key_text Status = codes "status"
-key_text Order = codes "order"
-key_text LeftPar = codes "("
-key_text RightPar = codes ")"
-key_text Comma = codes ","
-key_text Colon = codes ":"
-key_text Equals = codes "="
-key_text Bar = codes "|"
-key_text Arrow = codes "=>"
-key_text Stray = codes "_"
-
-abbrev pub item_kind : Item → TokenKind
-item_kind (Word name at) = kinds.Word
-item_kind (Sign key) = key_kind key
-item_kind (Number n) = kinds.Number n
-
-abbrev pub item_text : Item → List ℕ
-item_text (Word name at) = name
-item_text (Sign key) = key_text key
-item_text (Number n) = decimal n
 
 -- the gap before a key that doesn't stand behind `(`
 abbrev pub key_gap : Key → List ℕ
@@ -350,12 +299,18 @@ named_good : (key : Option Key) (name : List ℕ) (at : ℕ) → key ≡ reserve
 named_good (Some key) name at e u n = tt
 named_good None name at e u n = (u, n, sym e)
 
-token_good : (bytes : List ℕ) (token : Token) (kind : TokenKind) → IsUtf8 (text_of bytes token) → IsSpelling kind (chars (text_of bytes token)) → IsGood (item_as kind (text_of bytes token) token.at)
-token_good bytes token kinds.Word u s = named_good (reserved (text_of bytes token)) (text_of bytes token) token.at refl u s
-token_good bytes token (kinds.Number n) u s =
-    let cs = chars (text_of bytes token) in
+-- a number has six digits at most
+pub number_small : (n : ℕ) (cs : List ℕ) → IsSpelling (kinds.Number n) cs → n < 10 ^ 6
+number_small n cs s =
     let short : digits_value 10 cs < 10 ^ 6 = digits_value_short decimal_numerals cs 6 s.0.1 s.1 in
     omega (arith, s.2, short)
+
+token_good :
+    (bytes : List ℕ) (token : Token) (kind : TokenKind) → IsUtf8 (text_of bytes token) →
+    IsSpelling kind (chars (text_of bytes token)) → IsGood (item_as kind (text_of bytes token) token.at)
+token_good bytes token kinds.Word u s =
+    named_good (reserved (text_of bytes token)) (text_of bytes token) token.at refl u s
+token_good bytes token (kinds.Number n) u s = number_small n (chars (text_of bytes token)) s
 token_good bytes token kinds.LeftPar u s = tt
 token_good bytes token kinds.RightPar u s = tt
 token_good bytes token kinds.Comma u s = tt

@@ -1,14 +1,17 @@
 -- The text of a raw specification that the printed form has: no arrow where there are conclusions only. Its tokens are as
--- good as those of each other text of it.
-use Rattle.std.proofs.Common.{◌≡◌, ◌≢◌, inl, inr, ℕ, ◌+◌, ◌<◌, ◌^◌, List, [], ◌∷◌, Option, None, length, refl, sym, subst}
+-- good as those of each other text of it, and no longer, also in a format with looser limits.
+use Rattle.std.proofs.Common.{◌≡◌, ◌≢◌, inl, inr, ℕ, ◌+◌, ◌<◌, ◌≤◌, ◌^◌, List, [], ◌∷◌, Option, None, length, refl, sym, subst, arith}
+use Rattle.std.specs.Fmt.{decimal}
 use Rattle.std.specs.Str.{chars, IsUtf8}
 use Rattle.spec_text.specs.Names.{IsName}
-use Rattle.spec_grammar.specs.declared.keys.Key.TheVariants.{Spike, Sort, Goal, RightPar, Colon, Equals, Arrow}
+use Rattle.spec_grammar.specs.declared.keys.Key.TheVariants.{Spike, Sort, Equal, Status, Goal, LeftPar, RightPar, Colon, Equals, Arrow}
 use Rattle.spec_grammar.specs.declared.limits.LimitKind.{LimitKind}
 use Rattle.spec_grammar.specs.declared.raw.RawName.{RawName}
 use Rattle.spec_grammar.specs.declared.raw.RawNames.{RawNames}
 use Rattle.spec_grammar.specs.declared.raw.RawSort.{RawSort}
 use Rattle.spec_grammar.specs.declared.raw.RawFun.{RawFun}
+use Rattle.spec_grammar.specs.declared.raw.RawEqual.{RawEqual}
+use Rattle.spec_grammar.specs.declared.raw.RawStatus.{RawStatus}
 use Rattle.spec_grammar.specs.declared.raw.RawEq.{RawEq}
 use Rattle.spec_grammar.specs.declared.raw.RawGuard.{RawGuard}
 use Rattle.spec_grammar.specs.declared.raw.RawRule.{RawRule}
@@ -17,8 +20,10 @@ use Rattle.spec_grammar.specs.declared.raw.RawGoal.{RawGoal}
 use Rattle.spec_grammar.specs.declared.raw.RawSpec.{RawSpec}
 use Rattle.spec_grammar.specs.RawTree.{RawTree, RawTrees, word, none, some}
 use Rattle.spec_grammar.specs.Items.{Item, Word, Sign, Number, reserved}
-use Rattle.spec_grammar.specs.Limits.{sort_mark, constructor_mark, term_mark, goal_mark, premise_mark, conclusion_mark}
-use Rattle.spec_grammar.specs.Grammar.{Marked, sign, number, name_text, term_text, args_text, more_text, more_names_text, names_text, con_text, constructors_text, AreSorts, funs_text, guards_text, sides_text, rules_text, commas_text, premises_text, bars_text, conclusions_text, IsClause, more_binds_text, binds_text, AreGoals, IsFormat, definitions_text, IsSpecText}
+use Rattle.spec_grammar.specs.Limits.{sort_mark, constructor_mark, arity_mark, term_mark, goal_mark, premise_mark, conclusion_mark}
+use Rattle.spec_grammar.specs.Grammar.{Marked, sign, number, name_text, term_text, args_text, more_text, more_names_text, names_text, con_text, constructors_text, AreSorts, funs_text, more_equal_text, AreEquals, numeral_text, more_numbers_text, AreStatuses, IsOrderText, guards_text, sides_text, rules_text, commas_text, premises_text, bars_text, conclusions_text, IsClause, more_binds_text, binds_text, AreGoals, IsFormat, IsSpecText}
+use Rattle.spec_printing.proofs.Spellings.{item_text}
+use Rattle.spec_printing.proofs.Looser.{StaysClean, Looser, same_limits, named_clean}
 
 -- the clause, without an arrow where there are conclusions only
 abbrev pub clause_text : List RawEq → List RawEq → List Marked → List Marked
@@ -33,8 +38,10 @@ goals_text n (g ∷ gs) rest = (Sign Goal, goal_mark n) ∷ name_text None g.hea
 -- The tokens are the text of the raw specification that the printed form has.
 pub record IsPlainText (raw : RawSpec) (text : List Marked) : Type 0 where
   pub sorts : List Marked
+  pub order : List Marked
   pub whole : text ≡ sign Spike ∷ number raw.version ∷ sorts
-  pub are : AreSorts raw.version 0 0 raw.sorts sorts (definitions_text raw (goals_text 0 raw.goals []))
+  pub are : AreSorts raw.version 0 0 raw.sorts sorts (funs_text raw.version 0 raw.funs order)
+  pub ordered : IsOrderText raw order (rules_text raw.version 0 raw.rules (goals_text 0 raw.goals []))
   pub format : IsFormat raw
 
 -- a plain text is a text
@@ -50,7 +57,8 @@ goals_are n (g ∷ gs) rest =
     (clause_text g.premises g.conclusions later, later, refl, clause_is g.premises g.conclusions later, goals_are (n + 1) gs rest)
 
 pub plain_is_text : (raw : RawSpec) (text : List Marked) → IsPlainText raw text → IsSpecText raw text
-plain_is_text raw text p = (p.sorts, goals_text 0 raw.goals [], p.whole, p.are, goals_are 0 raw.goals [], p.format)
+plain_is_text raw text p =
+    (p.sorts, p.order, goals_text 0 raw.goals [], p.whole, p.are, p.ordered, goals_are 0 raw.goals [], p.format)
 
 -- names of UTF-8 that aren't reserved, and numbers of at most six digits
 abbrev pub IsGood : Item → Type 0
@@ -63,12 +71,26 @@ abbrev pub AllGood : List Marked → Type 0
 AllGood [] = Unit {0}
 AllGood (x ∷ w) = IsGood x.0 × (x.1 ≡ None) × AllGood w
 
--- The second tokens are good if the first are.
+-- the bytes of the tokens, with one more for each
+abbrev pub spaced_size : List Marked → ℕ
+spaced_size [] = 0
+spaced_size (x ∷ w) = 1 + length (item_text x.0) + spaced_size w
+
+-- The second tokens are good if the first are, and no longer.
 record Follows (text plain : List Marked) : Type 0 where
   good : AllGood text → AllGood plain
+  short : spaced_size plain ≤ spaced_size text
 
 behind : {x : Marked} {text plain : List Marked} → Follows text plain → Follows (x ∷ text) (x ∷ plain)
-behind f = record { good = λ h. (h.0, h.1, f.good h.2) }
+behind f = let short = f.short in record { good = λ h. (h.0, h.1, f.good h.2); short = omega (arith, short) }
+
+-- the same token with another mark
+marked :
+    {x : Item} {mark other : Option LimitKind} {text plain : List Marked} → StaysClean mark other → Follows text plain →
+    Follows ((x, mark) ∷ text) ((x, other) ∷ plain)
+marked clean f =
+    let short = f.short in
+    record { good = λ h. (h.0, clean h.1, f.good h.2); short = omega (arith, short) }
 
 -- the texts of each part before other tokens
 more_names_good : (n : ℕ) (xs : List RawName) (rest other : List Marked) → Follows rest other → Follows (more_names_text n xs rest) (more_names_text n xs other)
@@ -79,22 +101,51 @@ names_good : (xs : List RawName) (rest other : List Marked) → Follows rest oth
 names_good [] rest other f = f
 names_good (x ∷ xs) rest other f = behind (behind (more_names_good 1 xs (sign RightPar ∷ rest) (sign RightPar ∷ other) (behind f)))
 
-constructors_good : (version k t : ℕ) (cs : List RawNames) (rest other : List Marked) → Follows rest other → Follows (constructors_text version k t cs rest) (constructors_text version k t cs other)
-constructors_good version k t [] rest other f = f
-constructors_good version k t (c ∷ cs) rest other f = behind (behind (names_good c.args _ _ (constructors_good version (k + 1) (t + 1) cs rest other f)))
+con_good :
+    (mark other : Option LimitKind) (c : RawNames) (rest plain : List Marked) → StaysClean mark other →
+    Follows rest plain →
+    Follows (con_text mark c rest) (con_text other c plain)
+con_good mark other c rest plain clean f = marked (named_clean c.name mark other clean) (names_good c.args rest plain f)
 
-sorts_good : (version n t : ℕ) (ss : List RawSort) (text rest other : List Marked) → Follows rest other → AreSorts version n t ss text rest → (plain : List Marked) × AreSorts version n t ss plain other × Follows text plain
-sorts_good version n t [] text rest other f s = (other, refl, subst (λ (w : List Marked). Follows w other) (sym s) f)
-sorts_good version n t (s ∷ ss) text rest other f a =
-    let b = sorts_good version (n + 1) (t + 1 + length a.1) ss a.2 rest other f a.5 in
-    let plain : List Marked = (Sign Sort, sort_mark n) ∷ name_text None s.head (sign Equals ∷ con_text (constructor_mark version 0 t) a.0 (constructors_text version 1 (t + 1) a.1 b.0)) in
-    let good : Follows ((Sign Sort, sort_mark n) ∷ name_text None s.head (sign Equals ∷ con_text (constructor_mark version 0 t) a.0 (constructors_text version 1 (t + 1) a.1 a.2))) plain =
-    behind (behind (behind (behind (names_good a.0.args _ _ (constructors_good version 1 (t + 1) a.1 a.2 b.0 b.2))))) in
-    (plain, (a.0, a.1, b.0, a.3, refl, b.1), subst (λ (w : List Marked). Follows w plain) (sym a.4) good)
+more_equal_good : (xs : List RawName) (rest other : List Marked) → Follows rest other →
+    Follows (more_equal_text xs rest) (more_equal_text xs other)
+more_equal_good [] rest other f = f
+more_equal_good (x ∷ xs) rest other f = behind (behind (more_equal_good xs rest other f))
 
-funs_good : (version n : ℕ) (fs : List RawFun) (rest other : List Marked) → Follows rest other → Follows (funs_text version n fs rest) (funs_text version n fs other)
-funs_good version n [] rest other f = f
-funs_good version n (x ∷ fs) rest other f = behind (behind (names_good x.head.args _ _ (behind (behind (funs_good version (n + 1) fs rest other f)))))
+equals_good : (es : List RawEqual) (text rest other : List Marked) → Follows rest other → AreEquals es text rest →
+    (plain : List Marked) × AreEquals es plain other × Follows text plain
+equals_good [] text rest other f e = (other, refl, subst (λ (w : List Marked). Follows w other) (sym e) f)
+equals_good (e ∷ es) text rest other f a =
+    let b = equals_good es a.3 rest other f a.6 in
+    let plain : List Marked = sign Equal ∷ name_text None a.0 (more_equal_text (a.1 ∷ a.2) b.0) in
+    let good : Follows (sign Equal ∷ name_text None a.0 (more_equal_text (a.1 ∷ a.2) a.3)) plain =
+    behind (behind (more_equal_good (a.1 ∷ a.2) a.3 b.0 b.2)) in
+    (plain, (a.0, a.1, a.2, b.0, a.4, refl, b.1), subst (λ (w : List Marked). Follows w plain) (sym a.5) good)
+
+more_numbers_good : (n : ℕ) (is : List ℕ) (rest other : List Marked) → Follows rest other →
+    Follows (more_numbers_text n is rest) (more_numbers_text n is other)
+more_numbers_good n [] rest other f = f
+more_numbers_good n (i ∷ is) rest other f = behind (behind (more_numbers_good (n + 1) is rest other f))
+
+statuses_good : (ss : List RawStatus) (text rest other : List Marked) → Follows rest other → AreStatuses ss text rest →
+    (plain : List Marked) × AreStatuses ss plain other × Follows text plain
+statuses_good [] text rest other f e = (other, refl, subst (λ (w : List Marked). Follows w other) (sym e) f)
+statuses_good (s ∷ ss) text rest other f a =
+    let b = statuses_good ss a.2 rest other f a.5 in
+    let line : List Marked → List Marked = λ (w : List Marked).
+    sign Status ∷ name_text None s.head (sign LeftPar
+    ∷ numeral_text (arity_mark 0) a.0 (more_numbers_text 1 a.1 (sign RightPar ∷ w))) in
+    let good : Follows (line a.2) (line b.0) =
+    behind (behind (behind (behind
+    (more_numbers_good 1 a.1 (sign RightPar ∷ a.2) (sign RightPar ∷ b.0) (behind b.2))))) in
+    (line b.0, (a.0, a.1, b.0, a.3, refl, b.1), subst (λ (w : List Marked). Follows w (line b.0)) (sym a.4) good)
+
+order_good : (raw : RawSpec) (text rest other : List Marked) → Follows rest other → IsOrderText raw text rest →
+    (plain : List Marked) × IsOrderText raw plain other × Follows text plain
+order_good raw text rest other f a =
+    let s = statuses_good raw.statuses a.0 rest other f a.2 in
+    let e = equals_good raw.equals text a.0 s.0 s.2 a.1 in
+    (e.0, (s.0, e.1, s.1), e.2)
 
 mutual
   term_good : (d : ℕ) (mark : Option LimitKind) (t : RawTree) (rest other : List Marked) → Follows rest other → Follows (term_text d mark t rest) (term_text d mark t other)
@@ -115,9 +166,44 @@ guards_good : (n : ℕ) (gs : List RawGuard) (rest other : List Marked) → Foll
 guards_good n [] rest other f = f
 guards_good n (g ∷ gs) rest other f = behind (term_good 0 None g.test _ _ (guards_good (n + 1) gs rest other f))
 
-rules_good : (version n : ℕ) (rs : List RawRule) (rest other : List Marked) → Follows rest other → Follows (rules_text version n rs rest) (rules_text version n rs other)
-rules_good version n [] rest other f = f
-rules_good version n (r ∷ rs) rest other f = behind (sides_good None r.left r.right _ _ (guards_good 0 r.guards _ _ (rules_good version (n + 1) rs rest other f)))
+-- the texts whose limits depend on the format
+module _ (version later : ℕ) (looser : Looser version later) where
+  constructors_good : (k t : ℕ) (cs : List RawNames) (rest other : List Marked) → Follows rest other →
+      Follows (constructors_text version k t cs rest) (constructors_text later k t cs other)
+  constructors_good k t [] rest other f = f
+  constructors_good k t (c ∷ cs) rest other f =
+      behind (con_good (constructor_mark version k t) (constructor_mark later k t) c _ _ (looser.constructors k t)
+      (constructors_good (k + 1) (t + 1) cs rest other f))
+
+  sorts_good : (n t : ℕ) (ss : List RawSort) (text rest other : List Marked) → Follows rest other →
+      AreSorts version n t ss text rest → (plain : List Marked) × AreSorts later n t ss plain other × Follows text plain
+  sorts_good n t [] text rest other f s = (other, refl, subst (λ (w : List Marked). Follows w other) (sym s) f)
+  sorts_good n t (s ∷ ss) text rest other f a =
+      let b = sorts_good (n + 1) (t + 1 + length a.1) ss a.2 rest other f a.5 in
+      let line : ℕ → List Marked → List Marked = λ (v : ℕ) (w : List Marked).
+      (Sign Sort, sort_mark n) ∷ name_text None s.head
+      (sign Equals ∷ con_text (constructor_mark v 0 t) a.0 (constructors_text v 1 (t + 1) a.1 w)) in
+      let good : Follows (line version a.2) (line later b.0) =
+      behind (behind (behind (con_good (constructor_mark version 0 t) (constructor_mark later 0 t) a.0 _ _
+      (looser.constructors 0 t) (constructors_good 1 (t + 1) a.1 a.2 b.0 b.2)))) in (
+        line later b.0,
+        (a.0, a.1, b.0, a.3, refl, b.1),
+        subst (λ (w : List Marked). Follows w (line later b.0)) (sym a.4) good,
+      )
+
+  funs_good : (n : ℕ) (fs : List RawFun) (rest other : List Marked) → Follows rest other →
+      Follows (funs_text version n fs rest) (funs_text later n fs other)
+  funs_good n [] rest other f = f
+  funs_good n (x ∷ fs) rest other f =
+      marked (looser.functions n)
+      (behind (names_good x.head.args _ _ (behind (behind (funs_good (n + 1) fs rest other f)))))
+
+  rules_good : (n : ℕ) (rs : List RawRule) (rest other : List Marked) → Follows rest other →
+      Follows (rules_text version n rs rest) (rules_text later n rs other)
+  rules_good n [] rest other f = f
+  rules_good n (r ∷ rs) rest other f =
+      marked (looser.rules n)
+      (sides_good None r.left r.right _ _ (guards_good 0 r.guards _ _ (rules_good (n + 1) rs rest other f)))
 
 commas_good : (n : ℕ) (es : List RawEq) (rest other : List Marked) → Follows rest other → Follows (commas_text n es rest) (commas_text n es other)
 commas_good n [] rest other f = f
@@ -146,7 +232,10 @@ binds_good (b ∷ bs) rest other f = behind (behind (behind (behind (more_binds_
 -- a clause with the arrow, and a clause without it
 with_arrow : (ps cs : List RawEq) (rest other : List Marked) → Follows rest other → Follows (premises_text ps (sign Arrow ∷ conclusions_text cs rest)) (clause_text ps cs other)
 with_arrow [] [] rest other f = behind f
-with_arrow [] (c ∷ cs) rest other f = let k = conclusions_good (c ∷ cs) rest other f in record { good = λ h. k.good h.2 }
+with_arrow [] (c ∷ cs) rest other f =
+    let k = conclusions_good (c ∷ cs) rest other f in
+    let short = k.short in
+    record { good = λ h. k.good h.2; short = omega (arith, short) }
 with_arrow (p ∷ ps) cs rest other f = premises_good (p ∷ ps) _ _ (behind (conclusions_good cs rest other f))
 
 without_arrow : (cs : List RawEq) (rest other : List Marked) → cs ≢ [] → Follows rest other → Follows (conclusions_text cs rest) (clause_text [] cs other)
@@ -160,19 +249,48 @@ clause_good ps cs text rest other (inr h) f =
     subst (λ (ps : List RawEq). Follows text (clause_text ps cs other)) (sym h.0) k
 
 goals_good : (n : ℕ) (gs : List RawGoal) (text : List Marked) → AreGoals n gs text [] → Follows text (goals_text n gs [])
-goals_good n [] text e = subst (λ (w : List Marked). Follows w []) (sym e) (record { good = λ h. h })
+goals_good n [] text e =
+    subst (λ (w : List Marked). Follows w []) (sym e) (record { good = λ h. h; short = omega arith })
 goals_good n (g ∷ gs) text a =
     let later = goals_good (n + 1) gs a.1 a.4 in
     let clause = clause_good g.premises g.conclusions a.0 a.1 (goals_text (n + 1) gs []) a.3 later in
     subst (λ (w : List Marked). Follows w (goals_text n (g ∷ gs) [])) (sym a.2) (behind (behind (binds_good g.binds _ _ (behind clause))))
 
--- where there is a text of good tokens, the plain one is good
-pub plain_text : (raw : RawSpec) (text : List Marked) → IsSpecText raw text → AllGood text → (plain : List Marked) × IsPlainText raw plain × AllGood plain
-plain_text raw text h good =
+-- A plain text of the raw specification whose tokens are good and no longer than these.
+pub record HasPlainText (raw : RawSpec) (text : List Marked) : Type 0 where
+  pub plain : List Marked
+  pub is : IsPlainText raw plain
+  pub good : AllGood plain
+  pub short : spaced_size plain ≤ spaced_size text
+
+-- where there is a text of good tokens, there is a plain one in each format with looser limits and no longer number
+pub plain_text_in : (raw : RawSpec) (later : ℕ) (text : List Marked) → Looser raw.version later → later < 10 ^ 6 →
+    length (decimal later) ≤ length (decimal raw.version) → IsFormat (record raw { version = later }) →
+    IsSpecText raw text →
+    AllGood text → HasPlainText (record raw { version = later }) text
+plain_text_in raw later text looser small narrow format h good =
     let version = raw.version in
-    let rest : List Marked = definitions_text raw (goals_text 0 raw.goals []) in
-    let f : Follows (definitions_text raw h.1) rest = funs_good version 0 raw.funs _ _ (rules_good version 0 raw.rules _ _ (goals_good 0 raw.goals h.1 h.4)) in
-    let s = sorts_good version 0 0 raw.sorts h.0 _ rest f h.3 in
-    let plain : List Marked = sign Spike ∷ number version ∷ s.0 in
-    let whole : Follows (sign Spike ∷ number version ∷ h.0) plain = behind (behind s.2) in
-    (plain, record { sorts = s.0; whole = refl; are = s.1; format = h.5 }, whole.good (subst AllGood h.2 good))
+    let goals : List Marked = goals_text 0 raw.goals [] in
+    let r : Follows (rules_text version 0 raw.rules h.2) (rules_text later 0 raw.rules goals) =
+    rules_good version later looser 0 raw.rules _ _ (goals_good 0 raw.goals h.2 h.6) in
+    let o = order_good raw h.1 _ (rules_text later 0 raw.rules goals) r h.5 in
+    let f : Follows (funs_text version 0 raw.funs h.1) (funs_text later 0 raw.funs o.0) =
+    funs_good version later looser 0 raw.funs _ _ o.2 in
+    let s = sorts_good version later looser 0 0 raw.sorts h.0 _ (funs_text later 0 raw.funs o.0) f h.4 in
+    let short = s.2.short in
+    let numbered : Follows (number version ∷ h.0) (number later ∷ s.0) =
+    record { good = λ g. (small, g.1, s.2.good g.2); short = omega (arith, short, narrow) } in
+    let whole : Follows text (sign Spike ∷ number later ∷ s.0) =
+    subst (λ (w : List Marked). Follows w (sign Spike ∷ number later ∷ s.0)) (sym h.3) (behind numbered) in
+    record {
+      plain = sign Spike ∷ number later ∷ s.0;
+      is = record { sorts = s.0; order = o.0; whole = refl; are = s.1; ordered = o.1; format = format };
+      good = whole.good good;
+      short = whole.short;
+    }
+
+-- so there is in the same format
+pub plain_text : (raw : RawSpec) (text : List Marked) → IsSpecText raw text → AllGood text → HasPlainText raw text
+plain_text raw text h good =
+    let g : AllGood (sign Spike ∷ number raw.version ∷ h.0) = subst AllGood h.3 good in
+    plain_text_in raw raw.version text (same_limits raw.version) g.2.0 (omega arith) h.7 h good

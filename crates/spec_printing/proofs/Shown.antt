@@ -11,6 +11,8 @@ use Rattle.spec_grammar.specs.declared.raw.RawName.{RawName}
 use Rattle.spec_grammar.specs.declared.raw.RawNames.{RawNames}
 use Rattle.spec_grammar.specs.declared.raw.RawSort.{RawSort}
 use Rattle.spec_grammar.specs.declared.raw.RawFun.{RawFun}
+use Rattle.spec_grammar.specs.declared.raw.RawEqual.{RawEqual}
+use Rattle.spec_grammar.specs.declared.raw.RawStatus.{RawStatus}
 use Rattle.spec_grammar.specs.declared.raw.RawEq.{RawEq}
 use Rattle.spec_grammar.specs.declared.raw.RawGuard.{RawGuard}
 use Rattle.spec_grammar.specs.declared.raw.RawRule.{RawRule}
@@ -20,8 +22,8 @@ use Rattle.spec_grammar.specs.declared.raw.RawSpec.{RawSpec}
 use Rattle.spec_grammar.specs.RawTree.{RawTree, RawTrees, word, none, some}
 use Rattle.spec_grammar.specs.Items.{Sign}
 use Rattle.spec_grammar.specs.Limits.{constructor_mark, term_mark, guard_mark, variable_mark, premise_mark, conclusion_mark}
-use Rattle.spec_grammar.specs.Grammar.{Marked, sign, name_text, term_text, more_text, more_names_text, names_text, con_text, constructors_text, AreSorts, funs_text, guard_key, guards_text, sides_text, rules_text, commas_text, premises_text, bars_text, conclusions_text, bind_text, more_binds_text, binds_text}
-use Rattle.spec_printing.specs.Printed.{listed, spaced, term_printed, others_printed, sides_printed, equation_printed, names_printed, sort_line, fun_line, guard_printed, rule_line, bind_printed, clause_printed, goal_line, header_line, printed}
+use Rattle.spec_grammar.specs.Grammar.{Marked, sign, name_text, term_text, more_text, more_names_text, names_text, con_text, constructors_text, AreSorts, funs_text, more_equal_text, AreEquals, more_numbers_text, AreStatuses, guard_key, guards_text, sides_text, rules_text, commas_text, premises_text, bars_text, conclusions_text, bind_text, more_binds_text, binds_text}
+use Rattle.spec_printing.specs.Printed.{listed, spaced, term_printed, others_printed, sides_printed, equation_printed, names_printed, sort_line, fun_line, equal_line, status_line, guard_printed, rule_line, bind_printed, clause_printed, goal_line, header_line, printed}
 use Rattle.spec_printing.proofs.Plain.{clause_text, goals_text, IsPlainText}
 use Rattle.spec_printing.proofs.Pieces.{blank, pieces}
 
@@ -92,6 +94,87 @@ funs_shown version n (f ∷ fs) rest x h =
     let after : List Marked = sign Colon ∷ name_text None f.result (funs_text version (n + 1) fs rest) in
     ap (λ (ys : List ℕ). codes "\nfun" ++ ys) (con_shown None f.head after) ∙ ap (λ (ys : List ℕ). codes "\nfun " ++ (names_printed f.head ++ (codes " : " ++ (f.result.name ++ ys)))) (funs_shown version (n + 1) fs rest x h)
     ∙ ap (λ (ys : List ℕ). codes "\n" ++ ys) (sym (regroup_six (codes "fun ") (names_printed f.head) (codes " : ") f.result.name (codes "\n") later x))
+
+-- how functions are ordered
+abbrev names_more : List RawName → List ℕ
+names_more ns = flat_map (λ u. codes ", " ++ u) (map (λ (y : RawName). y.name) ns)
+
+more_equal_shown :
+    (xs : List RawName) (rest : List Marked) →
+    shown false (more_equal_text xs rest) ≡ names_more xs ++ shown false rest
+more_equal_shown [] rest = refl
+more_equal_shown (x ∷ xs) rest =
+    ap (λ (ys : List ℕ). codes ", " ++ (x.name ++ ys)) (more_equal_shown xs rest)
+    ∙ sym (regroup_three (codes ", ") x.name (names_more xs) (shown false rest))
+
+equal_joined :
+    (a b c d e y x : List ℕ) →
+    (((a ++ ((b ++ c) ++ d)) ++ e) ++ y) ++ x ≡ a ++ (b ++ (c ++ (d ++ (e ++ (y ++ x)))))
+equal_joined a b c d e y x = simp append_assoc
+
+-- an equal line before what begins a line
+equal_shown :
+    (e : RawEqual) (first : RawName) (others : List RawName) (later x : List ℕ) → e.names ≡ first ∷ others →
+    codes "equal" ++ (codes " " ++ (first.name ++ (names_more others ++ (codes "\n" ++ (later ++ x))))) ≡
+    (equal_line e ++ later) ++ x
+equal_shown e first others later x is =
+    let line : List RawName → List ℕ =
+    λ (ns : List RawName). codes "equal" ++ spaced (codes ", ") (map (λ (y : RawName). y.name) ns) ++ codes "\n" in
+    sym (equal_joined (codes "equal") (codes " ") first.name (names_more others) (codes "\n") later x)
+    ∙ ap (λ (ns : List RawName). (line ns ++ later) ++ x) (sym is)
+
+equals_shown :
+    (es : List RawEqual) (text rest : List Marked) (x : List ℕ) → AreEquals es text rest →
+    shown false rest ≡ codes "\n" ++ x → shown false text ≡ codes "\n" ++ (flat_map equal_line es ++ x)
+equals_shown [] text rest x e h = ap (shown false) e ∙ h
+equals_shown (e ∷ es) text rest x a h =
+    let later : List ℕ = flat_map equal_line es in
+    let others : List RawName = a.1 ∷ a.2 in
+    let before : List ℕ → List ℕ = λ (ys : List ℕ). codes "\nequal " ++ (a.0.name ++ ys) in
+    ap (shown false) a.5 ∙ ap before (more_equal_shown others a.3)
+    ∙ ap (λ (ys : List ℕ). before (names_more others ++ ys)) (equals_shown es a.3 rest x a.6 h)
+    ∙ ap (λ (ys : List ℕ). codes "\n" ++ ys) (equal_shown e a.0 others later x a.4)
+
+abbrev numbers_more : List ℕ → List ℕ
+numbers_more ns = flat_map (λ u. codes ", " ++ u) (map decimal ns)
+
+more_numbers_shown :
+    (n : ℕ) (is : List ℕ) (rest : List Marked) →
+    shown false (more_numbers_text n is rest) ≡ numbers_more is ++ shown false rest
+more_numbers_shown n [] rest = refl
+more_numbers_shown n (i ∷ is) rest =
+    ap (λ (ys : List ℕ). codes ", " ++ (decimal i ++ ys)) (more_numbers_shown (n + 1) is rest)
+    ∙ sym (regroup_three (codes ", ") (decimal i) (numbers_more is) (shown false rest))
+
+status_joined :
+    (a b c d e f g y x : List ℕ) →
+    ((((a ++ b) ++ (((c ++ d) ++ e) ++ f)) ++ g) ++ y) ++ x ≡
+    a ++ (b ++ (c ++ (d ++ (e ++ (f ++ (g ++ (y ++ x)))))))
+status_joined a b c d e f g y x = simp append_assoc
+
+-- a status line before what begins a line
+status_shown :
+    (s : RawStatus) (first : ℕ) (others : List ℕ) (later x : List ℕ) → s.numbers ≡ first ∷ others →
+    codes "status " ++ (s.head.name ++ (codes "(" ++ (decimal first ++ (numbers_more others
+    ++ (codes ")" ++ (codes "\n" ++ (later ++ x))))))) ≡ (status_line s ++ later) ++ x
+status_shown s first others later x is =
+    let line : List ℕ → List ℕ =
+    λ (ns : List ℕ). codes "status " ++ s.head.name ++ listed (map decimal ns) ++ codes "\n" in
+    sym (status_joined (codes "status ") s.head.name (codes "(") (decimal first) (numbers_more others) (codes ")")
+    (codes "\n") later x)
+    ∙ ap (λ (ns : List ℕ). (line ns ++ later) ++ x) (sym is)
+
+statuses_shown :
+    (ss : List RawStatus) (text rest : List Marked) (x : List ℕ) → AreStatuses ss text rest →
+    shown false rest ≡ codes "\n" ++ x → shown false text ≡ codes "\n" ++ (flat_map status_line ss ++ x)
+statuses_shown [] text rest x e h = ap (shown false) e ∙ h
+statuses_shown (s ∷ ss) text rest x a h =
+    let later : List ℕ = flat_map status_line ss in
+    let before : List ℕ → List ℕ =
+    λ (ys : List ℕ). codes "\nstatus " ++ (s.head.name ++ (codes "(" ++ (decimal a.0 ++ ys))) in
+    ap (shown false) a.4 ∙ ap before (more_numbers_shown 1 a.1 (sign RightPar ∷ a.2))
+    ∙ ap (λ (ys : List ℕ). before (numbers_more a.1 ++ (codes ")" ++ ys))) (statuses_shown ss a.2 rest x a.5 h)
+    ∙ ap (λ (ys : List ℕ). codes "\n" ++ ys) (status_shown s a.0 a.1 later x a.3)
 
 -- terms
 mutual
@@ -200,8 +283,9 @@ goals_shown n (g ∷ gs) rest x h =
     ∙ ap (λ (ys : List ℕ). codes "\n" ++ ys) (sym (regroup_seven (codes "goal ") g.head.name binds (codes " :") clause (codes "\n") later x))
 
 -- the whole
-parts_joined : (a s f r g : List ℕ) → (((a ++ s) ++ f) ++ r) ++ g ≡ a ++ (s ++ (f ++ (r ++ (g ++ []))))
-parts_joined a s f r g = simp (append_assoc, append-nil)
+parts_joined : (a s f e t r g : List ℕ) →
+    (((((a ++ s) ++ f) ++ e) ++ t) ++ r) ++ g ≡ a ++ (s ++ (f ++ (e ++ (t ++ (r ++ (g ++ []))))))
+parts_joined a s f e t r g = simp (append_assoc, append-nil)
 
 -- the header before all other lines
 headed : (version : ℕ) (x : List ℕ) → header_line version ++ x ≡ codes "spike " ++ (decimal version ++ (codes "\n" ++ x))
@@ -212,15 +296,20 @@ printed_is raw w p =
     let version = raw.version in
     let goals : List Marked = goals_text 0 raw.goals [] in
     let rules : List Marked = rules_text version 0 raw.rules goals in
-    let funs : List Marked = funs_text version 0 raw.funs rules in
     let goal_lines : List ℕ = flat_map goal_line raw.goals ++ [] in
     let rule_lines : List ℕ = flat_map rule_line raw.rules ++ goal_lines in
-    let fun_lines : List ℕ = flat_map fun_line raw.funs ++ rule_lines in
+    let status_lines : List ℕ = flat_map status_line raw.statuses ++ rule_lines in
+    let equal_lines : List ℕ = flat_map equal_line raw.equals ++ status_lines in
+    let fun_lines : List ℕ = flat_map fun_line raw.funs ++ equal_lines in
     let sort_lines : List ℕ = flat_map sort_line raw.sorts ++ fun_lines in
     let a = goals_shown 0 raw.goals [] [] refl in
     let b = rules_shown version 0 raw.rules goals goal_lines a in
-    let c = funs_shown version 0 raw.funs rules rule_lines b in
-    let d = sorts_shown version 0 0 raw.sorts p.sorts funs fun_lines p.are c in
-    let whole = ap (shown true) p.whole ∙ ap (λ (ys : List ℕ). codes "spike " ++ (decimal version ++ ys)) d in
-    parts_joined (header_line version) (flat_map sort_line raw.sorts) (flat_map fun_line raw.funs) (flat_map rule_line raw.rules) (flat_map goal_line raw.goals)
+    let c = statuses_shown raw.statuses p.ordered.0 rules rule_lines p.ordered.2 b in
+    let d = equals_shown raw.equals p.order p.ordered.0 status_lines p.ordered.1 c in
+    let e = funs_shown version 0 raw.funs p.order equal_lines d in
+    let f = sorts_shown version 0 0 raw.sorts p.sorts (funs_text version 0 raw.funs p.order) fun_lines p.are e in
+    let whole = ap (shown true) p.whole ∙ ap (λ (ys : List ℕ). codes "spike " ++ (decimal version ++ ys)) f in
+    parts_joined (header_line version) (flat_map sort_line raw.sorts) (flat_map fun_line raw.funs)
+    (flat_map equal_line raw.equals) (flat_map status_line raw.statuses) (flat_map rule_line raw.rules)
+    (flat_map goal_line raw.goals)
     ∙ headed version sort_lines ∙ sym whole

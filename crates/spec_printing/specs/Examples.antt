@@ -13,6 +13,7 @@ use Rattle.spec_grammar.specs.declared.raw.RawSpec.{RawSpec}
 use Rattle.spec_grammar.specs.FormatOne.{format_one}
 use Rattle.spec_grammar.specs.RawTree.{RawTree, word, none, some}
 use Rattle.spec_printing.specs.Printed.{printed}
+use Rattle.spec_printing.specs.Upgraded.{upgraded}
 
 -- a name
 abbrev pub name : List ℕ → RawName
@@ -60,6 +61,11 @@ plus_fun =
     let nat = name (codes "Nat") in
     record { head = names (codes "plus") (nat ∷ nat ∷ []); result = nat }
 
+-- a function from Nat to Bool
+abbrev pub test_fun : List ℕ → RawFun
+test_fun text =
+    record { head = names text (name (codes "Nat") ∷ []); result = name (codes "Bool") }
+
 -- a test of x and y, wanted true or false
 abbrev pub guard : List ℕ → Bool → RawGuard
 guard text wanted = record { test = pair text (codes "x") (codes "y"); wanted = wanted }
@@ -75,6 +81,20 @@ guarded_rule = record {
 -- these three
 abbrev pub declarations : RawSpec
 declarations = format_one (nat_sort ∷ []) (plus_fun ∷ []) (guarded_rule ∷ []) []
+
+-- functions of one level, and functions with an order of their arguments
+abbrev pub ordered : RawSpec
+ordered = record {
+  version = 2;
+  sorts = [];
+  funs = test_fun (codes "even") ∷ test_fun (codes "odd") ∷ [];
+  equals = record { names = name (codes "even") ∷ name (codes "odd") ∷ [] }
+      ∷ record { names = name (codes "f") ∷ name (codes "g") ∷ name (codes "h") ∷ [] } ∷ [];
+  statuses = record { head = name (codes "add"); numbers = 2 ∷ 1 ∷ [] }
+      ∷ record { head = name (codes "even"); numbers = 1 ∷ [] } ∷ [];
+  rules = guarded_rule ∷ [];
+  goals = [];
+}
 
 -- `a = b`, `c = d`, `e = f` and `h = i`
 abbrev pub a_is_b : RawEq
@@ -98,6 +118,13 @@ whole_goal = goal (codes "g") (of_nat (codes "x") ∷ of_nat (codes "y") ∷ [])
 pub record PrintedExamples : Type 0 where
   pub header : printed (with_goals []) ≡ codes "spike 1\n"
   pub lines : printed declarations ≡ codes "spike 1\n"
+      ++ codes "sort Nat = zero | succ(Nat)\nfun plus(Nat, Nat) : Nat\n"
+      ++ codes "rule f(x, y) = g(x) if le(x, y) unless eq(x, y)\n"
+  pub orders : printed ordered ≡ codes "spike 2\n"
+      ++ codes "fun even(Nat) : Bool\nfun odd(Nat) : Bool\n"
+      ++ codes "equal even, odd\nequal f, g, h\nstatus add(2, 1)\nstatus even(1)\n"
+      ++ codes "rule f(x, y) = g(x) if le(x, y) unless eq(x, y)\n"
+  pub in_format_two : printed (upgraded declarations) ≡ codes "spike 2\n"
       ++ codes "sort Nat = zero | succ(Nat)\nfun plus(Nat, Nat) : Nat\n"
       ++ codes "rule f(x, y) = g(x) if le(x, y) unless eq(x, y)\n"
   pub whole : printed (with_goals (whole_goal ∷ []))

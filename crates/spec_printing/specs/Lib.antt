@@ -2,4 +2,5 @@
 pub mod Printed
 pub mod SamePlaces
 pub mod ReadsBack
+pub mod Upgraded
 pub mod Examples

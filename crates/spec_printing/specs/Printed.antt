@@ -6,6 +6,8 @@ use Rattle.spec_grammar.specs.declared.raw.RawName.{RawName}
 use Rattle.spec_grammar.specs.declared.raw.RawNames.{RawNames}
 use Rattle.spec_grammar.specs.declared.raw.RawSort.{RawSort}
 use Rattle.spec_grammar.specs.declared.raw.RawFun.{RawFun}
+use Rattle.spec_grammar.specs.declared.raw.RawEqual.{RawEqual}
+use Rattle.spec_grammar.specs.declared.raw.RawStatus.{RawStatus}
 use Rattle.spec_grammar.specs.declared.raw.RawEq.{RawEq}
 use Rattle.spec_grammar.specs.declared.raw.RawGuard.{RawGuard}
 use Rattle.spec_grammar.specs.declared.raw.RawRule.{RawRule}
@@ -57,6 +59,15 @@ sort_line s = codes "sort " ++ s.head.name ++ codes " ="
 abbrev pub fun_line : RawFun → List ℕ
 fun_line f = codes "fun " ++ names_printed f.head ++ codes " : " ++ f.result.name ++ codes "\n"
 
+-- `equal NAME, NAME`
+abbrev pub equal_line : RawEqual → List ℕ
+equal_line e = codes "equal" ++ spaced (codes ", ") (map (λ (n : RawName). n.name) e.names)
+    ++ codes "\n"
+
+-- `status NAME(NUMBER, NUMBER)`
+abbrev pub status_line : RawStatus → List ℕ
+status_line s = codes "status " ++ s.head.name ++ listed (map decimal s.numbers) ++ codes "\n"
+
 -- ` if TEST` or ` unless TEST`
 abbrev pub guard_printed : RawGuard → List ℕ
 guard_printed g = (if g.wanted then codes " if " else codes " unless ") ++ term_printed g.test
@@ -89,7 +100,8 @@ goal_line g = codes "goal " ++ g.head.name ++ listed (map bind_printed g.binds) 
 abbrev pub header_line : ℕ → List ℕ
 header_line version = codes "spike " ++ decimal version ++ codes "\n"
 
--- the header, the sorts, the functions, the rules and the goals
+-- the header, the sorts, the functions and how they are ordered, the rules and the goals
 abbrev pub printed : RawSpec → List ℕ
 printed raw = header_line raw.version ++ flat_map sort_line raw.sorts ++ flat_map fun_line raw.funs
+    ++ flat_map equal_line raw.equals ++ flat_map status_line raw.statuses
     ++ flat_map rule_line raw.rules ++ flat_map goal_line raw.goals

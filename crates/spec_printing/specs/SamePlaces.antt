@@ -5,6 +5,8 @@ use Rattle.spec_grammar.specs.declared.raw.RawName.{RawName}
 use Rattle.spec_grammar.specs.declared.raw.RawNames.{RawNames}
 use Rattle.spec_grammar.specs.declared.raw.RawSort.{RawSort}
 use Rattle.spec_grammar.specs.declared.raw.RawFun.{RawFun}
+use Rattle.spec_grammar.specs.declared.raw.RawEqual.{RawEqual}
+use Rattle.spec_grammar.specs.declared.raw.RawStatus.{RawStatus}
 use Rattle.spec_grammar.specs.declared.raw.RawEq.{RawEq}
 use Rattle.spec_grammar.specs.declared.raw.RawGuard.{RawGuard}
 use Rattle.spec_grammar.specs.declared.raw.RawRule.{RawRule}
@@ -40,6 +42,14 @@ SameSort s t = SameName s.head t.head × AllZip SameNames s.constructors t.const
 abbrev pub SameFun : RawFun → RawFun → Type 0
 SameFun f g = SameNames f.head g.head × SameName f.result g.result
 
+-- the same functions
+abbrev pub SameEqual : RawEqual → RawEqual → Type 0
+SameEqual e f = AllZip SameName e.names f.names
+
+-- the same function and numbers
+abbrev pub SameStatus : RawStatus → RawStatus → Type 0
+SameStatus s t = SameName s.head t.head × (s.numbers ≡ t.numbers)
+
 -- the same sides
 abbrev pub SameEquation : RawEq → RawEq → Type 0
 SameEquation e f = SameTerm e.left f.left × SameTerm e.right f.right
@@ -69,5 +79,7 @@ pub record IsSameButPlaces (raw other : RawSpec) : Type 0 where
   pub version : raw.version ≡ other.version
   pub sorts : AllZip SameSort raw.sorts other.sorts
   pub funs : AllZip SameFun raw.funs other.funs
+  pub equals : AllZip SameEqual raw.equals other.equals
+  pub statuses : AllZip SameStatus raw.statuses other.statuses
   pub rules : AllZip SameRule raw.rules other.rules
   pub goals : AllZip SameGoal raw.goals other.goals

@@ -1,13 +1,15 @@
 ghost use Rattle.std.specs.Prelude.{◌≡◌, ◌++◌, IfOk, OnOk, codes, map};
+ghost use Rattle.std.specs.Fmt.{decimal};
 ghost use Rattle.std.specs.List.{flat_map};
 ghost use Rattle.spec_grammar.specs.RawTree.{raw_trees};
 ghost use Rattle.spec_grammar.specs.declared.raw.RawName.{RawName};
 ghost use Rattle.spec_printing.specs.ReadsBack.{ReadsBackAs};
-ghost use Rattle.spec_printing.specs.Printed.{printed, header_line, listed, spaced, term_printed, others_printed, sides_printed, equation_printed, names_printed, sort_line, fun_line, guard_printed, rule_line, bind_printed, arrow_printed, clause_printed, goal_line};
+ghost use Rattle.spec_printing.specs.Upgraded.{upgraded};
+ghost use Rattle.spec_printing.specs.Printed.{printed, header_line, listed, spaced, term_printed, others_printed, sides_printed, equation_printed, names_printed, sort_line, fun_line, equal_line, status_line, guard_printed, rule_line, bind_printed, arrow_printed, clause_printed, goal_line};
 
 use spec_grammar::{
-    RawBind, RawEq, RawFun, RawGoal, RawGuard, RawName, RawNames, RawRule, RawSort, RawSpec,
-    RawTerm,
+    RawBind, RawEq, RawEqual, RawFun, RawGoal, RawGuard, RawName, RawNames, RawRule, RawSort,
+    RawSpec, RawStatus, RawTerm,
 };
 use std::alloc::Global;
 use term_core::{OutOfMemory, front};
@@ -18,16 +20,26 @@ pub fn print(alloc: Global, raw: &RawSpec) -> Result<Vec<u8>, OutOfMemory>
     ensures printed { IfOk result (λ r. r.items ≡ printed raw.now) }
     ensures reads_back { IfOk result (λ r. ReadsBackAs raw.now r.items) }
 {
-    printed_form(alloc, raw)
+    printed_form(alloc, raw.version, raw)
 }
 
-fn printed_form(alloc: Global, raw: &RawSpec) -> Result<Vec<u8>, OutOfMemory>
-    ensures { IfOk result (λ r. r.items ≡ printed raw.now) }
+/// The printed form in format 2 of the raw specification, whose own format may be another.
+pub fn upgrade(alloc: Global, raw: &RawSpec) -> Result<Vec<u8>, OutOfMemory>
+    ensures { IfOk result (λ r. r.items ≡ printed (upgraded raw.now)) }
+{
+    printed_form(alloc, 2, raw)
+}
+
+/// The printed form, with this number as its format.
+fn printed_form(alloc: Global, version: u32, raw: &RawSpec) -> Result<Vec<u8>, OutOfMemory>
+    ensures { IfOk result (λ r. r.items ≡ printed (record raw.now { version = version })) }
 {
     let mut text = Vec::new(alloc);
-    append_header(alloc, raw.version, &mut text)?;
+    append_header(alloc, version, &mut text)?;
     append_sorts(raw.sorts.as_slice(), &mut text)?;
     append_funs(raw.funs.as_slice(), &mut text)?;
+    append_equals(raw.equals.as_slice(), &mut text)?;
+    append_statuses(alloc, raw.statuses.as_slice(), &mut text)?;
     append_rules(raw.rules.as_slice(), &mut text)?;
     append_goals(raw.goals.as_slice(), &mut text)?;
     Ok(text)
@@ -38,8 +50,15 @@ fn append_header(alloc: Global, version: u32, text: &mut Vec<u8>) -> Result<(), 
     ensures { OnOk result (text.new.items ≡ text.old.items ++ header_line version) }
 {
     text.extend_from_slice(b"spike ")?;
-    text.extend_from_slice(version.to_string(alloc)?.as_bytes())?;
+    append_number(alloc, version, text)?;
     text.push(b'\n')?;
+    Ok(())
+}
+
+fn append_number(alloc: Global, number: u32, text: &mut Vec<u8>) -> Result<(), OutOfMemory>
+    ensures { OnOk result (text.new.items ≡ text.old.items ++ decimal number) }
+{
+    text.extend_from_slice(number.to_string(alloc)?.as_bytes())?;
     Ok(())
 }
 
@@ -126,6 +145,84 @@ fn append_fun(function: &RawFun, text: &mut Vec<u8>) -> Result<(), OutOfMemory>
     text.extend_from_slice(b" : ")?;
     text.extend_from_slice(function.result.name.as_bytes())?;
     text.push(b'\n')?;
+    Ok(())
+}
+
+fn append_equals(equals: &[RawEqual], text: &mut Vec<u8>) -> Result<(), OutOfMemory>
+    ensures { OnOk result (text.new.items ≡ text.old.items ++ flat_map equal_line equals.now) }
+{
+    for equal in equals {
+        append_equal(equal, text)?;
+    }
+    Ok(())
+}
+
+/// Appends `equal NAME, NAME`.
+fn append_equal(equal: &RawEqual, text: &mut Vec<u8>) -> Result<(), OutOfMemory>
+    ensures { OnOk result (text.new.items ≡ text.old.items ++ equal_line equal.now) }
+{
+    text.extend_from_slice(b"equal")?;
+    append_spaced_names(equal.names.as_slice(), text)?;
+    text.push(b'\n')?;
+    Ok(())
+}
+
+/// Appends ` NAME, NAME`.
+fn append_spaced_names(names: &[RawName], text: &mut Vec<u8>) -> Result<(), OutOfMemory>
+    ensures { OnOk result (text.new.items ≡ text.old.items
+        ++ spaced (codes ", ") (map (λ (n : RawName). n.name) names.now)) }
+{
+    let Some((first, others)) = front(names) else {
+        return Ok(());
+    };
+    text.push(b' ')?;
+    text.extend_from_slice(first.name.as_bytes())?;
+    for other in others {
+        text.extend_from_slice(b", ")?;
+        text.extend_from_slice(other.name.as_bytes())?;
+    }
+    Ok(())
+}
+
+fn append_statuses(
+    alloc: Global,
+    statuses: &[RawStatus],
+    text: &mut Vec<u8>,
+) -> Result<(), OutOfMemory>
+    ensures { OnOk result (text.new.items ≡ text.old.items ++ flat_map status_line statuses.now) }
+{
+    for status in statuses {
+        append_status(alloc, status, text)?;
+    }
+    Ok(())
+}
+
+/// Appends `status NAME(NUMBER, NUMBER)`.
+fn append_status(alloc: Global, status: &RawStatus, text: &mut Vec<u8>) -> Result<(), OutOfMemory>
+    ensures { OnOk result (text.new.items ≡ text.old.items ++ status_line status.now) }
+{
+    text.extend_from_slice(b"status ")?;
+    text.extend_from_slice(status.head.name.as_bytes())?;
+    append_numbers(alloc, status.numbers.as_slice(), text)?;
+    text.push(b'\n')?;
+    Ok(())
+}
+
+/// Appends `(NUMBER, NUMBER)`.
+fn append_numbers(alloc: Global, numbers: &[u32], text: &mut Vec<u8>) -> Result<(), OutOfMemory>
+    ensures { OnOk result (text.new.items ≡ text.old.items
+        ++ listed (map decimal numbers.now)) }
+{
+    let Some((first, others)) = front(numbers) else {
+        return Ok(());
+    };
+    text.push(b'(')?;
+    append_number(alloc, *first, text)?;
+    for other in others {
+        text.extend_from_slice(b", ")?;
+        append_number(alloc, *other, text)?;
+    }
+    text.push(b')')?;
     Ok(())
 }
 

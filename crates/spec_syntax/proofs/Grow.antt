@@ -38,7 +38,7 @@ opened_closes d [] v h = absurd (omega arith)
 opened_closes d (t ∷ ts) v h = refl
 
 -- a text whose items stand one behind the other, with one more at the end
-items_grow : {X : Type 0} (text : ℕ → List X → List Marked → List Marked) (item : ℕ → X → List Marked → List Marked) → ((n : ℕ) (v : List Marked) → text n [] v ≡ v) → ((n : ℕ) (x : X) (xs : List X) (v : List Marked) → text n (x ∷ xs) v ≡ item n x (text (n + 1) xs v)) → (n : ℕ) (xs : List X) (x : X) (v : List Marked) → text n (xs ++ x ∷ []) v ≡ text n xs (item (n + length xs) x v)
+pub items_grow : {X : Type 0} (text : ℕ → List X → List Marked → List Marked) (item : ℕ → X → List Marked → List Marked) → ((n : ℕ) (v : List Marked) → text n [] v ≡ v) → ((n : ℕ) (x : X) (xs : List X) (v : List Marked) → text n (x ∷ xs) v ≡ item n x (text (n + 1) xs v)) → (n : ℕ) (xs : List X) (x : X) (v : List Marked) → text n (xs ++ x ∷ []) v ≡ text n xs (item (n + length xs) x v)
 items_grow text item ends goes_on n [] x v = goes_on n x [] v ∙ ap (item n x) (ends (n + 1) v) ∙ ap (λ (k : ℕ). item k x v) (sym (add-zero n)) ∙ sym (ends n (item (n + 0) x v))
 items_grow text item ends goes_on n (y ∷ xs) x v =
     let others = items_grow text item ends goes_on (n + 1) xs x v ∙ ap (λ (k : ℕ). text (n + 1) xs (item k x v)) (next_is n y xs) in

@@ -5,4 +5,5 @@ pub mod Laws
 pub mod Scanned
 pub mod Reading
 pub mod ReadingSorts
+pub mod ReadingOrders
 pub mod Wholes

@@ -1,15 +1,15 @@
 -- What a reading function returned, beside the stack of grammar symbols.
-use Rattle.std.specs.Prelude.{◌≡◌, ℕ, ◌+◌, ◌<◌, ◌≤◌, ◌⊎◌, List, [], ◌∷◌, ◌++◌, Option, Some, None, Result, Ok, Err, length}
+use Rattle.std.specs.Prelude.{◌≡◌, ℕ, ◌<◌, ◌≤◌, ◌⊎◌, List, [], ◌∷◌, ◌++◌, Option, Some, None, Result, Ok, Err, length}
 use Rattle.spec_grammar.specs.declared.keys.Key.{Key}
 use Rattle.spec_grammar.specs.declared.limits.LimitKind.{LimitKind}
 use Rattle.spec_grammar.specs.Items.{Item, Word, Sign, Number}
-use Rattle.spec_grammar.specs.Grammar.{Marked, sign, number, name_text, commas_text, bars_text, binds_text, IsClause, AreGoals}
+use Rattle.spec_grammar.specs.Grammar.{Marked, sign, number, name_text, commas_text, bars_text, binds_text, IsClause}
 use Rattle.spec_grammar.specs.Derives.{clean}
 use Rattle.spec_grammar.specs.Limits.{goal_mark}
 use Rattle.spec_grammar.specs.declared.raw.RawEq.{RawEq}
 use Rattle.spec_grammar.specs.declared.raw.RawGoal.{RawGoal}
 use Rattle.spec_grammar.specs.declared.keys.Key.TheVariants.{Comma, Colon, Arrow, Goal}
-use Rattle.spec_grammar.specs.Symbols.{Symbol, key, name, format, body, binds, clause, conclusions, commas, bars, goals, run}
+use Rattle.spec_grammar.specs.Symbols.{Symbol, key, name, format, body, binds, clause, conclusions, commas, bars, run}
 use Rattle.spec_syntax.specs.declared.stop.Stop.{Stop}
 use Rattle.spec_syntax.specs.declared.stop.Stop.TheVariants.{Fault, OutOfMemory}
 
@@ -99,11 +99,30 @@ abbrev pub ReadsNext : {X : Type 0} → (X → List Marked → List Marked) → 
     → Symbol → List Item → Result (Option X) Stop → Type 0
 ReadsNext text rest s next items result = ReadsItem text rest s next (IsPassedOver s) items result
 
+-- The same where what was read has several texts: the tokens are one of them, and a rest.
+abbrev pub ReadsAs : {X : Type 0} → (X → List Marked → List Marked → Type 0) → (X → List Item)
+    → List Symbol → List Item → Result X Stop → Type 0
+ReadsAs IsText rest ss items (Ok x) =
+    IsText x (clean items) (clean (rest x))
+    × ((st : List Symbol) → run (ss ++ st) items ≡ run st (rest x))
+    × (length (rest x) ≤ length items)
+ReadsAs IsText rest ss items (Err stop) = Stops ss items stop
+
+-- the same of one more item of a list
+abbrev pub ReadsNextAs : {X : Type 0} → (X → List Marked → List Marked → Type 0)
+    → (X → List Item) → Symbol → Symbol → List Item → Result (Option X) Stop → Type 0
+ReadsNextAs IsText rest s next items (Ok (Some x)) =
+    IsText x (clean items) (clean (rest x))
+    × ((st : List Symbol) → run (s ∷ st) items ≡ run (next ∷ st) (rest x))
+    × (length (rest x) < length items)
+ReadsNextAs IsText rest s next items (Ok None) = IsPassedOver s items
+ReadsNextAs IsText rest s next items (Err stop) = Stops (s ∷ []) items stop
+
 -- The first of the tokens is the number of a format that there is, whose declarations have to follow.
 abbrev pub ReadsFormat : {X : Type 0} → (X → ℕ) → (X → List Item) → List Item → Result X Stop
     → Type 0
 ReadsFormat version rest items (Ok x) =
-    (version x ≡ 1) × (clean items ≡ number (version x) ∷ clean (rest x))
+    ((version x ≡ 1) ⊎ (version x ≡ 2)) × (clean items ≡ number (version x) ∷ clean (rest x))
     × ((st : List Symbol) → run (format ∷ st) items ≡ run (body (version x) ++ st) (rest x))
     × (length (rest x) ≤ length items)
 ReadsFormat version rest items (Err stop) = Stops (format ∷ []) items stop
@@ -136,14 +155,6 @@ ReadsPremises first made rest items (Ok x) =
     × (length (rest x) ≤ length items)
 ReadsPremises first made rest items (Err stop) = Stops (commas 1 ∷ []) items stop
 
-abbrev pub ReadsClause : {X : Type 0} → (X → List RawEq) → (X → List RawEq) → (X → List Item)
-    → List Item → Result X Stop → Type 0
-ReadsClause premises made rest items (Ok x) =
-    IsClause (premises x) (made x) (clean items) (clean (rest x))
-    × ((st : List Symbol) → run (clause ∷ st) items ≡ run st (rest x))
-    × (length (rest x) ≤ length items)
-ReadsClause premises made rest items (Err stop) = Stops (clause ∷ []) items stop
-
 -- the goal's text behind its first word, before what stands behind it
 abbrev pub IsGoalText : RawGoal → List Marked → List Marked → Type 0
 IsGoalText g text after =
@@ -153,32 +164,7 @@ IsGoalText g text after =
 abbrev pub goal_symbols : List Symbol → List Symbol
 goal_symbols st = name None ∷ binds ∷ key Colon ∷ clause ∷ st
 
-abbrev pub ReadsGoal : {X : Type 0} → (X → RawGoal) → (X → List Item) → List Item → Result X Stop
-    → Type 0
-ReadsGoal goal rest items (Ok x) =
-    IsGoalText (goal x) (clean items) (clean (rest x))
-    × ((st : List Symbol) → run (goal_symbols st) items ≡ run st (rest x))
-    × (length (rest x) ≤ length items)
-ReadsGoal goal rest items (Err stop) = Stops (goal_symbols []) items stop
-
 -- the tokens are one goal, with n goals before it
 abbrev pub IsOneGoal : ℕ → RawGoal → List Marked → List Marked → Type 0
 IsOneGoal n g text after = (inner : List Marked) × (text ≡ (Sign Goal, goal_mark n) ∷ inner)
     × IsGoalText g inner after
-
-abbrev pub ReadsNextGoal : {X : Type 0} → ℕ → (X → RawGoal) → (X → List Item) → List Item
-    → Result (Option X) Stop → Type 0
-ReadsNextGoal n goal rest items (Ok (Some x)) =
-    IsOneGoal n (goal x) (clean items) (clean (rest x))
-    × ((st : List Symbol) → run (goals n ∷ st) items ≡ run (goals (n + 1) ∷ st) (rest x))
-    × (length (rest x) < length items)
-ReadsNextGoal n goal rest items (Ok None) = IsPassedOver (goals n) items
-ReadsNextGoal n goal rest items (Err stop) = Stops (goals n ∷ []) items stop
-
-abbrev pub ReadsGoals : {X : Type 0} → (X → List RawGoal) → (X → List Item) → List Item
-    → Result X Stop → Type 0
-ReadsGoals made rest items (Ok x) =
-    AreGoals 0 (made x) (clean items) (clean (rest x))
-    × ((st : List Symbol) → run (goals 0 ∷ st) items ≡ run st (rest x))
-    × (length (rest x) ≤ length items)
-ReadsGoals made rest items (Err stop) = Stops (goals 0 ∷ []) items stop

@@ -4,7 +4,7 @@ use Rattle.spec_grammar.specs.declared.keys.Key.TheVariants.{Sort, Equals, Bar}
 use Rattle.spec_grammar.specs.declared.raw.RawNames.{RawNames}
 use Rattle.spec_grammar.specs.declared.raw.RawSort.{RawSort}
 use Rattle.spec_grammar.specs.Items.{Item, Sign}
-use Rattle.spec_grammar.specs.Grammar.{Marked, sign, name_text, con_text, constructors_text, AreSorts}
+use Rattle.spec_grammar.specs.Grammar.{Marked, sign, name_text, con_text, constructors_text}
 use Rattle.spec_grammar.specs.Derives.{clean}
 use Rattle.spec_grammar.specs.Limits.{most_constructors, sort_mark, constructor_mark}
 use Rattle.spec_grammar.specs.Symbols.{Symbol, key, name, names, sorts, run}
@@ -75,11 +75,3 @@ ReadsNextSort version n t made rest items (Ok (Some x)) =
     × (length (rest x) < length items) × (t + k ≤ most_constructors version) × Lacks Bar (rest x)
 ReadsNextSort version n t made rest items (Ok None) = Lacks Sort items
 ReadsNextSort version n t made rest items (Err stop) = (j : ℕ) → Stops (sorts version n j t ∷ []) items stop
-
-abbrev pub ReadsSorts : {X : Type 0} → ℕ → (X → List RawSort) → (X → List Item) → List Item
-    → Result X Stop → Type 0
-ReadsSorts version made rest items (Ok x) =
-    AreSorts version 0 0 (made x) (clean items) (clean (rest x))
-    × ((st : List Symbol) → run (sorts version 0 0 0 ∷ st) items ≡ run st (rest x))
-    × (length (rest x) ≤ length items)
-ReadsSorts version made rest items (Err stop) = Stops (sorts version 0 0 0 ∷ []) items stop

@@ -5,7 +5,7 @@ ghost use Rattle.spec_grammar.specs.Items.{items_of};
 ghost use Rattle.spec_grammar.specs.Limits.{premise_mark, conclusion_mark};
 ghost use Rattle.spec_grammar.specs.Symbols.{clause as clause_symbol, commas as commas_symbol, conclusions as conclusions_symbol, bars as bars_symbol};
 ghost use Rattle.spec_grammar.specs.declared.keys.Key.TheVariants.{Comma, Bar, Arrow};
-ghost use Rattle.spec_syntax.specs.Reading.{Lacks, BeginsPremises, LacksPremises, Reads, ReadsTo, ReadsNext, ReadsItem, ReadsBars, ReadsPremises, ReadsClause};
+ghost use Rattle.spec_syntax.specs.Reading.{Lacks, BeginsPremises, LacksPremises, Reads, ReadsAs, ReadsTo, ReadsNext, ReadsItem, ReadsBars, ReadsPremises};
 
 use crate::stop::Stop;
 use crate::words::{Source, over};
@@ -23,9 +23,9 @@ pub(crate) struct Clause {
 impl<'a> Source<'a> {
     /// A clause: premises and conclusions with an arrow between them, or conclusions only.
     pub(crate) fn clause<'t>(&self, tokens: &'t [Token]) -> Result<(Clause, &'t [Token]), Stop>
-        ensures { ReadsClause (λ x. x.0.premises) (λ x. x.0.conclusions)
-            (λ x. items_of self.now.bytes.now x.1.now) (items_of self.now.bytes.now tokens.now)
-            result }
+        ensures { ReadsAs (λ x. IsClause x.0.premises x.0.conclusions)
+            (λ x. items_of self.now.bytes.now x.1.now) (clause_symbol ∷ [])
+            (items_of self.now.bytes.now tokens.now) result }
     {
         if let Some(next) = self.after_key(tokens, Key::Arrow) {
             let premises = Seq::new(self.alloc);

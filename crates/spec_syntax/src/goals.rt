@@ -1,10 +1,10 @@
 ghost use Rattle.std.specs.Prelude.{◌≡◌, ◌+◌, ◌∷◌, [], None};
-ghost use Rattle.spec_grammar.specs.Grammar.{sign, bind_text, binds_text};
+ghost use Rattle.spec_grammar.specs.Grammar.{sign, bind_text, binds_text, AreGoals};
 ghost use Rattle.spec_grammar.specs.Items.{items_of};
-ghost use Rattle.spec_grammar.specs.Limits.{variable_mark, goal_mark};
-ghost use Rattle.spec_grammar.specs.Symbols.{binds as binds_symbol, more_binds as more_binds_symbol, bind_then};
+ghost use Rattle.spec_grammar.specs.Limits.{variable_mark};
+ghost use Rattle.spec_grammar.specs.Symbols.{goals as goals_symbol, binds as binds_symbol, more_binds as more_binds_symbol, bind_then};
 ghost use Rattle.spec_grammar.specs.declared.keys.Key.TheVariants.{Comma};
-ghost use Rattle.spec_syntax.specs.Reading.{Reads, ReadsNext, ReadsGoal, ReadsNextGoal, ReadsGoals};
+ghost use Rattle.spec_syntax.specs.Reading.{Reads, ReadsAs, ReadsNext, ReadsNextAs, IsGoalText, IsOneGoal, goal_symbols};
 
 use crate::clauses::Clause;
 use crate::stop::Stop;
@@ -16,8 +16,8 @@ use term_core::Seq;
 impl<'a> Source<'a> {
     /// The goals.
     pub(crate) fn goals<'t>(&self, tokens: &'t [Token]) -> Result<(Seq<RawGoal>, &'t [Token]), Stop>
-        ensures { ReadsGoals (λ x. x.0) (λ x. items_of self.now.bytes.now x.1.now)
-            (items_of self.now.bytes.now tokens.now) result }
+        ensures { ReadsAs (λ x. AreGoals 0 x.0) (λ x. items_of self.now.bytes.now x.1.now)
+            (goals_symbol 0 ∷ []) (items_of self.now.bytes.now tokens.now) result }
     {
         let mut made = Seq::new(self.alloc);
         let mut rest = tokens;
@@ -35,8 +35,8 @@ impl<'a> Source<'a> {
         tokens: &'t [Token],
         n: usize,
     ) -> Result<Option<(RawGoal, &'t [Token])>, Stop>
-        ensures { ReadsNextGoal n (λ x. x.0) (λ x. items_of self.now.bytes.now x.1.now)
-            (items_of self.now.bytes.now tokens.now) result }
+        ensures { ReadsNextAs (λ x. IsOneGoal n x.0) (λ x. items_of self.now.bytes.now x.1.now)
+            (goals_symbol n) (goals_symbol (n + 1)) (items_of self.now.bytes.now tokens.now) result }
     {
         let Some(next) = self.after_key(tokens, Key::Goal) else {
             return Ok(None);
@@ -48,8 +48,8 @@ impl<'a> Source<'a> {
 
     /// A goal behind its first word.
     fn goal<'t>(&self, tokens: &'t [Token]) -> Result<(RawGoal, &'t [Token]), Stop>
-        ensures { ReadsGoal (λ x. x.0) (λ x. items_of self.now.bytes.now x.1.now)
-            (items_of self.now.bytes.now tokens.now) result }
+        ensures { ReadsAs (λ x. IsGoalText x.0) (λ x. items_of self.now.bytes.now x.1.now)
+            (goal_symbols []) (items_of self.now.bytes.now tokens.now) result }
     {
         let (head, rest) = self.name(tokens, None)?;
         let (binds, rest) = self.binds(rest)?;

@@ -3,7 +3,7 @@
 //! It stands on spec_text, whose tokens it reads, and on spec_grammar, whose definitions it meets:
 //! what a text derives, the place and the kind of its first fault, and the stack of symbols beside
 //! which each reading function is proved. The layers above use the contract of [`read`], which is
-//! exact in both directions, and of [`print`], by which what is printed reads back.
+//! exact in both directions.
 #![tactic(auto)]
 
 mod clauses;
@@ -11,6 +11,7 @@ mod declarations;
 mod fault;
 mod goals;
 mod laws;
+mod orders;
 mod reading;
 mod sorts;
 mod stop;
@@ -18,10 +19,9 @@ mod terms;
 mod words;
 
 pub use fault::SyntaxFault;
-pub use laws::{one_fault, printed_reads_back};
+pub use laws::one_fault;
 pub use reading::{read, read_term};
 pub use spec_grammar::{
-    LimitKind, RawBind, RawEq, RawFun, RawGoal, RawGuard, RawName, RawNames, RawRule, RawSort,
-    RawSpec, RawTerm, RawTerms,
+    LimitKind, RawBind, RawEq, RawEqual, RawFun, RawGoal, RawGuard, RawName, RawNames, RawRule,
+    RawSort, RawSpec, RawStatus, RawTerm, RawTerms,
 };
-pub use spec_printing::print;

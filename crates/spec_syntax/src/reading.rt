@@ -12,6 +12,7 @@ ghost use Rattle.spec_syntax.specs.Wholes.{ReadsWhole, ReadsEnd, Settles, place_
 ghost use Rattle.spec_syntax.specs.declared.fault.SyntaxFault.{SyntaxFault};
 
 use crate::fault::SyntaxFault;
+use crate::orders::OrderLines;
 use crate::stop::Stop;
 use crate::words::Source;
 use spec_grammar::{Key, RawSpec, RawTerm};
@@ -78,13 +79,17 @@ impl<'a> Source<'a> {
         let (version, rest) = self.format(rest)?;
         let (sorts, rest) = self.sorts(rest, version)?;
         let (funs, rest) = self.functions(rest, version)?;
+        let (order, rest) = self.order(rest, version)?;
         let (rules, rest) = self.rules(rest, version)?;
         let (goals, rest) = self.goals(rest)?;
         self.expect_end(rest)?;
+        let OrderLines { equals, statuses } = order;
         Ok(RawSpec {
             version,
             sorts,
             funs,
+            equals,
+            statuses,
             rules,
             goals,
         })
@@ -97,7 +102,7 @@ impl<'a> Source<'a> {
             (items_of self.now.bytes.now tokens.now) result }
     {
         match self.after_number(tokens) {
-            Some((1, rest)) => Ok((1, rest)),
+            Some((version, rest)) if version == 1 || version == 2 => Ok((version, rest)),
             _ => Err(self.fault(tokens, None)),
         }
     }

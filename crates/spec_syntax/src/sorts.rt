@@ -1,11 +1,11 @@
 ghost use Rattle.std.specs.Prelude.{◌≡◌, ◌≤◌, ◌<◌, ◌+◌, ◌∷◌, [], IfOk, length};
-ghost use Rattle.spec_grammar.specs.Grammar.{sign, con_text};
+ghost use Rattle.spec_grammar.specs.Grammar.{AreSorts};
 ghost use Rattle.spec_grammar.specs.Items.{items_of};
 ghost use Rattle.spec_grammar.specs.Limits.{most_constructors, constructor_mark};
 ghost use Rattle.spec_grammar.specs.Symbols.{sorts as sorts_symbol};
 ghost use Rattle.spec_grammar.specs.declared.keys.Key.TheVariants.{Bar, Sort};
-ghost use Rattle.spec_syntax.specs.Reading.{Lacks};
-ghost use Rattle.spec_syntax.specs.ReadingSorts.{ReadsConstructor, ReadsConstructors, ReadsSort, ReadsNextSort, ReadsSorts};
+ghost use Rattle.spec_syntax.specs.Reading.{ReadsAs};
+ghost use Rattle.spec_syntax.specs.ReadingSorts.{ReadsConstructor, ReadsConstructors, ReadsSort, ReadsNextSort};
 
 use crate::stop::Stop;
 use crate::words::{Source, over};
@@ -33,8 +33,8 @@ impl<'a> Source<'a> {
         tokens: &'t [Token],
         version: u32,
     ) -> Result<(Seq<RawSort>, &'t [Token]), Stop>
-        ensures { ReadsSorts version (λ x. x.0) (λ x. items_of self.now.bytes.now x.1.now)
-            (items_of self.now.bytes.now tokens.now) result }
+        ensures { ReadsAs (λ x. AreSorts version 0 0 x.0) (λ x. items_of self.now.bytes.now x.1.now)
+            (sorts_symbol version 0 0 0 ∷ []) (items_of self.now.bytes.now tokens.now) result }
     {
         let mut made = Seq::new(self.alloc);
         let mut total = 0;

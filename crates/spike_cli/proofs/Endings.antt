@@ -13,9 +13,9 @@ use Rattle.spike_cli.specs.declared.stops.Stop.{Stop}
 use Rattle.spike_cli.specs.declared.stops.Stop.TheVariants.{ReadFault, WriteFault, OutOfMemory}
 use Rattle.clause_core.specs.declared.reports.Claim.{Claim}
 use Rattle.spike_cli.specs.Claims.{IsStatusOfClaims}
-use Rattle.command_line.specs.Tasks.{Task, checking, refuting, proving, evaluating, replaying, Asks, AsksToLoad}
+use Rattle.command_line.specs.Tasks.{Task, checking, refuting, proving, evaluating, replaying, upgrading, Asks, AsksToLoad}
 use Rattle.spike_cli.specs.Evaluations.{IsEvaluation, valued, spent, refused}
-use Rattle.spike_cli.specs.Reads.{AreBytesOf, most_file_bytes}
+use Rattle.spike_cli.specs.Reads.{AreTextOf}
 use Rattle.spike_cli.specs.Replays.{IsFileReplay, IsReplay, accepted as accepted_report, no_report, refused as refused_report, replayed, too_long_report}
 use Rattle.spike_cli.specs.Parts.{AppendsPartOf}
 use Rattle.accepted_spec.specs.Meanings.{IsAcceptedAs}
@@ -87,6 +87,7 @@ no_end held (refuting search) raw spec text s n is = no_claims is.claims s n is.
 no_end held (proving bounds) raw spec text s n is = no_claims is.claims s n is.answers
 no_end held (evaluating term steps) raw spec text s n is = no_evaluation spec term steps text s n is
 no_end held (replaying report) raw spec text s n is = no_file_replay spec (held report) text s n is
+no_end held upgrading raw spec text s n is = subst (λ (u : Status). IsNoEnd u) is.1 n
 
 module _ (held : List ℕ → Option (List ℕ)) (task : Task) (bytes : List ℕ) (reads reads' : ℕ) (old new : Option (List ℕ)) (writes writes' : ℕ) where
   -- the line of a refusal
@@ -134,7 +135,7 @@ module _ (words : List (List ℕ)) (held : List ℕ → Option (List ℕ)) (read
   line_means s result line may done wrote ok err failed e = line_ends (Means words held reads reads' old new writes writes') (MayWrite words held) old new writes writes' (λ r p. (r, p)) (λ p. p) s result line may done wrote ok err failed e
 
   -- what was done on the bytes of the file that the words name
-  module _ (task : Task) (file bytes : List ℕ) (asks : Asks words file task) (read : AreBytesOf (held file) most_file_bytes bytes) (middle : ℕ) (before : reads ≤ middle) where
+  module _ (task : Task) (file bytes : List ℕ) (asks : Asks words file task) (read : AreTextOf (held file) bytes) (middle : ℕ) (before : reads ≤ middle) where
     with_file : (Holds : Task → List ℕ → Type 0) → Holds task bytes → ReadsFile words held Holds
     with_file Holds h = record { file = file; task = task; asked = asks; bytes = bytes; read = read; holds = h }
 

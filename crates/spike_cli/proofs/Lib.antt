@@ -12,7 +12,9 @@ pub mod OneText
 pub mod OneEnding
 pub mod OneReplay
 pub mod FinishedReports
+mod ReplayRuns
 pub mod RunsTwice
+mod UpgradedRuns
 pub mod OneReportClaims
 pub mod OneReport
 pub mod Readings

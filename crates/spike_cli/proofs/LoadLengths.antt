@@ -165,7 +165,7 @@ lines_short a (suc n) few =
       length-append (goal_line (load_goal a)) others,
     )
 
-pub load_short : (n : ℕ) → n ≤ 200 → length (printed (load_raw n)) ≤ 1048576
+pub load_short : (n : ℕ) → n ≤ 200 → length (printed (load_raw n)) ≤ 4194304
 unfolding digits
 load_short n few =
     let header = header_line 1 ++ flat_map sort_line (load_raw 0).sorts ++ flat_map fun_line

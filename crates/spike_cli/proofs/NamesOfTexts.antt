@@ -12,6 +12,8 @@ use Rattle.spec_grammar.specs.declared.raw.RawName.{RawName}
 use Rattle.spec_grammar.specs.declared.raw.RawNames.{RawNames}
 use Rattle.spec_grammar.specs.declared.raw.RawSort.{RawSort}
 use Rattle.spec_grammar.specs.declared.raw.RawFun.{RawFun}
+use Rattle.spec_grammar.specs.declared.raw.RawEqual.{RawEqual}
+use Rattle.spec_grammar.specs.declared.raw.RawStatus.{RawStatus}
 use Rattle.spec_grammar.specs.declared.raw.RawEq.{RawEq}
 use Rattle.spec_grammar.specs.declared.raw.RawGuard.{RawGuard}
 use Rattle.spec_grammar.specs.declared.raw.RawRule.{RawRule}
@@ -21,7 +23,7 @@ use Rattle.spec_grammar.specs.declared.raw.RawSpec.{RawSpec}
 use Rattle.spec_grammar.specs.RawTree.{RawTree, RawTrees, word, none, some}
 use Rattle.spec_grammar.specs.Items.{Word, reserved}
 use Rattle.spec_grammar.specs.Limits.{name_mark, constructor_mark, term_mark, variable_mark, premise_mark, conclusion_mark}
-use Rattle.spec_grammar.specs.Grammar.{Marked, sign, name_text, term_text, args_text, more_text, more_names_text, names_text, con_text, constructors_text, AreSorts, funs_text, guards_text, sides_text, rules_text, commas_text, premises_text, bars_text, conclusions_text, IsClause, more_binds_text, binds_text, AreGoals, IsSpecText}
+use Rattle.spec_grammar.specs.Grammar.{Marked, sign, name_text, term_text, args_text, more_text, more_names_text, names_text, con_text, constructors_text, AreSorts, funs_text, more_equal_text, AreEquals, more_numbers_text, AreStatuses, IsOrderText, guards_text, sides_text, rules_text, commas_text, premises_text, bars_text, conclusions_text, IsClause, more_binds_text, binds_text, AreGoals, IsSpecText}
 use Rattle.spec_grammar.specs.Derives.{TextDerives}
 use Rattle.spec_printing.proofs.Plain.{IsGood, AllGood}
 use Rattle.spec_printing.proofs.Pieces.{tokens_good}
@@ -229,13 +231,48 @@ goals_words n (g ∷ gs) text v (clause, after, is, are_clause, are) h =
     let goal : GoalWordsStand g = record { name = word_stands g.head.name g.head.at None good.2.0 good.2.1; binds = binds.0; premises = sides.0; conclusions = sides.1 } in
     (goal, goals_words (n + 1) gs after v are sides.2)
 
+-- what stands behind the lines that order functions
+more_equal_behind : (xs : List RawName) (v : List Marked) → AllGood (more_equal_text xs v) → AllGood v
+more_equal_behind [] v h = h
+more_equal_behind (x ∷ xs) v h = more_equal_behind xs v h.2.2
+
+equals_behind : (es : List RawEqual) (w v : List Marked) → AreEquals es w v → AllGood w → AllGood v
+equals_behind [] w v is h = subst AllGood is h
+equals_behind (e ∷ es) w v (first, second, others, after, listed, is, rest) h =
+    let good = subst AllGood is h in
+    equals_behind es after v rest (more_equal_behind (second ∷ others) after good.2.2)
+
+more_numbers_behind : (n : ℕ) (is : List ℕ) (v : List Marked) → AllGood (more_numbers_text n is v) → AllGood v
+more_numbers_behind n [] v h = h
+more_numbers_behind n (i ∷ is) v h = more_numbers_behind (n + 1) is v h.2.2
+
+statuses_behind : (ss : List RawStatus) (w v : List Marked) → AreStatuses ss w v → AllGood w → AllGood v
+statuses_behind [] w v is h = subst AllGood is h
+statuses_behind (s ∷ ss) w v (first, others, after, listed, is, rest) h =
+    let good = subst AllGood is h in
+    let closed = more_numbers_behind 1 others (sign RightPar ∷ after) good.2.2.2.2 in
+    statuses_behind ss after v rest closed.2
+
+order_behind : (raw : RawSpec) (w v : List Marked) → IsOrderText raw w v → AllGood w → AllGood v
+order_behind raw w v (middle, are_equals, are_statuses) h =
+    let after_equals = equals_behind raw.equals w middle are_equals h in
+    statuses_behind raw.statuses middle v are_statuses after_equals
+
 pub raw_names_stand : (bytes : List ℕ) (raw : RawSpec) → TextDerives IsSpecText bytes raw → RawNamesStand raw
-raw_names_stand bytes raw (tokens, are_tokens, (sorts_text, goals_text, is, are_sorts, are_goals, known)) =
+raw_names_stand bytes raw (
+  tokens,
+  are_tokens,
+  (sorts_text, order_text, goals_text, is, are_sorts, is_order, are_goals, known),
+) =
+    let version = raw.version in
+    let rules = rules_text version 0 raw.rules goals_text in
     let good = subst AllGood is (tokens_good bytes tokens (spans_hold bytes tokens are_tokens).spelled) in
-    let sorts = sorts_words raw.version 0 0 raw.sorts sorts_text (funs_text raw.version 0 raw.funs (rules_text raw.version 0 raw.rules goals_text)) are_sorts good.2.2 in
-    let funs = funs_words raw.version 0 raw.funs (rules_text raw.version 0 raw.rules goals_text) sorts.1 in
+    let sorts = sorts_words version 0 0 raw.sorts sorts_text (funs_text version 0 raw.funs order_text)
+    are_sorts good.2.2 in
+    let funs = funs_words version 0 raw.funs order_text sorts.1 in
+    let after_order = order_behind raw order_text rules is_order funs.1 in
     record {
       constructors = sorts.0;
       functions = funs.0;
-      goals = goals_words 0 raw.goals goals_text [] are_goals (rules_behind raw.version 0 raw.rules goals_text funs.1);
+      goals = goals_words 0 raw.goals goals_text [] are_goals (rules_behind version 0 raw.rules goals_text after_order);
     }

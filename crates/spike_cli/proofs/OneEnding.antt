@@ -18,7 +18,7 @@ use Rattle.spec_grammar.proofs.Unique.{one_spec as one_spec_text, one_term_text 
 use Rattle.sort_check.specs.StandsFor.{StandsFor, TermStandsFor}
 use Rattle.sort_check.specs.FirstFault.{spec_tests, ground_tests}
 use Rattle.sort_check.proofs.OneSpec.{one_spec}
-use Rattle.sort_check.proofs.WellSortedSpecs.{numbered_well_sorted}
+use Rattle.sort_check.proofs.WellSortedSpecs.{stands_well_sorted}
 use Rattle.sort_check.proofs.Names.{symbols_distinct}
 use Rattle.sort_check.proofs.OneTerm.{one_term}
 use Rattle.clause_core.specs.Orders.{above_of}
@@ -66,7 +66,7 @@ one_admit_line sig (Coverage f values) line other a b = a ∙ sym b
 one_admit_line sig OutOfMemory line other a b = absurd a
 
 pub well_sorted_meaning : (bytes : List ℕ) (spec : Spec) → TextStandsFor bytes spec → IsWellSorted spec
-well_sorted_meaning bytes spec a = numbered_well_sorted a.0 spec (keeps_limits bytes a.0 a.1) a.2.numbered
+well_sorted_meaning bytes spec a = stands_well_sorted a.0 spec (keeps_limits bytes a.0 a.1) a.2
 
 module _ (one : (spec : Spec) → OneFault (above_of spec)) where
   same_admit_line :

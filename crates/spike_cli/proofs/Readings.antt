@@ -9,8 +9,9 @@ use Rattle.io_core.specs.declared.faults.ReadError.TheVariants as read
 use Rattle.io_core.specs.declared.faults.WriteError.{WriteError}
 use Rattle.io_core.specs.declared.faults.WriteError.TheVariants as write
 use Rattle.spec_core.specs.declared.records.Spec.{Spec}
+use Rattle.spec_grammar.specs.Limits.{file_limit}
 use Rattle.command_line.specs.Tasks.{Task, replaying, Asks}
-use Rattle.spike_cli.specs.Reads.{most_file_bytes, most_report_bytes, AreBytesOf, IsLonger}
+use Rattle.spike_cli.specs.Reads.{most_report_bytes, AreBytesOf, AreTextOf, IsLonger}
 use Rattle.accepted_spec.specs.Meanings.{IsAccepted}
 use Rattle.spike_cli.specs.declared.statuses.Status.{Status}
 use Rattle.spike_cli.specs.declared.statuses.Status.TheVariants.{Refused}
@@ -61,11 +62,11 @@ failed_read e is other = let q : read.Failed ≡ read.OutOfMemory = sym is ∙ o
 -- what was read of the file that a command names
 pub read_bytes :
     (held : List ℕ → Option (List ℕ)) (name file items bytes : List ℕ) → name ≡ file → bytes ≡ items →
-    IfSome (held name) (λ whole. items ≡ whole) → length items ≤ most_file_bytes →
-    AreBytesOf (held file) most_file_bytes bytes
+    IfSome (held name) (λ whole. items ≡ whole) → length items ≤ file_limit items →
+    AreTextOf (held file) bytes
 read_bytes held name file items bytes named same told within =
-    subst (λ (b : List ℕ). AreBytesOf (held file) most_file_bytes b) (sym same)
-    (subst (λ (n : List ℕ). AreBytesOf (held n) most_file_bytes items) named (record { told = told; within = within }))
+    subst (λ (b : List ℕ). AreTextOf (held file) b) (sym same)
+    (subst (λ (n : List ℕ). AreTextOf (held n) items) named (record { told = told; within = within }))
 
 module _ (words : List (List ℕ)) (held : List ℕ → Option (List ℕ)) where
   pub asks_no_file : (old new : List (List ℕ)) → new ≡ old → AsksFiles words held old new
@@ -82,13 +83,13 @@ module _ (words : List (List ℕ)) (held : List ℕ → Option (List ℕ)) where
 
   all_asked :
       (file : List ℕ) (task : Task) → Asks words file task → (bytes : List ℕ) →
-      AreBytesOf (held file) most_file_bytes bytes → IsAccepted bytes → AreAsked words held (file ∷ further_files task)
+      AreTextOf (held file) bytes → IsAccepted bytes → AreAsked words held (file ∷ further_files task)
   all_asked file (replaying report) asks bytes read is = file_and_report file report bytes asks read is
   all_asked file task asks bytes read is = one_file file task asks
 
   pub asked_further :
       (file : List ℕ) (task : Task) (asks : Asks words file task) (old middle new : List (List ℕ)) (bytes : List ℕ) →
-      AreBytesOf (held file) most_file_bytes bytes → AddsName old middle file →
+      AreTextOf (held file) bytes → AddsName old middle file →
       AsksForOn bytes (further_files task) middle new → AsksFiles words held old new
   asked_further file task asks old middle new bytes read added (inl none) = asked_first file task asks old new (none ∙ added)
   asked_further file task asks old middle new bytes read added (inr all) =

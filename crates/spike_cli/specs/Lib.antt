@@ -8,10 +8,12 @@ pub mod Evaluations
 pub mod Replays
 pub mod FinishedReports
 pub mod Loads
+pub mod Upgrades
 pub mod Parts
 pub mod OneReport
 pub mod Runs
 pub mod RunsTwice
+pub mod UpgradedRuns
 pub mod Outcomes
 pub mod Codes
 -- What only this crate's own contracts speak of.

@@ -1,9 +1,6 @@
 -- What was read of a file, and how many bytes are read.
 use Rattle.std.specs.Prelude.{◌≡◌, ℕ, ◌<◌, ◌≤◌, List, Option, length, IfSome}
-
--- the most bytes of a specification's text
-abbrev pub most_file_bytes : ℕ
-most_file_bytes = 1048576
+use Rattle.spec_grammar.specs.Limits.{file_limit}
 
 -- the most bytes of a report's text
 abbrev pub most_report_bytes : ℕ
@@ -17,3 +14,11 @@ pub record AreBytesOf (held : Option (List ℕ)) (limit : ℕ) (bytes : List ℕ
 -- the file has more bytes than this, where the store tells them
 abbrev pub IsLonger : Option (List ℕ) → ℕ → Type 0
 IsLonger held limit = IfSome held (λ whole. limit < length whole)
+
+-- the bytes are those of a specification's file, which has no more than its beginning allows
+abbrev pub AreTextOf : Option (List ℕ) → List ℕ → Type 0
+AreTextOf held bytes = AreBytesOf held (file_limit bytes) bytes
+
+-- a specification's file has more bytes than its beginning allows, where the store tells them
+abbrev pub PassesItsLimit : Option (List ℕ) → Type 0
+PassesItsLimit held = IfSome held (λ whole. file_limit whole < length whole)

@@ -7,8 +7,8 @@ use Rattle.io_core.specs.Piece.{Appended}
 use Rattle.spike_cli.specs.declared.statuses.Status.{Status}
 use Rattle.spike_cli.specs.declared.statuses.Status.TheVariants.{Done, Refuted, Open, Refused, No, ReadFault, WriteFault, Usage, OutOfMemory}
 use Rattle.spike_cli.specs.Parts.{AppendsPartOf}
-use Rattle.command_line.specs.Tasks.{Task, checking, refuting, proving, evaluating, replaying, Asks, AsksToLoad, AskNothing}
-use Rattle.spike_cli.specs.Reads.{most_file_bytes, AreBytesOf, IsLonger}
+use Rattle.command_line.specs.Tasks.{Task, checking, refuting, proving, evaluating, replaying, upgrading, Asks, AsksToLoad, AskNothing}
+use Rattle.spike_cli.specs.Reads.{AreTextOf, PassesItsLimit}
 use Rattle.accepted_spec.specs.Meanings.{IsAccepted, IsAcceptedAs}
 use Rattle.accepted_spec.specs.Refusals.{IsRefusalOf}
 use Rattle.spike_cli.specs.Checks.{check_text, IsCheck}
@@ -16,10 +16,13 @@ use Rattle.spike_cli.specs.Reports.{BeginsReport, IsReport, search_alone}
 use Rattle.spike_cli.specs.Evaluations.{IsEvaluation, IsEvaluationText}
 use Rattle.spike_cli.specs.Replays.{IsFileReplay, IsFileReplayText}
 use Rattle.spike_cli.specs.Loads.{IsLoad}
+use Rattle.spike_cli.specs.Upgrades.{IsUpgrade}
+use Rattle.spec_printing.specs.Printed.{printed}
+use Rattle.spec_printing.specs.Upgraded.{upgraded}
 
 -- the line for words that are no command
 abbrev pub usage_line : List ℕ
-usage_line = codes "usage: spike check|eval|prove|refute|replay|load\n"
+usage_line = codes "usage: spike check|eval|prove|refute|replay|load|upgrade\n"
 
 -- the line for a file that is too long
 abbrev pub too_long_line : List ℕ
@@ -33,6 +36,7 @@ module _ (held : List ℕ → Option (List ℕ)) where
   IsEnd (proving bounds) raw spec text status = IsReport bounds spec text status
   IsEnd (evaluating term steps) raw spec text status = IsEvaluation spec term steps text status
   IsEnd (replaying report) raw spec text status = IsFileReplay spec (held report) text status
+  IsEnd upgrading raw spec text status = IsUpgrade raw text status
 
   -- a text that a task may write on a specification: what a report begins with, or the whole text
   -- of another task
@@ -42,6 +46,7 @@ module _ (held : List ℕ → Option (List ℕ)) where
   MayWriteOn (proving bounds) raw spec text = BeginsReport bounds spec text
   MayWriteOn (evaluating term steps) raw spec text = IsEvaluationText spec term steps text
   MayWriteOn (replaying report) raw spec text = IsFileReplayText spec (held report) text
+  MayWriteOn upgrading raw spec text = text ≡ printed (upgraded raw)
 
   module _ (task : Task) (bytes : List ℕ) where
     -- a text that a task may write for the bytes of its file
@@ -66,21 +71,19 @@ module _ (held : List ℕ → Option (List ℕ)) where
           ((line : List ℕ) × IsRefusalOf bytes line × Appended old new line) ⊎ Ended Refused
 
 module _ (words : List (List ℕ)) (held : List ℕ → Option (List ℕ)) where
-  -- the words ask for a task on a file of at most the limit's bytes, and this is so of the task and
-  -- the bytes
+  -- the words ask for a task on a file that isn't too long, and this is so of the task and the bytes
   pub record ReadsFile (Holds : Task → List ℕ → Type 0) : Type 0 where
     pub file : List ℕ
     pub task : Task
     pub asked : Asks words file task
     pub bytes : List ℕ
-    pub read : AreBytesOf (held file) most_file_bytes bytes
+    pub read : AreTextOf (held file) bytes
     pub holds : Holds task bytes
 
-  -- the words ask for a file that has more bytes, where the store tells them
+  -- the words ask for a file that is too long
   abbrev pub IsTooLong : Type 0
   IsTooLong =
-      (file : List ℕ) × (task : Task) × Asks words file task
-      × IsLonger (held file) most_file_bytes
+      (file : List ℕ) × (task : Task) × Asks words file task × PassesItsLimit (held file)
 
   -- a text that the program may write for these words and files
   pub data MayWrite : List ℕ → Type 0 where
@@ -91,7 +94,7 @@ module _ (words : List (List ℕ)) (held : List ℕ → Option (List ℕ)) where
     for_file : {text : List ℕ}
         → ReadsFile (λ task bytes. MayWriteFor held task bytes text) → MayWrite text
 
-  -- the line for a file that is longer than the limit, or the one for its text or for the term
+  -- the line for a file that is too long, or the one for its text or for the term
   abbrev pub RefusedCall : Option (List ℕ) → Option (List ℕ) → Type 0
   RefusedCall old new =
       (IsTooLong × Appended old new too_long_line)
@@ -127,7 +130,7 @@ module _ (words : List (List ℕ)) (held : List ℕ → Option (List ℕ)) where
     no_file : AreAsked []
     one_file : (file : List ℕ) (task : Task) → Asks words file task → AreAsked (file ∷ [])
     file_and_report : (file report bytes : List ℕ) → Asks words file (replaying report)
-        → AreBytesOf (held file) most_file_bytes bytes → IsAccepted bytes
+        → AreTextOf (held file) bytes → IsAccepted bytes
         → AreAsked (file ∷ report ∷ [])
 
   -- such names were added to those that were asked for before

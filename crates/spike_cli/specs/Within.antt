@@ -7,7 +7,7 @@ use Rattle.clause_core.specs.Admitted.{IsAdmitted}
 use Rattle.search_claims.specs.Laws.{BoundsStand}
 use Rattle.search_claims.specs.Names.{NamesStand}
 use Rattle.command_line.specs.declared.bounds.ProofBounds.{ProofBounds}
-use Rattle.command_line.specs.Tasks.{Task, checking, refuting, proving, evaluating, replaying}
+use Rattle.command_line.specs.Tasks.{Task, checking, refuting, proving, evaluating, replaying, upgrading}
 
 -- as far as a search for counterexamples and then for proofs may go
 pub record AreWithin (bounds : ProofBounds) : Type 0 where
@@ -22,6 +22,7 @@ TaskIsWithin (proving bounds) = AreWithin bounds
 TaskIsWithin (evaluating term steps) = Unit {0}
 TaskIsWithin (checking print) = Unit {0}
 TaskIsWithin (replaying report) = Unit {0}
+TaskIsWithin upgrading = Unit {0}
 
 -- its own order admits the specification, its names may stand in a report, and it has no more rules
 -- and goals than a text declares

@@ -4,11 +4,15 @@ ghost use Rattle.spec_grammar.specs.KeepsLimits.{KeepsLimits};
 ghost use Rattle.spike_cli.specs.Checks.{accepted_line as line_of_accepted};
 ghost use Rattle.spike_cli.specs.Checks.{check_text as text_of_check, constructor_count, IsCheck};
 ghost use Rattle.spike_cli.specs.Stops.{Finishes};
+ghost use Rattle.spike_cli.specs.Upgrades.{IsUpgrade};
+ghost use Rattle.spec_printing.specs.Printed.{printed};
+ghost use Rattle.spec_printing.specs.Upgraded.{upgraded};
 
 use crate::statuses::Status;
 use crate::stops::Stop;
 use io_core::{Sink, write_all};
-use spec_syntax::{RawSort, RawSpec, print};
+use spec_printing::{print, upgrade as print_upgraded};
+use spec_syntax::{RawSort, RawSpec};
 use std::alloc::Global;
 use term_core::OutOfMemory;
 
@@ -26,6 +30,18 @@ pub fn check<S: Sink>(
     ensures writes { S.faults out.old ≤ S.faults out.new }
 {
     let text = check_text(alloc, raw, printed)?;
+    write_all(out, alloc, &text)?;
+    Ok(Status::Done)
+}
+
+/// Writes the printed form of the specification in format 2.
+pub fn upgrade<S: Sink>(alloc: Global, raw: &RawSpec, out: &mut S) -> Result<Status, Stop>
+    ensures finishes { Finishes (S.written out.old) (S.written out.new)
+        (S.faults out.old) (S.faults out.new)
+        (IsUpgrade raw.now) (λ text. text ≡ printed (upgraded raw.now)) result }
+    ensures writes { S.faults out.old ≤ S.faults out.new }
+{
+    let text = print_upgraded(alloc, raw)?;
     write_all(out, alloc, &text)?;
     Ok(Status::Done)
 }

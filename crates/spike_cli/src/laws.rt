@@ -4,6 +4,8 @@ ghost use Rattle.spike_cli.specs.OneReport.{OneRightReport};
 ghost use Rattle.spike_cli.specs.Outcomes.{OneEnding, OneReplay};
 ghost use Rattle.spike_cli.specs.RunsTwice.{FinishedRunsAreReplayed};
 ghost use Rattle.spike_cli.specs.SearchAlone.{SearchAlone};
+ghost use Rattle.spike_cli.specs.UpgradedRuns.{UpgradedRunsAnswerTheSame};
+ghost use Rattle.spike_cli.specs.Upgrades.{UpgradesKeepMeaning};
 
 use acceptance::one_verdict;
 use command_line::one_request;
@@ -12,6 +14,8 @@ use plain_blocks::one_block;
 use proof_script::{one_fault as one_faulty_line, one_report};
 use routine_proof::one_proof;
 use spec_admit::{no_fault_where_admitted, one_fault};
+use spec_meaning::{places_mean_nothing, upgrades_stand_for_the_same};
+use spec_printing::upgrade_reads_back;
 
 /// What the text of a file leads to is one thing: an accepted specification, or a line of refusal.
 pub fn one_ending()
@@ -66,4 +70,24 @@ pub fn one_right_report()
 {
     one_block::<Lpo>();
     one_proof::<Lpo>();
+}
+
+/// What `upgrade` writes of an accepted text is accepted as the same specification, has at most three
+/// times the bytes, and is written again without a change.
+pub fn upgrades_keep_meaning()
+    ensures { UpgradesKeepMeaning }
+{
+    upgrade_reads_back();
+    places_mean_nothing();
+    upgrades_stand_for_the_same();
+}
+
+/// A report on a file gets the same reply on the file that `upgrade` makes of it.
+pub fn upgraded_runs_answer_the_same()
+    ensures { UpgradedRunsAnswerTheSame }
+{
+    upgrades_keep_meaning();
+    one_ending();
+    one_request();
+    one_replay();
 }

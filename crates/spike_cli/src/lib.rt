@@ -6,7 +6,8 @@
 //! most `--nodes` nodes, with the goals proved before as lemmas; `refute FILE` looks for
 //! counterexamples alone. `replay FILE REPORT` says whether a report is accepted, or the line at
 //! which it first isn't. `check FILE` says that the file is accepted, or with `--print` writes its
-//! printed form, and `eval FILE TERM` evaluates a term without variables within `--steps` rule uses.
+//! printed form, and `upgrade FILE` writes that form in format 2. `eval FILE TERM` evaluates a term
+//! without variables within `--steps` rule uses.
 //! A file that isn't accepted, or a term that isn't one, gets a line of refusal, which says what its
 //! first fault is. `load N` generates so many goals, proves them and replays the report, and writes
 //! how many are proved, refuted and left open.
@@ -29,7 +30,8 @@ mod stops;
 
 pub use laws::{
     finished_reports_are_accepted, finished_runs_are_replayed, one_ending, one_load, one_replay,
-    one_right_report, search_alone_proves_nothing,
+    one_right_report, search_alone_proves_nothing, upgraded_runs_answer_the_same,
+    upgrades_keep_meaning,
 };
 pub use replaying::MAX_REPORT_BYTES;
 pub use running::run;

@@ -1,15 +1,20 @@
-ghost use Rattle.std.specs.Prelude.{◌≡◌, ◌≤◌, ℕ, List, length, map, string_bytes};
+ghost use Rattle.std.specs.Prelude.{◌≡◌, ◌≢◌, ◌≤◌, ◌⊎◌, ℕ, List, length, map, string_bytes, IfOk, IfErr, IfSome, IsErrOf, OnOk};
+ghost use Rattle.io_core.specs.Asked.{AddsName};
+ghost use Rattle.io_core.specs.Count.{Rose};
+ghost use Rattle.io_core.specs.declared.faults.ReadError.TheVariants as ReadError;
+ghost use Rattle.spec_grammar.specs.Limits.{file_limit as most_bytes};
 ghost use Rattle.spec_grammar.specs.KeepsLimits.{KeepsLimits};
 ghost use Rattle.clause_core.specs.Orders.{order_of};
 ghost use Rattle.command_line.specs.Commands.{file_of, task_of};
 ghost use Rattle.command_line.specs.Tasks.{Asks};
+ghost use Rattle.spike_cli.specs.Reads.{PassesItsLimit};
 ghost use Rattle.spike_cli.specs.Runs.{AsksFiles, IsEnd, MayWriteOn, Means};
 ghost use Rattle.spike_cli.specs.Stops.{AsksFor, AsksForOn, FinishesReading, MeansFor, Refuses};
 ghost use Rattle.spike_cli.specs.Stops.{further_files, status_ended};
 ghost use Rattle.accepted_spec.specs.Tellings.{IsLineOf};
 ghost use Rattle.spike_cli.specs.Within.{HasReports, TaskIsWithin};
 
-use crate::checking::check;
+use crate::checking::{check, upgrade};
 use crate::evaluating::evaluate;
 use crate::loading::load;
 use crate::replaying::replay_file;
@@ -19,7 +24,7 @@ use crate::stops::Stop;
 use accepted_spec::{Accepted, Refusal, specification};
 use command_line::{Command, Request, request_of};
 use io_core::{Files, ReadError, Sink, WriteError, write_all};
-use spec_grammar::MAX_FILE_BYTES;
+use spec_grammar::{MAX_FILE_BYTES, file_limit};
 use std::alloc::Global;
 
 /// Does all that the program does: carries out the command that the words ask for, reads its files
@@ -44,7 +49,7 @@ pub fn run<F: Files, S: Sink>(alloc: Global, words: &[String], files: &mut F, ou
             let wrote = write_all(
                 out,
                 alloc,
-                b"usage: spike check|eval|prove|refute|replay|load\n",
+                b"usage: spike check|eval|prove|refute|replay|load|upgrade\n",
             );
             ended(Status::Usage, wrote)
         }
@@ -71,7 +76,7 @@ fn run_on_file<F: Files, S: Sink>(
     ensures writes { S.faults out.old ≤ S.faults out.new }
 {
     let _words = words;
-    match files.read(alloc, command.file(), MAX_FILE_BYTES) {
+    match read_text(alloc, command.file(), files) {
         Ok(bytes) => carry_out(alloc, command, &bytes, files, out),
         Err(ReadError::TooLong) => ended(
             Status::Refused,
@@ -80,6 +85,32 @@ fn run_on_file<F: Files, S: Sink>(
         Err(ReadError::Failed) => Status::ReadFault,
         Err(ReadError::OutOfMemory) => Status::OutOfMemory,
     }
+}
+
+/// The bytes of a specification's file. The file is too long where it has more of them than its
+/// beginning allows.
+fn read_text<F: Files>(alloc: Global, name: &str, files: &mut F) -> Result<Vec<u8>, ReadError>
+    ensures stays { (n : List ℕ) → F.held files.new n ≡ F.held files.old n }
+    ensures told { IfOk result (λ text. IfSome (F.held files.old name.now)
+        (λ whole. text.items ≡ whole)) }
+    ensures within { IfOk result (λ text. length text.items ≤ most_bytes text.items) }
+    ensures too_long { IsErrOf result ReadError.TooLong
+        → PassesItsLimit (F.held files.old name.now) }
+    ensures failed { IsErrOf result ReadError.Failed
+        → Rose (F.faults files.old) (F.faults files.new) }
+    ensures counts { F.faults files.old ≤ F.faults files.new }
+    ensures asks { OnOk result (AddsName (F.asked files.old) (F.asked files.new) name.now) }
+    ensures asks_err { IfErr result (λ error. error ≢ ReadError.OutOfMemory
+        → AddsName (F.asked files.old) (F.asked files.new) name.now) }
+    ensures asks_memory { IsErrOf result ReadError.OutOfMemory
+        → AddsName (F.asked files.old) (F.asked files.new) name.now
+        ⊎ ((F.asked files.new ≡ F.asked files.old) × (F.faults files.new ≡ F.faults files.old)) }
+{
+    let text = files.read(alloc, name, MAX_FILE_BYTES)?;
+    if text.len() > file_limit(&text) {
+        return Err(ReadError::TooLong);
+    }
+    Ok(text)
 }
 
 /// Carries out a command on the bytes of its file.
@@ -146,6 +177,7 @@ fn finish<F: Files, S: Sink>(
         Command::Replay { report, .. } => {
             replay_file(alloc, &accepted.admitted, report, files, out)
         }
+        Command::Upgrade { .. } => upgrade(alloc, &accepted.raw, out),
     }
 }
 

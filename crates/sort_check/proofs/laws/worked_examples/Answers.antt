@@ -1,5 +1,22 @@
+use Rattle.std.proofs.Common.{refl}
 use Rattle.sort_check.proofs.NaturalsStand.{naturals_stand, loose_first, free_first, repeated_first}
+use Rattle.sort_check.proofs.FaultyLines.{no_symbol_first, constructor_first, same_line_first, other_line_first, unlike_first, second_status_first, no_order_first, few_numbers_first}
 use Rattle.sort_check.proofs.laws.worked_examples.Goals as goal
 
 pub returns : goal.returns
-returns c = record { stands = naturals_stand; loose = loose_first; free = free_first; repeated = repeated_first }
+returns c = record {
+  stands = naturals_stand;
+  loose = loose_first;
+  free = free_first;
+  repeated = repeated_first;
+  levels = refl;
+  statuses = refl;
+  no_symbol = no_symbol_first;
+  constructor = constructor_first;
+  same_line = same_line_first;
+  other_line = other_line_first;
+  unlike = unlike_first;
+  second_status = second_status_first;
+  no_order = no_order_first;
+  few_numbers = few_numbers_first;
+}

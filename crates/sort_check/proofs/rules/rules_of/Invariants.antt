@@ -11,6 +11,6 @@ invariant-loop-raw l =
     record {
       long : length l.counts.items ≡ length l.sig.table;
       counts : AreCounts l.sig (take l.raw-index l.raws) l.counts.items;
-      clean : Clean (each_after (rule_tests l.sig) [] (take l.raw-index l.raws));
+      clean : Clean (each_after (rule_tests l.sig l.most) [] (take l.raw-index l.raws));
       made : AllZip (RuleStands l.sig) (take l.raw-index l.raws) l.made;
     }

@@ -7,6 +7,8 @@ unfolding digits
 returns c = record {
   header = refl;
   lines = refl;
+  orders = refl;
+  in_format_two = refl;
   whole = refl;
   without_conclusions = refl;
   without_premises = refl;

@@ -1,7 +1,6 @@
 use Rattle.std.proofs.Common.{◌≤◌, ◌∙◌, List, ℕ, sym, subst, length}
 use Rattle.load_text.specs.Accepted.{IsAcceptedAs}
 use Rattle.load_text.specs.LoadSpec.{load_spec}
-use Rattle.spike_cli.specs.Reads.{most_file_bytes}
 use Rattle.accepted_spec.specs.Refusals.{IsRefusalOf}
 use Rattle.accepted_spec.specs.Tellings.{Tells}
 use Rattle.accepted_spec.specs.declared.refusals.Refusal.{Refusal}
@@ -12,7 +11,7 @@ use Rattle.spike_cli.proofs.loading.generated.Goals as goal
 
 pub specification-requires : goal.specification-requires
 specification-requires c =
-    subst (λ (t : List ℕ). length t ≤ most_file_bytes)
+    subst (λ (t : List ℕ). length t ≤ 4194304)
     (sym (c.deref.ensures.value ∙ c.in_ok-text.ensures.text))
     (load_short c.args.goals c.requires.few)
 

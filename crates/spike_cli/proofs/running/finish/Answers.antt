@@ -52,6 +52,24 @@ returns-in-Replay-clause-finishes g c =
     let spec = c.args.accepted.now.admitted.spec in
     subst (λ (k : Command). FinishesReading (g.S.Sink.written c.args.out.now) (g.S.Sink.written c.replay_file.new.out) (g.S.Sink.faults c.args.out.now) (g.S.Sink.faults c.replay_file.new.out) (g.F.Files.faults c.args.files.now) (g.F.Files.faults c.replay_file.new.files) (IsEnd held (task_of k) raw spec) (MayWriteOn held (task_of k) raw spec) c.replay_file.result) (sym c.in-Replay.is) c.replay_file.ensures.finishes
 
+pub returns-in-Upgrade-clause-finishes : goal.returns-in-Upgrade-clause-finishes
+returns-in-Upgrade-clause-finishes g c =
+    let held = g.F.Files.held c.args.files.now in
+    let raw = c.args.accepted.now.raw in
+    let spec = c.args.accepted.now.admitted.spec in
+    let old = g.S.Sink.written c.args.out.now in
+    let new = g.S.Sink.written c.upgrade.new.out in
+    let writes = g.S.Sink.faults c.args.out.now in
+    let writes' = g.S.Sink.faults c.upgrade.new.out in
+    let reads = g.F.Files.faults c.args.files.now in
+    let task = task_of c.args.command.now in
+    let made = subst (λ (k : Command).
+    Finishes old new writes writes' (IsEnd held (task_of k) raw spec)
+    (MayWriteOn held (task_of k) raw spec) c.upgrade.result)
+    (sym c.in-Upgrade.is) c.upgrade.ensures.finishes in
+    reads_nothing old new writes writes' reads reads (IsEnd held task raw spec)
+    (MayWriteOn held task raw spec) c.upgrade.result made
+
 pub evaluate-requires-clause-admitted : goal.evaluate-requires-clause-admitted
 evaluate-requires-clause-admitted g c =
     subst (λ (s : Spec). IsAdmitted (above_of s) s) (sym c.spec.ensures.is) c.requires.reported.admitted

@@ -1,5 +1,5 @@
 use Rattle.std.proofs.Common.{◌≡◌, ◌∷◌, ℕ, List, ap, sym, subst}
-use Rattle.spec_grammar.specs.Items.{Item, item_as, item_of, items_of}
+use Rattle.spec_grammar.specs.Items.{item_as, item_of, items_of}
 use Rattle.spec_syntax.specs.Reading.{LacksWord}
 use Rattle.spec_syntax.proofs.Steps.{no_name}
 use Rattle.spec_syntax.proofs.words.Source.name.Goals as goal
