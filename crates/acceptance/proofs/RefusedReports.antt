@@ -13,8 +13,7 @@ use Rattle.spec_core.specs.Verdict.{IsVerdict}
 use Rattle.spec_core.specs.WellSorted.{IsWellSorted}
 use Rattle.spec_core.specs.Findings.{First}
 use Rattle.spec_core.specs.Naturals.{nat, naturals, naturals_sig, same_goal, unit_goal, zero_term, succ_term, plus_term}
-use Rattle.term_core.specs.Precedence.{by_number}
-use Rattle.path_order.specs.Above.{Above}
+use Rattle.sample_specs.specs.SumOrder.{AboveInSums}
 use Rattle.clause_core.specs.declared.clauses.Relation.TheVariants.{Less, Same}
 use Rattle.clause_core.specs.declared.steps.Step.{Step}
 use Rattle.clause_core.specs.declared.steps.Step.TheVariants.{Trivial, Cover}
@@ -48,7 +47,7 @@ abbrev none_proved : ℕ → Type 0
 none_proved = ProvedBefore naturals []
 
 abbrev IsFirst : List Step → ℕ → ReplayWhy → Type 0
-IsFirst steps at why = First (block_tests (Above by_number) naturals [] 3 (codes "unit") steps) (at, why)
+IsFirst steps at why = First (block_tests AboveInSums naturals [] 3 (codes "unit") steps) (at, why)
 
 -- a report that proves the goal alone is first refused where its block is
 of_block : (steps : List Step) (at : ℕ) (why : ReplayWhy) → IsFirst steps at why → RefusedOnNaturals (only (proves_unit steps)) at why
@@ -59,7 +58,7 @@ of_block steps at why h = inl (inr (λ h. h (unit_goal, unit_named, tt), inr (λ
 abbrev circle : List Children
 circle = both_cases ∷ by_goal ∷ by_goal ∷ []
 
-circle_makes : StepsMake (Above by_number) naturals none_proved (unit_clause ∷ []) 0 circular_steps circle
+circle_makes : StepsMake AboveInSums naturals none_proved (unit_clause ∷ []) 0 circular_steps circle
 circle_makes = (
   cases_made naturals.goals none_proved,
   (
@@ -105,16 +104,16 @@ not_same : (codes "same" ≡ codes "unit") ⊎ ⊥ → ⊥
 not_same (inl e) = let h : ◌≡◌ {A = ℕ} 115 117 = cc in omega arith
 not_same (inr h) = h
 
-module _ (relation : OneRelation (Above by_number)) (fine : IsWellSorted naturals) where
+module _ (relation : OneRelation AboveInSums) (fine : IsWellSorted naturals) where
   step_refused : (steps : List Step) (k : ℕ) (why : Why) → k < length steps →
-      StepIsRefused (Above by_number) naturals none_proved unit_clause steps k why →
+      StepIsRefused AboveInSums naturals none_proved unit_clause steps k why →
       IsFirst steps (3 + suc k) (of_step why)
-  step_refused steps k why l h = first_step (Above by_number) relation naturals fine [] 3 (codes "unit") unit_goal
+  step_refused steps k why l h = first_step AboveInSums relation naturals fine [] 3 (codes "unit") unit_goal
       unit_named steps k why l start_within h
 
   pub circular : RefusedOnNaturals (only (proves_unit circular_steps)) 5 NotSmaller
   circular = of_block circular_steps 5 NotSmaller
-      (first_larger (Above by_number) relation naturals fine [] 3 (codes "unit") unit_goal unit_named circular_steps
+      (first_larger AboveInSums relation naturals fine [] 3 (codes "unit") unit_goal unit_named circular_steps
       start_within circle circle_makes refl 1 (omega arith) first_allowed not_smaller)
 
   abbrev longer : List Step
@@ -125,12 +124,12 @@ module _ (relation : OneRelation (Above by_number)) (fine : IsWellSorted natural
 
   pub unfinished : RefusedOnNaturals (only (proves_unit (by_cases ∷ []))) 3 Pending
   unfinished = of_block (by_cases ∷ []) 3 Pending
-      (first_pending (Above by_number) relation naturals fine [] 3 (codes "unit") unit_goal unit_named (by_cases ∷ [])
+      (first_pending AboveInSums relation naturals fine [] 3 (codes "unit") unit_goal unit_named (by_cases ∷ [])
       start_within (both_cases ∷ []) (cases_made naturals.goals none_proved, tt) (omega arith))
 
   pub claimed_twice : RefusedOnNaturals (record { steps = 1; claims = proves_unit unit_steps ∷ proves_unit unit_steps ∷ [] }) 10 GoalTwice
   claimed_twice = inr (
-    claim_clean (Above by_number) relation naturals fine 1 [] (proves_unit unit_steps)
+    claim_clean AboveInSums relation naturals fine 1 [] (proves_unit unit_steps)
         (shown 1 [] (λ h. h)),
     inl (inr (λ h. h (unit_goal, unit_named, tt), inl (inl refl, refl))),
   )
@@ -164,7 +163,7 @@ module _ (relation : OneRelation (Above by_number)) (fine : IsWellSorted natural
       λ h. h (unit_goal, unit_named, tt),
       inr (
         not_same,
-        first_step (Above by_number) relation naturals fine (leaves_open ∷ []) 4 (codes "unit") unit_goal unit_named
+        first_step AboveInSums relation naturals fine (leaves_open ∷ []) 4 (codes "unit") unit_goal unit_named
             by_same 0 NotProvedBefore (omega arith) start_within
             (_, [], refl, tt, inr (unit_clause, refl, inr (λ l. none_before l.number l.may_be_used, refl))),
       ),

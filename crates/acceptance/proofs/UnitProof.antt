@@ -12,8 +12,7 @@ use Rattle.spec_core.specs.declared.records.SymInfo.{SymInfo}
 use Rattle.spec_core.specs.Sorts.{Sorted, SortedAll, IsBuilt}
 use Rattle.spec_core.specs.Naturals.{nat, declares, naturals, naturals_sig, unit_goal, zero_term, succ_term, plus_term, plus_zero_rule, plus_succ_rule}
 use Rattle.spec_core.proofs.SortedNaturals.{bool_is_not_nat}
-use Rattle.term_core.specs.Precedence.{by_number}
-use Rattle.path_order.specs.Above.{Above}
+use Rattle.sample_specs.specs.SumOrder.{AboveInSums}
 use Rattle.clause_core.specs.declared.clauses.Clause.{Clause}
 use Rattle.clause_core.specs.declared.answers.Children.{Children}
 use Rattle.clause_core.specs.declared.answers.Child.{Child}
@@ -109,10 +108,10 @@ module _ (goals : List Goal) (usable : ℕ → Type 0) where
   abbrev succ_rule_at : RuleAt (with_goals goals) 2
   succ_rule_at = record { place = 1; rule = plus_succ_rule; counts = refl; is = refl }
 
-  pub cases_made : StepMakes (Above by_number) (with_goals goals) usable (unit_clause ∷ []) 0 by_cases both_cases
+  pub cases_made : StepMakes AboveInSums (with_goals goals) usable (unit_clause ∷ []) 0 by_cases both_cases
   cases_made = record { clause = unit_clause; is = refl; says = inl (record { sort = nat; is = refl; contexts = [] ∷ (one ∷ []); each = (zero_pattern, (succ_pattern, tt)) }, inl (covering, (_, ((refl, refl), ((refl, refl), tt)), tt, inl (((zero_within, (succ_within, tt)), omega arith), refl)))) }
 
-  pub makes : StepsMake (Above by_number) (with_goals goals) usable (unit_clause ∷ []) 0 unit_steps made
+  pub makes : StepsMake AboveInSums (with_goals goals) usable (unit_clause ∷ []) 0 unit_steps made
   makes = (
     cases_made,
     (
@@ -154,10 +153,10 @@ allowed (suc (suc (suc (suc (suc (suc k)))))) = allowed_past made (suc (suc (suc
 module _ (budget : ℕ) (before : List Claim) (first : IsClaimed unit_goal.name before → ⊥) where
   -- behind claims that aren't on this goal
   shown_by : (goals : List Goal) → IsGoalNamed (with_goals goals) unit_goal.name unit_goal →
-      ClaimIsAccepted (Above by_number) (with_goals goals) budget before (proves_unit unit_steps)
+      ClaimIsAccepted AboveInSums (with_goals goals) budget before (proves_unit unit_steps)
   shown_by goals named = record { goal = unit_goal; named = named; first = first; shown = record { within = start_within; made = made; makes = makes goals (ProvedBefore (with_goals goals) before); finished = refl; allowed = allowed } }
 
-  pub shown : ClaimIsAccepted (Above by_number) naturals budget before (proves_unit unit_steps)
+  pub shown : ClaimIsAccepted AboveInSums naturals budget before (proves_unit unit_steps)
   shown = shown_by naturals.goals (1, refl, refl)
 
 -- the goal again, after the goal unit
@@ -173,7 +172,7 @@ not_again : IsClaimed (codes "again") (proves_unit unit_steps ∷ []) → ⊥
 not_again (inl e) = let h : ◌≡◌ {A = ℕ} 117 97 = cc in omega arith
 not_again (inr h) = h
 
-again_shown : ClaimIsAccepted (Above by_number) two_units 1 (proves_unit unit_steps ∷ []) proves_again
+again_shown : ClaimIsAccepted AboveInSums two_units 1 (proves_unit unit_steps ∷ []) proves_again
 again_shown = record {
   goal = again_goal;
   named = (1, refl, refl);
@@ -187,6 +186,6 @@ again_shown = record {
   };
 }
 
-pub by_proved : IsAccepted (Above by_number) two_units
+pub by_proved : IsAccepted AboveInSums two_units
     (record { steps = 1; claims = proves_unit unit_steps ∷ proves_again ∷ [] })
 by_proved = (shown_by 1 [] (λ h. h) two_units.goals (0, refl, refl), (again_shown, tt))

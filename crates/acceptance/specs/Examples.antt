@@ -5,8 +5,7 @@ use Rattle.term_core.specs.Tree.{Tree, var}
 use Rattle.spec_core.specs.declared.records.Goal.{Goal}
 use Rattle.spec_core.specs.declared.records.Spec.{Spec}
 use Rattle.spec_core.specs.Naturals.{naturals, unit_goal, zero_term, succ_term}
-use Rattle.term_core.specs.Precedence.{by_number}
-use Rattle.path_order.specs.Above.{Above}
+use Rattle.sample_specs.specs.SumOrder.{AboveInSums}
 use Rattle.clause_core.specs.declared.steps.Step.{Step}
 use Rattle.clause_core.specs.declared.steps.Step.TheVariants.{Trivial, Subsume, ByLemma, Rule, Decompose, Cover}
 use Rattle.clause_core.specs.declared.answers.Why.TheVariants.{NoSuchNode, NotProvedBefore, NotCovering}
@@ -79,10 +78,10 @@ abbrev pub x_and_y : Tree → Tree → NamedValues
 x_and_y x y = (codes "x", x) ∷ (codes "y", y) ∷ []
 
 abbrev pub AcceptedOnNaturals : Report → Type 0
-AcceptedOnNaturals report = IsAccepted (Above by_number) naturals report
+AcceptedOnNaturals report = IsAccepted AboveInSums naturals report
 
 abbrev pub RefusedOnNaturals : Report → ℕ → ReplayWhy → Type 0
-RefusedOnNaturals report line why = IsFirstRefusal (Above by_number) naturals report line why
+RefusedOnNaturals report line why = IsFirstRefusal AboveInSums naturals report line why
 
 pub record WorkedExamples : Type 0 where
   -- a proof of plus(x, zero) = x by cases of x, behind an open claim
@@ -91,7 +90,7 @@ pub record WorkedExamples : Type 0 where
       AcceptedOnNaturals (record { steps = 1; claims = leaves_open ∷ proves_unit unit_steps ∷ [] })
   -- a goal that is proved may be used
   pub by_proved :
-      IsAccepted (Above by_number) two_units
+      IsAccepted AboveInSums two_units
       (record { steps = 1; claims = proves_unit unit_steps ∷ proves_again ∷ [] })
   -- where each case is shown by the goal itself, the second step refers to what isn't smaller
   pub circular : RefusedOnNaturals (only (proves_unit circular_steps)) 5 NotSmaller

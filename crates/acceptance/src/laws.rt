@@ -1,7 +1,7 @@
 ghost use Rattle.acceptance.specs.Examples.{WorkedExamples};
 ghost use Rattle.acceptance.specs.Laws.{BlocksAreWhole, OneVerdict};
 
-use path_order::{Lpo, TermOrder};
+use term_order::TermOrder;
 
 /// By each order, a report is accepted or has one first refusal, and never both.
 pub fn one_verdict<O: TermOrder>()
@@ -18,8 +18,6 @@ pub fn blocks_are_whole<O: TermOrder>(order: &O)
 pub fn worked_examples()
     ensures { WorkedExamples }
 {
-    let order = Lpo::by_number();
-    clause_core::one_relation(&order);
     clause_core::worked_examples();
     spec_core::worked_examples();
     spec_core::one_value();

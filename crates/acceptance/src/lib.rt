@@ -7,7 +7,8 @@
 //! report of claims is accepted. `specs/Refusals.antt` has the tests of a report in their order,
 //! each with the line and the reason that it tells. The layers above use that a report is accepted
 //! or has one first refusal, and never both ([`one_verdict`]), and that [`allowed`] tells the first
-//! node of a block at which something isn't allowed.
+//! node of a block at which something isn't allowed. The worked examples take the order of
+//! sample_specs.
 #![tactic(auto)]
 
 mod allowing;

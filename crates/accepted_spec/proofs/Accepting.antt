@@ -6,7 +6,7 @@ use Rattle.spec_core.specs.declared.records.Guard.{Guard}
 use Rattle.spec_core.specs.declared.records.Rule.{Rule}
 use Rattle.spec_core.specs.declared.records.Spec.{Spec}
 use Rattle.spec_core.specs.RuleSizes.{RuleIsWithin, RulesAreWithin}
-use Rattle.clause_core.specs.Orders.{above_of}
+use Rattle.spec_order.specs.Orders.{above_of}
 use Rattle.coverage_check.proofs.Namings.{named_missing}
 use Rattle.spec_admit.specs.FirstFault.{Tells as IsFirstFault}
 use Rattle.spec_admit.specs.declared.faults.AdmitFault.{AdmitFault}

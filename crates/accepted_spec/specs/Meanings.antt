@@ -8,7 +8,7 @@ use Rattle.spec_grammar.specs.Grammar.{IsSpecText, IsTermText}
 use Rattle.spec_grammar.specs.RawTree.{RawTree}
 use Rattle.spec_grammar.specs.declared.raw.RawSpec.{RawSpec}
 use Rattle.sort_check.specs.StandsFor.{StandsFor, TermStandsFor}
-use Rattle.clause_core.specs.Orders.{above_of}
+use Rattle.spec_order.specs.Orders.{above_of}
 use Rattle.clause_core.specs.Admitted.{IsAdmitted}
 
 -- the text derives a raw specification that stands for this one

@@ -8,7 +8,7 @@ use Rattle.spec_syntax.specs.declared.fault.SyntaxFault.TheVariants as syntax
 use Rattle.spec_syntax.specs.Faults.{HasFault}
 use Rattle.spec_core.specs.declared.records.Spec.{Spec}
 use Rattle.spec_core.specs.Sig.{Sig}
-use Rattle.clause_core.specs.Orders.{above_of}
+use Rattle.spec_order.specs.Orders.{above_of}
 use Rattle.spec_admit.specs.FirstFault.{Tells as IsFirstFault}
 use Rattle.spec_admit.specs.declared.faults.AdmitFault.{AdmitFault}
 use Rattle.spec_grammar.specs.Derives.{TextDerives}

@@ -3,7 +3,7 @@
 //!
 //! It stands on spec_syntax, which reads bytes, on sort_check, which has numbers for their names, and
 //! on spec_admit, which admits by the order that it is given: the specification's own
-//! (clause_core's `specs/Orders.antt`). `specs/Meanings.antt` says what bytes stand for, and
+//! (spec_order's `specs/Orders.antt`). `specs/Meanings.antt` says what bytes stand for, and
 //! `specs/Refusals.antt` and `specs/AdmitLines.antt` which line tells which fault. The program above
 //! uses the contracts of [`specification`] and [`ground_term`]: what they answer is what the bytes
 //! stand for, and what they refuse has the line of its first fault.

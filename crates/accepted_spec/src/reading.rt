@@ -3,17 +3,17 @@ ghost use Rattle.term_core.specs.declared.ids.SortId.{SortId};
 ghost use Rattle.spec_core.specs.Sorts.{Sorted};
 ghost use Rattle.spec_core.specs.WellSorted.{IsWellSorted};
 ghost use Rattle.clause_core.specs.Admitted.{IsAdmitted};
-ghost use Rattle.clause_core.specs.Orders.{above_by, order_of as own_order};
+ghost use Rattle.spec_order.specs.Orders.{above_by, order_of as own_order};
 ghost use Rattle.accepted_spec.specs.Meanings.{IsAcceptedAs, TermTextStandsFor};
 ghost use Rattle.accepted_spec.specs.Refusals.{IsRefusalOf, IsTermRefusal};
 ghost use Rattle.accepted_spec.specs.Tellings.{Tells};
 
 use crate::admission::admit_refusal;
 use crate::refusals::{Refusal, Subject, sort_refusal, syntax_refusal};
-use path_order::Lpo;
 use sort_check::{elaborate, elaborate_term, numbering_keeps_sizes};
 use spec_admit::{Admitted, admit};
-use spec_core::{OrderInfo, Signature, Spec};
+use spec_core::{Signature, Spec};
+use spec_order::AnyOrder;
 use spec_syntax::{RawSpec, read, read_term};
 use std::alloc::Global;
 use term_core::{OutOfMemory, Term};
@@ -22,7 +22,7 @@ use term_core::{OutOfMemory, Term};
 #[derive(Drop)]
 pub struct Accepted {
     pub raw: RawSpec,
-    pub admitted: Admitted<Lpo>,
+    pub admitted: Admitted<AnyOrder>,
 }
 
 impl Accepted {
@@ -52,21 +52,10 @@ pub fn specification(alloc: Global, bytes: &[u8]) -> Result<Accepted, Refusal>
         Err(fault) => return Err(sort_refusal(alloc, Subject::File, fault)),
     };
     numbering_keeps_sizes();
-    let order = order_of(alloc, &spec)?;
+    let order = AnyOrder::of(alloc, &spec)?;
     match admit(alloc, spec, order) {
         Ok(admitted) => Ok(Accepted { raw, admitted }),
         Err(error) => Err(admit_refusal(alloc, &error.spec.sig, &error.fault)),
-    }
-}
-
-/// The order of the specification: the path ordering with its levels and statuses.
-fn order_of(alloc: Global, spec: &Spec) -> Result<Lpo, OutOfMemory>
-    requires { IsWellSorted spec.now }
-    ensures { IfOk result (λ order. order ≡ own_order spec.now) }
-{
-    let order = spec.order.copy(alloc)?;
-    match order {
-        OrderInfo::Path { levels, statuses } => Ok(Lpo::with(levels, statuses)),
     }
 }
 

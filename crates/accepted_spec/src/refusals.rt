@@ -170,5 +170,7 @@ fn kind_text(kind: SortKind) -> &'static [u8]
         SortKind::EqualTwice => b"equal twice",
         SortKind::StatusTwice => b"status twice",
         SortKind::NoOrderOfArguments => b"no order of arguments",
+        SortKind::EqualOrStatusWithKbo => b"equal or status with kbo",
+        SortKind::WrongWeight => b"wrong weight",
     }
 }

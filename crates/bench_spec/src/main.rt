@@ -2,10 +2,11 @@
 //! it, compares its left sides, asks whether they match all values or compares its rules' sides in
 //! the path ordering, or compares terms without a file, for the figures of `bench/run`.
 //!
-//! It stands on spec_syntax, sort_check, ground_eval, refuter, overlap_check, coverage_check and
-//! path_order, and promises nothing beyond being safe. The words are `search FILE DEPTH TRIES`,
-//! `eval FILE TERM BUDGET TIMES`, `above deep|paired|wide SIZE TIMES`, or `MODE FILE TIMES` with
-//! the mode `sort`, `overlap`, `cover` or `order`.
+//! It builds on spec_syntax, sort_check, ground_eval, refuter, overlap_check, coverage_check,
+//! path_order and kbo_order, and promises nothing beyond being safe. The words are
+//! `search FILE DEPTH TRIES`, `eval FILE TERM BUDGET TIMES`, `above SHAPE SIZE TIMES` with `deep`,
+//! `paired`, `wide` or `weights` as shape, or `MODE FILE TIMES` with the mode `sort`, `overlap`,
+//! `cover` or `order`.
 #![tactic(auto)]
 
 mod towers;
@@ -19,7 +20,7 @@ use anyhow::{Context, Result, bail};
 use coverage_check::{Coverage, covers, rows_of};
 use ground_eval::{Eval, eval};
 use overlap_check::{Linear, Overlap, linear, overlap};
-use path_order::{Lpo, TermOrder};
+use path_order::Lpo;
 use refuter::{Search, search};
 use sort_check::{elaborate, elaborate_term};
 use spec_core::{Rule, Spec};
@@ -28,6 +29,7 @@ use spec_syntax::{read, read_term};
 use std::alloc::Global;
 use std::{env, fs};
 use term_core::SymId;
+use term_order::TermOrder;
 use towers::compared_terms;
 
 /// How many rule uses the evaluation of one side may cost in a search.

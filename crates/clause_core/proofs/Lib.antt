@@ -1,5 +1,4 @@
 pub mod RuleUses
-pub mod OwnOrders
 mod Naturals
 mod SmallClauses
 pub mod Multisets

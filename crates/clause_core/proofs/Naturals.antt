@@ -6,9 +6,7 @@ use Rattle.spec_core.specs.declared.records.Rule.{Rule}
 use Rattle.spec_core.specs.declared.records.Guard.{Guard}
 use Rattle.spec_core.specs.Groups.{Whole, GroupsAreWhole, group, wanting, alone, split}
 use Rattle.spec_core.specs.Naturals.{naturals, plus_zero_rule, plus_succ_rule}
-use Rattle.term_core.specs.Precedence.{by_number}
-use Rattle.path_order.specs.Above.{Above, by_argument, by_head, by_arguments, this_is, later, all_none, all_some, here}
-use Rattle.path_order.specs.Irreflexive.{irreflexive}
+use Rattle.sample_specs.specs.SumOrder.{AboveInSums}
 use Rattle.clause_core.specs.Admitted.{RuleIsOrdered, RulesAreOrdered}
 use Rattle.clause_core.specs.Examples.{with_rule, looping_rule, is_true, one_sided_rule}
 
@@ -18,24 +16,20 @@ each_rule P p q zero rule at = let e : plus_zero_rule ≡ rule = let s : Some pl
 each_rule P p q (suc zero) rule at = let e : plus_succ_rule ≡ rule = let s : Some plus_succ_rule ≡ Some rule = at in cc in subst P e q
 each_rule P p q (suc (suc k)) rule at = absurd (let e : None ≡ Some rule = at in cc)
 
-zero_ordered : RuleIsOrdered (Above by_number) plus_zero_rule
-zero_ordered = record { right = by_argument (later this_is); guards = tt }
+zero_ordered : RuleIsOrdered AboveInSums plus_zero_rule
+zero_ordered = record { right = λ env. omega arith; guards = tt }
 
-succ_ordered : RuleIsOrdered (Above by_number) plus_succ_rule
-succ_ordered = record {
-  right = by_head (omega arith) (all_some
-      (by_arguments refl (here refl (by_argument this_is) (all_some (by_argument (later this_is)) all_none))) all_none);
-  guards = tt;
-}
+succ_ordered : RuleIsOrdered AboveInSums plus_succ_rule
+succ_ordered = record { right = λ env. omega arith; guards = tt }
 
-pub ordered : RulesAreOrdered (Above by_number) naturals
-ordered = each_rule (RuleIsOrdered (Above by_number)) zero_ordered succ_ordered
+pub ordered : RulesAreOrdered AboveInSums naturals
+ordered = each_rule (RuleIsOrdered AboveInSums) zero_ordered succ_ordered
 
 pub whole : GroupsAreWhole naturals
 whole = each_rule (λ (rule : Rule). Whole (group rule.left 0 naturals.rules)) alone alone
 
-pub not_ordered : RulesAreOrdered (Above by_number) (with_rule looping_rule) → ⊥
-not_ordered h = irreflexive by_number looping_rule.left (h 0 looping_rule refl).right
+pub not_ordered : RulesAreOrdered AboveInSums (with_rule looping_rule) → ⊥
+not_ordered h = let a = (h 0 looping_rule refl).right in omega (arith, a (λ n. 0))
 
 nothing_is_not_whole : {ms : List (ℕ × List Guard)} → Whole ms → ms ≡ [] → ⊥
 nothing_is_not_whole alone e = cc

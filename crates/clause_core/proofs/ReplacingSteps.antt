@@ -7,8 +7,7 @@ use Rattle.term_core.specs.Contexts.{hole, under}
 use Rattle.term_core.proofs.Members.{In, in_contained}
 use Rattle.spec_core.specs.declared.records.Equation.{Equation}
 use Rattle.spec_core.specs.Naturals.{zero_term, succ_term, plus_term}
-use Rattle.term_core.specs.Precedence.{by_number}
-use Rattle.path_order.specs.Above.{Above, by_argument, by_arguments, this_is, here, all_none}
+use Rattle.sample_specs.specs.SumOrder.{AboveInSums}
 use Rattle.clause_core.specs.Multisets.{Exceeds}
 use Rattle.clause_core.specs.Limits.{IsWithin}
 use Rattle.clause_core.specs.Places.{TermAt}
@@ -21,7 +20,7 @@ use Rattle.clause_core.proofs.ClosingSteps.{unit_usable, no_premise, where_zero_
 
 -- one greater term in the place of one
 exceeds_one : (common : List Tree) (xs ys : List Tree) (a b : Tree) → IsPermutation xs (common ++ (a ∷ [])) →
-    IsPermutation ys (common ++ (b ∷ [])) → a ≢ b → Above by_number a b → Exceeds (Above by_number) xs ys
+    IsPermutation ys (common ++ (b ∷ [])) → a ≢ b → AboveInSums a b → Exceeds AboveInSums xs ys
 exceeds_one common xs ys a b p q d above = record {
   rest = a ∷ [];
   other = b ∷ [];
@@ -35,8 +34,8 @@ exceeds_one common xs ys a b p q d above = record {
     different x (inl e) (inr f) = f
     different x (inr e) f = e
 
-    greater : (y : Tree) → In y (b ∷ []) → Above by_number a y
-    greater y (inl e) = subst (λ z. Above by_number a z) (sym e) above
+    greater : (y : Tree) → In y (b ∷ []) → AboveInSums a y
+    greater y (inl e) = subst (λ z. AboveInSums a z) (sym e) above
     greater y (inr e) = absurd e
 
 abbrev sum : Tree
@@ -45,11 +44,11 @@ sum = plus_term (var 0) zero_term
 succ_not : succ_term sum ≢ succ_term (var 0)
 succ_not e = let q : app 3 (some (app 4 (some (var 0) (some zero_term none))) none) ≡ app 3 (some (var 0) none) = e in cc
 
-succ_above : Above by_number (succ_term sum) (succ_term (var 0))
-succ_above = by_arguments refl (here refl (by_argument this_is) all_none)
+succ_above : AboveInSums (succ_term sum) (succ_term (var 0))
+succ_above = λ env. omega arith
 
 -- succ(plus(?0, zero)) and succ(?0) are greater than plus(?0, zero) and ?0
-behind : Exceeds (Above by_number) (succ_term sum ∷ succ_term (var 0) ∷ []) (sum ∷ var 0 ∷ [])
+behind : Exceeds AboveInSums (succ_term sum ∷ succ_term (var 0) ∷ []) (sum ∷ var 0 ∷ [])
 behind = record {
   rest = succ_term sum ∷ succ_term (var 0) ∷ [];
   other = sum ∷ var 0 ∷ [];
@@ -68,18 +67,16 @@ behind = record {
     different x (inr (inr e)) f = e
 
     greater : (y : Tree) → In y (sum ∷ var 0 ∷ []) → (x : Tree) × Contains (succ_term sum ∷ succ_term (var 0) ∷ [])
-        x × Above by_number x y
+        x × AboveInSums x y
     greater y (inl e) = (
       succ_term sum,
       (0, omega arith, refl),
-      subst (λ z. Above by_number (succ_term sum) z) (sym e)
-          (by_argument this_is),
+      subst (λ z. AboveInSums (succ_term sum) z) (sym e) (λ env. omega arith),
     )
     greater y (inr (inl e)) = (
       succ_term (var 0),
       (1, omega arith, refl),
-      subst
-          (λ z. Above by_number (succ_term (var 0)) z) (sym e) (by_argument this_is),
+      subst (λ z. AboveInSums (succ_term (var 0)) z) (sym e) (λ env. omega arith),
     )
     greater y (inr (inr e)) = absurd e
 
@@ -91,9 +88,10 @@ inner premises = record { at = first succ_sides []; round = under 3 none hole no
 abbrev others : List Tree
 others = var 0 ∷ succ_term sum ∷ succ_term (var 0) ∷ []
 
-less_sum : Exceeds (Above by_number) (sum ∷ var 0 ∷ succ_term sum ∷ succ_term (var 0) ∷ [])
+less_sum : Exceeds AboveInSums (sum ∷ var 0 ∷ succ_term sum ∷ succ_term (var 0) ∷ [])
     (var 0 ∷ var 0 ∷ succ_term sum ∷ succ_term (var 0) ∷ [])
-less_sum = exceeds_one others _ _ sum (var 0) (IsPermutation-append_comm (sum ∷ []) others) (IsPermutation-append_comm (var 0 ∷ []) others) (λ e. (let q : sum ≡ var 0 = e in cc)) (by_argument this_is)
+less_sum = exceeds_one others _ _ sum (var 0) (IsPermutation-append_comm (sum ∷ []) others)
+    (IsPermutation-append_comm (var 0 ∷ []) others) (λ e. (let q : sum ≡ var 0 = e in cc)) (λ env. omega arith)
 
 wrong_side : Rewrites succ_clause unit_clause sum false → ⊥
 wrong_side r =
@@ -103,7 +101,7 @@ wrong_side r =
     cc
 
 -- succ(plus(?0, zero)) = succ(?0) compares with succ(?0) = succ(?0) as Less
-less_sides : Exceeds (Above by_number) (succ_term sum ∷ succ_term (var 0) ∷ [])
+less_sides : Exceeds AboveInSums (succ_term sum ∷ succ_term (var 0) ∷ [])
     (succ_term (var 0) ∷ succ_term (var 0) ∷ [])
 less_sides = exceeds_one (succ_term (var 0) ∷ []) _ _ (succ_term sum) (succ_term (var 0)) (record { moves = (0, 1) ∷ []; below = (omega arith, omega arith, tt); is = refl }) (IsPermutation-refl _) succ_not succ_above
 

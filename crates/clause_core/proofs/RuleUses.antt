@@ -6,7 +6,7 @@ use Rattle.spec_core.specs.declared.records.Guard.{Guard}
 use Rattle.spec_core.specs.declared.records.Spec.{Spec}
 use Rattle.spec_core.specs.Gives.{boolean}
 use Rattle.spec_core.specs.WellSorted.{IsShallow}
-use Rattle.path_order.specs.Laws.{HasRanks}
+use Rattle.term_order.specs.Laws.{HasRanks}
 use Rattle.clause_core.specs.Admitted.{GuardIsOrdered}
 use Rattle.clause_core.specs.RuleUses.{InstancesRankLower, GuardRanksLower, RulesRankLower}
 

@@ -10,8 +10,7 @@ use Rattle.spec_core.specs.declared.records.Equation.{Equation}
 use Rattle.spec_core.specs.Naturals.{nat, naturals_sig, declares, zero_term, plus_term}
 use Rattle.spec_core.specs.Sorts.{Sorted}
 use Rattle.spec_core.specs.WellSorted.{EquationsAreSorted}
-use Rattle.term_core.specs.Precedence.{by_number}
-use Rattle.path_order.specs.Above.{Above, by_argument, later, this_is}
+use Rattle.sample_specs.specs.SumOrder.{AboveInSums}
 use Rattle.clause_core.specs.declared.clauses.Relation.TheVariants.{Less, Same, Neither}
 use Rattle.clause_core.specs.Clauses.{sides, ClauseIsSorted}
 use Rattle.clause_core.specs.Multisets.{Exceeds}
@@ -24,7 +23,7 @@ use Rattle.clause_core.specs.ClauseExamples.{equals, claims, zero_sum, same_x, r
 abbrev sum : Tree
 sum = plus_term zero_term (var 0)
 
-pub swapped : Compares (Above by_number) zero_sum (claims (nat ∷ []) (equals (var 0) sum)) Same
+pub swapped : Compares AboveInSums zero_sum (claims (nat ∷ []) (equals (var 0) sum)) Same
 swapped = IsPermutation-append_comm (sum ∷ []) (var 0 ∷ [])
 
 abbrev same : Tree → List Tree
@@ -33,7 +32,7 @@ same t = t ∷ t ∷ []
 differ : var 0 ≡ sum → ⊥
 differ e = cc
 
-pub rewritten : Compares (Above by_number) zero_sum same_x Less
+pub rewritten : Compares AboveInSums zero_sum same_x Less
 rewritten = record {
   rest = sum ∷ [];
   other = var 0 ∷ [];
@@ -52,8 +51,8 @@ rewritten = record {
     both x (inl p) (inr j) = j
     both x (inr i) j = i
 
-    above : (y : Tree) → In y (var 0 ∷ []) → Above by_number sum y
-    above y (inl e) = subst (λ t. Above by_number sum t) (let q : var 0 ≡ y = cc in q) (by_argument (later this_is))
+    above : (y : Tree) → In y (var 0 ∷ []) → AboveInSums sum y
+    above y (inl e) = subst (λ t. AboveInSums sum t) (let q : var 0 ≡ y = cc in q) (λ env. omega arith)
     above y (inr i) = absurd i
 
 only_x : (t : Tree) → Contains (same (var 0)) t → t ≡ var 0
@@ -64,10 +63,10 @@ only_x t c = go (in_contained (same (var 0)) t c)
     go (inr (inl e)) = e
     go (inr (inr i)) = absurd i
 
-nothing_below_x : (t s : Tree) → t ≡ var 0 → Above by_number t s → ⊥
-nothing_below_x t s e a = let b : Above by_number (var 0) s = subst (λ u. Above by_number u s) e a in elim b [ ]
+nothing_below_x : (t s : Tree) → t ≡ var 0 → AboveInSums t s → ⊥
+nothing_below_x t s e a = let b : AboveInSums (var 0) s = subst (λ u. AboveInSums u s) e a in omega (arith, b (λ n. 0))
 
-pub greater : Compares (Above by_number) same_x zero_sum Neither
+pub greater : Compares AboveInSums same_x zero_sum Neither
 greater = (
   λ p. none (Contains-permutation (sides zero_sum) (same (var 0)) sum (IsPermutation-sym (same (var 0)) (sides zero_sum) p) here),
   λ e. go e (in_either sum e.rests.common e.other (in_contained (e.rests.common ++ e.other) sum (Contains-permutation (sides zero_sum) (e.rests.common ++ e.other) sum e.rests.of_second here))),
@@ -79,11 +78,11 @@ greater = (
     none : Contains (same (var 0)) sum → ⊥
     none c = let e : sum ≡ var 0 = only_x sum c in cc
 
-    back : (e : Exceeds (Above by_number) (same (var 0)) (sides zero_sum)) (t : Tree) →
+    back : (e : Exceeds AboveInSums (same (var 0)) (sides zero_sum)) (t : Tree) →
         In t (e.rests.common ++ e.rest) → Contains (same (var 0)) t
     back e t i = Contains-permutation (e.rests.common ++ e.rest) (same (var 0)) t (IsPermutation-sym (same (var 0)) (e.rests.common ++ e.rest) e.rests.of_first) (contained_in (e.rests.common ++ e.rest) t i)
 
-    go : (e : Exceeds (Above by_number) (same (var 0)) (sides zero_sum)) → In sum e.rests.common ⊎ In sum e.other → ⊥
+    go : (e : Exceeds AboveInSums (same (var 0)) (sides zero_sum)) → In sum e.rests.common ⊎ In sum e.other → ⊥
     go e (inl i) = none (back e sum (in_first sum e.rests.common e.rest i))
     go e (inr i) =
         let g = e.has_greater sum (contained_in e.other sum i) in

@@ -6,8 +6,7 @@ use Rattle.term_core.specs.declared.ids.SortId.{SortId}
 use Rattle.spec_core.specs.declared.records.Equation.{Equation}
 use Rattle.spec_core.specs.Declarations.{bool_sort}
 use Rattle.spec_core.specs.Naturals.{nat, naturals_sig, zero_term, succ_term, plus_term, same_goal}
-use Rattle.term_core.specs.Precedence.{by_number}
-use Rattle.path_order.specs.Above.{Above}
+use Rattle.sample_specs.specs.SumOrder.{AboveInSums}
 use Rattle.clause_core.specs.declared.clauses.Clause.{Clause}
 use Rattle.clause_core.specs.declared.clauses.Relation.TheVariants.{Less, Same, Neither}
 use Rattle.clause_core.specs.Clauses.{ClauseIsSorted}
@@ -67,9 +66,9 @@ pub record ClauseExamples : Type 0 where
       (equals (plus_term (var 0) (succ_term (var 0))) (var 0))
   -- plus(zero, x) = x and x = plus(zero, x) have the same sides
   pub swapped :
-      Compares (Above by_number) zero_sum (claims (nat ∷ []) (equals (var 0) (plus_term zero_term (var 0))))
+      Compares AboveInSums zero_sum (claims (nat ∷ []) (equals (var 0) (plus_term zero_term (var 0))))
       Same
   -- x = x is less: x cancels once, and plus(zero, x) is above x
-  pub rewritten : Compares (Above by_number) zero_sum same_x Less
+  pub rewritten : Compares AboveInSums zero_sum same_x Less
   -- the other way round no side is above plus(zero, x)
-  pub greater : Compares (Above by_number) same_x zero_sum Neither
+  pub greater : Compares AboveInSums same_x zero_sum Neither

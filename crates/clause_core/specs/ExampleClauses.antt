@@ -5,8 +5,7 @@ use Rattle.term_core.specs.declared.ids.SortId.{SortId}
 use Rattle.spec_core.specs.declared.records.Equation.{Equation}
 use Rattle.spec_core.specs.declared.records.Spec.{Spec}
 use Rattle.spec_core.specs.Naturals.{nat, naturals, zero_term, plus_term}
-use Rattle.term_core.specs.Precedence.{by_number}
-use Rattle.path_order.specs.Above.{Above}
+use Rattle.sample_specs.specs.SumOrder.{AboveInSums}
 use Rattle.clause_core.specs.declared.clauses.Clause.{Clause}
 use Rattle.clause_core.specs.declared.clauses.Relation.TheVariants.{Less, Same}
 use Rattle.clause_core.specs.ClauseExamples.{equals, claims}
@@ -50,17 +49,17 @@ only_goal k number = number ≡ k
 
 -- what a step says at the only node of a block, where no goal may be used
 abbrev pub SaysAlone : Spec → Clause → Step → Result Children Why → Type 0
-SaysAlone spec c step answer = Says (Above by_number) c (c ∷ []) (row_of spec no_goal (c ∷ []) c step) answer
+SaysAlone spec c step answer = Says AboveInSums c (c ∷ []) (row_of spec no_goal (c ∷ []) c step) answer
 
 -- over naturals, what it says there where the goal of this number may be used
 abbrev pub SaysWithGoal : ℕ → Clause → Step → Result Children Why → Type 0
 SaysWithGoal k c step answer =
-    Says (Above by_number) c (c ∷ []) (row_of naturals (only_goal k) (c ∷ []) c step) answer
+    Says AboveInSums c (c ∷ []) (row_of naturals (only_goal k) (c ∷ []) c step) answer
 
 -- and what it says at the node 1, after a node 0
 abbrev pub SaysBehind : Clause → Clause → Step → Result Children Why → Type 0
 SaysBehind d c step answer =
-    Says (Above by_number) c (d ∷ c ∷ []) (row_of naturals no_goal (d ∷ c ∷ []) c step) answer
+    Says AboveInSums c (d ∷ c ∷ []) (row_of naturals no_goal (d ∷ c ∷ []) c step) answer
 
 -- children, and the node 0 as a reference
 abbrev pub less : Clause → Child

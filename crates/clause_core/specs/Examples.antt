@@ -5,8 +5,7 @@ use Rattle.spec_core.specs.declared.records.Guard.{Guard}
 use Rattle.spec_core.specs.declared.records.Rule.{Rule}
 use Rattle.spec_core.specs.declared.records.Spec.{Spec}
 use Rattle.spec_core.specs.Naturals.{naturals, overlapping, uncovered, variable, plus_term}
-use Rattle.term_core.specs.Precedence.{by_number}
-use Rattle.path_order.specs.Above.{Above}
+use Rattle.sample_specs.specs.SumOrder.{AboveInSums}
 use Rattle.clause_core.specs.Admitted.{IsAdmitted}
 
 -- naturals with this one rule
@@ -45,15 +44,15 @@ one_sided_rule = record {
 }
 
 pub record WorkedExamples : Type 0 where
-  -- naturals with addition are admitted by the path ordering
-  pub naturals_are_admitted : IsAdmitted (Above by_number) naturals
+  -- naturals with addition are admitted by the order of sums
+  pub naturals_are_admitted : IsAdmitted AboveInSums naturals
   -- they aren't where a variable occurs twice on a left side
-  pub repeating_is_not : IsAdmitted (Above by_number) (with_rule repeating_rule) → ⊥
+  pub repeating_is_not : IsAdmitted AboveInSums (with_rule repeating_rule) → ⊥
   -- nor where a right side isn't below its left side
-  pub looping_is_not : IsAdmitted (Above by_number) (with_rule looping_rule) → ⊥
+  pub looping_is_not : IsAdmitted AboveInSums (with_rule looping_rule) → ⊥
   -- nor with the rules plus(zero, y) = y and plus(x, y) = x, which match the same values
-  pub overlapping_is_not : IsAdmitted (Above by_number) overlapping → ⊥
+  pub overlapping_is_not : IsAdmitted AboveInSums overlapping → ⊥
   -- nor where no rule takes over when a test has the other answer
-  pub one_sided_is_not : IsAdmitted (Above by_number) (with_rule one_sided_rule) → ⊥
+  pub one_sided_is_not : IsAdmitted AboveInSums (with_rule one_sided_rule) → ⊥
   -- nor with the rule plus(zero, y) = y alone
-  pub uncovered_is_not : IsAdmitted (Above by_number) uncovered → ⊥
+  pub uncovered_is_not : IsAdmitted AboveInSums uncovered → ⊥

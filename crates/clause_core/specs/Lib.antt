@@ -1,6 +1,5 @@
 -- When a specification is admitted, by which order, and by which ranks its proofs descend.
 pub mod Admitted
-pub mod Orders
 pub mod Ranks
 pub mod RuleUses
 pub mod Examples

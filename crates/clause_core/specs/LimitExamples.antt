@@ -2,8 +2,7 @@
 use Rattle.std.specs.Prelude.{◌≡◌, List, [], ◌∷◌, true, Result, Err, length}
 use Rattle.term_core.specs.Tree.{var}
 use Rattle.spec_core.specs.Naturals.{number, naturals, zero_term, succ_term}
-use Rattle.term_core.specs.Precedence.{by_number}
-use Rattle.path_order.specs.Above.{Above}
+use Rattle.sample_specs.specs.SumOrder.{AboveInSums}
 use Rattle.clause_core.specs.declared.clauses.Clause.{Clause}
 use Rattle.clause_core.specs.ClauseExamples.{equals, implies, zero_sum, same_x}
 use Rattle.clause_core.specs.declared.steps.Step.{Step}
@@ -19,7 +18,7 @@ use Rattle.clause_core.specs.ExampleClauses.{one, no_goal, SaysAlone, gives}
 abbrev pub SaysInFull : Step → Result Children Why → Type 0
 SaysInFull step answer =
     (nodes : List Clause) → length nodes ≡ 10000 →
-    Says (Above by_number) same_x nodes (row_of naturals no_goal nodes same_x step) answer
+    Says AboveInSums same_x nodes (row_of naturals no_goal nodes same_x step) answer
 
 pub record LimitExamples : Type 0 where
   -- => plus(zero, 100) = 100 has 102 levels. That the instance passes a limit goes before that it

@@ -6,10 +6,10 @@ ghost use Rattle.clause_core.specs.Multisets.{AreRests, HasGreater, EachHasGreat
 ghost use Rattle.clause_core.specs.Comparing.{MultisetsCompare, Compares, IsTestable, AreTestable, SidesAreTestable};
 
 use crate::clauses::{Clause, Relation};
-use path_order::TermOrder;
 use spec_core::Equation;
 use std::alloc::Global;
 use term_core::{OutOfMemory, Term};
+use term_order::TermOrder;
 
 /// Compares the sides of `c` with those of `d` as multisets (Dershowitz and Manna, 1979): `Less`
 /// means that those of `d` are less. The number of comparisons of sides is that of the sides of

@@ -3,7 +3,7 @@ ghost use Rattle.clause_core.specs.ClauseExamples.{ClauseExamples};
 ghost use Rattle.clause_core.specs.ClauseLaws.{OneRelation, TidyingLaws};
 ghost use Rattle.clause_core.specs.RuleUses.{RulesRankLower};
 
-use path_order::TermOrder;
+use term_order::TermOrder;
 
 /// Each use of a rule of an admitted specification ranks lower, in any context.
 pub fn rules_rank_lower<O: TermOrder>(order: &O)
@@ -21,7 +21,7 @@ pub fn one_relation<O: TermOrder>(order: &O)
     ensures { OneRelation (O.above order.now) }
 {}
 
-/// Naturals with addition are admitted by the path ordering, and what is near to them isn't.
+/// Naturals with addition are admitted by the order of sums, and what is near to them isn't.
 pub fn worked_examples()
     ensures { WorkedExamples }
 {

@@ -1,11 +1,11 @@
 //! Admitted specifications, clauses with what proofs ask of them, and the steps of proofs with the
 //! table that says what each of them makes of a clause.
 //!
-//! It stands on term_core, spec_core, substitutions and path_order. A specification is admitted, by
-//! an order on terms, where its definitions are complete, don't overlap and end
-//! (`specs/Admitted.antt`). The program admits each one by its own order (`specs/Orders.antt`); all
-//! else here holds for any order. `specs/Ranks.antt` says by which ranks proofs descend: each use of
-//! a rule ranks lower ([`rules_rank_lower`]).
+//! It builds on term_core, spec_core, substitutions and term_order; its worked examples take the
+//! order of sample_specs. A specification is admitted, by an order on terms, where its definitions
+//! are complete, don't overlap and end (`specs/Admitted.antt`). All here holds for any order.
+//! `specs/Ranks.antt` says by which ranks proofs descend: each use of a rule ranks lower
+//! ([`rules_rank_lower`]).
 //!
 //! A [`Clause`] in a proof keeps limits (`specs/Limits.antt`), has its variables numbered by first
 //! occurrence (`specs/Tidied.antt`), and compares with another by the multisets of all sides

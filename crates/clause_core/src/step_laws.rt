@@ -2,7 +2,7 @@ ghost use Rattle.clause_core.specs.TableExamples.{TableExamples};
 ghost use Rattle.clause_core.specs.StepExamples.{StepExamples};
 ghost use Rattle.clause_core.specs.StepLaws.{AllPlacesAgree, OneAnswer};
 
-use path_order::TermOrder;
+use term_order::TermOrder;
 
 /// A step at a node has at most one answer.
 pub fn one_answer<O: TermOrder>(order: &O)

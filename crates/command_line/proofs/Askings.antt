@@ -4,7 +4,6 @@ use Rattle.std.specs.List.{AllByRecursion}
 use Rattle.std.specs.Str.{bytes_eq}
 use Rattle.clap.specs.Words.{App, Row, Text}
 use Rattle.command_line.specs.Apps.{refute_app, prove_app, eval_app, check_app, replay_app, upgrade_app, load_app}
-use Rattle.command_line.specs.FlatApps.{IsFlat}
 use Rattle.command_line.specs.Matches.{HasNumber, HasWord, Takes}
 use Rattle.command_line.specs.Readings.{AreMatches, HasSomeBounds, HasSomeNumber, HasSomeWord}
 use Rattle.command_line.specs.Rules.{number_rule, numeral_rule, word_rule}

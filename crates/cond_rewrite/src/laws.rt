@@ -1,6 +1,6 @@
 ghost use Rattle.cond_rewrite.specs.Laws.{OneRowAnswer, RowsInBlocks};
 
-use path_order::TermOrder;
+use term_order::TermOrder;
 
 /// The rows of `rule` and `case` say of a clause over any nodes and by any order what they answer
 /// by themselves.

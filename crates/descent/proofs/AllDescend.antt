@@ -1,7 +1,7 @@
 -- One step of descent for each step, where every sorted ground term has one value, which ranks no higher.
 use Rattle.std.specs.Prelude.{ℕ}
 use Rattle.term_core.specs.Tree.{Tree}
-use Rattle.path_order.specs.Laws.{HasRanks}
+use Rattle.term_order.specs.Laws.{HasRanks}
 use Rattle.clause_core.specs.declared.steps.Step.TheVariants.{Trivial, Match, Absurd, Subsume, ByLemma, Rule, Case, Decompose, Clash, Drop, Solve, Cover, Generalize, Context, Hyp, Lemma}
 use Rattle.descent.specs.OneValue.{ValuesRankLower}
 use Rattle.descent.specs.Descent.{StepsDescend}

@@ -19,7 +19,7 @@ use Rattle.spec_core.specs.Gives.{Gives}
 use Rattle.spec_core.specs.Truth.{AllHold}
 use Rattle.spec_core.specs.WellSorted.{IsWellSorted, sorts_of}
 use Rattle.spec_core.proofs.Instances.{sorted_instance}
-use Rattle.path_order.specs.Laws.{HasRanks}
+use Rattle.term_order.specs.Laws.{HasRanks}
 use Rattle.clause_core.specs.declared.clauses.Clause.{Clause}
 use Rattle.clause_core.specs.declared.clauses.Relation.TheVariants.{Less}
 use Rattle.clause_core.specs.declared.steps.Place.{Place}

@@ -8,7 +8,7 @@ use Rattle.std.proofs.lemmas.List.{length-map, map-append}
 use Rattle.term_core.specs.Tree.{Tree, tree_depth, instance}
 use Rattle.term_core.specs.Contexts.{hole}
 use Rattle.spec_core.specs.declared.records.Spec.{Spec}
-use Rattle.path_order.specs.Laws.{HasRanks}
+use Rattle.term_order.specs.Laws.{HasRanks}
 use Rattle.clause_core.specs.declared.clauses.Clause.{Clause}
 use Rattle.clause_core.specs.declared.clauses.Relation.{Relation}
 use Rattle.clause_core.specs.declared.clauses.Relation.TheVariants.{Less, Same, Neither}

@@ -1,7 +1,7 @@
 -- One step of descent for `context`: a premise's side in the place of the other one.
 use Rattle.std.proofs.Common.{ℕ, [], Bool, inl, inr}
 use Rattle.term_core.specs.Tree.{Tree}
-use Rattle.path_order.specs.Laws.{HasRanks}
+use Rattle.term_order.specs.Laws.{HasRanks}
 use Rattle.clause_core.specs.declared.steps.Place.{Place}
 use Rattle.clause_core.specs.declared.steps.Step.TheVariants.{Context}
 use Rattle.clause_core.specs.declared.answers.Why.TheVariants.{NoSuchPlace, DoesNotFit}

@@ -16,7 +16,7 @@ use Rattle.spec_core.specs.Sig.{Sig}
 use Rattle.spec_core.specs.Sorts.{Sorted, SortedAll, AreBuilt, IsValue}
 use Rattle.spec_core.specs.Truth.{AreValuesOf}
 use Rattle.spec_core.specs.WellSorted.{IsWellSorted}
-use Rattle.path_order.specs.Laws.{HasRanks}
+use Rattle.term_order.specs.Laws.{HasRanks}
 use Rattle.clause_core.specs.declared.clauses.Clause.{Clause}
 use Rattle.clause_core.specs.declared.clauses.Relation.TheVariants.{Same}
 use Rattle.clause_core.specs.Clauses.{sides, ClauseIsSorted}

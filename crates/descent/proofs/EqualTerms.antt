@@ -13,7 +13,7 @@ use Rattle.spec_core.specs.Gives.{Gives}
 use Rattle.spec_core.specs.Truth.{EquationHolds}
 use Rattle.spec_core.specs.WellSorted.{IsWellSorted}
 use Rattle.spec_core.proofs.OneSort.{sort_unique}
-use Rattle.path_order.specs.Laws.{HasRanks}
+use Rattle.term_order.specs.Laws.{HasRanks}
 use Rattle.clause_core.specs.declared.clauses.Clause.{Clause}
 use Rattle.clause_core.specs.declared.steps.Place.{Place}
 use Rattle.clause_core.specs.declared.answers.Child.{Child}

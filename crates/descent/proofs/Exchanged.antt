@@ -7,7 +7,7 @@ use Rattle.term_core.specs.Contexts.{Context, hole, under, plug}
 use Rattle.term_core.specs.Ground.{IsGroundIn}
 use Rattle.spec_core.specs.declared.records.Equation.{Equation}
 use Rattle.spec_core.specs.declared.records.Spec.{Spec}
-use Rattle.path_order.specs.Laws.{HasRanks}
+use Rattle.term_order.specs.Laws.{HasRanks}
 use Rattle.clause_core.specs.declared.clauses.Clause.{Clause}
 use Rattle.clause_core.specs.Clauses.{sides_of, sides}
 use Rattle.clause_core.specs.NumberedEquations.{EquationAt, equations, exchanged}

@@ -12,7 +12,7 @@ use Rattle.spec_core.specs.WellSorted.{IsWellSorted}
 use Rattle.spec_core.proofs.Keeps.{keeps, keeps_all}
 use Rattle.spec_core.proofs.Determined.{determined}
 use Rattle.spec_core.proofs.Values.{call_gives}
-use Rattle.path_order.specs.Laws.{HasRanks}
+use Rattle.term_order.specs.Laws.{HasRanks}
 use Rattle.clause_core.specs.Admitted.{IsAdmitted}
 use Rattle.clause_core.specs.Ranks.{IsGround}
 use Rattle.descent.specs.OneValue.{HasOneValue}

@@ -47,8 +47,8 @@ mod RuleUse
 mod RuleDescends
 mod CaseDescends
 mod GeneralizeDescends
-mod AllDescend
+pub mod AllDescend
 -- What children are.
-mod SortedChildren
+pub mod SortedChildren
 -- Weights of the examples.
 mod SmallWeights

@@ -5,7 +5,7 @@ use Rattle.std.specs.List.{AllByRecursion}
 use Rattle.std.proofs.lemmas.List.Sorted.{IsPermutation-append_right, IsPermutation-append_comm}
 use Rattle.term_core.specs.Tree.{Tree}
 use Rattle.spec_core.specs.declared.records.Spec.{Spec}
-use Rattle.path_order.specs.Laws.{HasRanks}
+use Rattle.term_order.specs.Laws.{HasRanks}
 use Rattle.descent.specs.Weights.{AreRanks, IsHeavier}
 use Rattle.descent.proofs.SideRanks.{Grounded, ranks_one, ranks_split}
 use Rattle.descent.proofs.Multisets.{IsIn, exceeds_cancelled}

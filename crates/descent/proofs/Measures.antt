@@ -5,7 +5,7 @@ use Rattle.term_core.specs.Contexts.{Context, around, plug}
 use Rattle.term_core.proofs.Members.{In}
 use Rattle.spec_core.specs.declared.records.Spec.{Spec}
 use Rattle.spec_core.specs.WellSorted.{IsShallow}
-use Rattle.path_order.specs.Laws.{HasRanks}
+use Rattle.term_order.specs.Laws.{HasRanks}
 use Rattle.clause_core.specs.Ranks.{IsGround, HasRank}
 use Rattle.clause_core.proofs.RuleUses.{instances_rank_lower}
 use Rattle.descent.proofs.InContexts.{member_around, member_ground}

@@ -9,7 +9,7 @@ use Rattle.spec_core.specs.declared.records.Spec.{Spec}
 use Rattle.spec_core.specs.Sorts.{Sorted, SortedAll}
 use Rattle.spec_core.specs.WellSorted.{IsWellSorted}
 use Rattle.spec_core.proofs.Instances.{sorted_instance}
-use Rattle.path_order.specs.Laws.{HasRanks}
+use Rattle.term_order.specs.Laws.{HasRanks}
 use Rattle.descent.specs.OneValue.{RanksNoHigher}
 use Rattle.descent.proofs.GroundTerms.{sorted_ground}
 use Rattle.descent.proofs.InContexts.{plug_ground, inside, inside_is, join, around_join, join_one}

@@ -3,7 +3,7 @@ use Rattle.std.proofs.Common.{◌⊎◌, ℕ, ◌<◌, ◌≤◌, inl, inr, arit
 use Rattle.term_core.specs.Tree.{Tree, Trees, var, app, none, some, list_of}
 use Rattle.term_core.specs.Ground.{IsGroundIn, AreGroundIn}
 use Rattle.term_core.proofs.Numbers.{below_or_not}
-use Rattle.path_order.specs.Laws.{HasRanks}
+use Rattle.term_order.specs.Laws.{HasRanks}
 
 abbrev Decided : Type 0 → Type 0
 Decided P = P ⊎ (P → ⊥)

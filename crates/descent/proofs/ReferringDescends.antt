@@ -10,7 +10,7 @@ use Rattle.spec_core.specs.Sorts.{Sorted}
 use Rattle.spec_core.specs.Gives.{Gives}
 use Rattle.spec_core.specs.Truth.{EquationHolds, AllHold, AllBroken}
 use Rattle.spec_core.specs.WellSorted.{IsWellSorted}
-use Rattle.path_order.specs.Laws.{HasRanks}
+use Rattle.term_order.specs.Laws.{HasRanks}
 use Rattle.clause_core.specs.declared.clauses.Clause.{Clause}
 use Rattle.clause_core.specs.declared.steps.Place.{Place}
 use Rattle.clause_core.specs.declared.steps.Step.TheVariants.{Subsume, ByLemma, Hyp, Lemma}

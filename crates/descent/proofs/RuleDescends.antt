@@ -1,7 +1,7 @@
 -- One step of descent for `rule`.
 use Rattle.std.proofs.Common.{ℕ, List, [], ◌∷◌, inl, inr, refl}
 use Rattle.term_core.specs.Tree.{Tree, instance}
-use Rattle.path_order.specs.Laws.{HasRanks}
+use Rattle.term_order.specs.Laws.{HasRanks}
 use Rattle.clause_core.specs.declared.clauses.Relation.TheVariants.{Less}
 use Rattle.clause_core.specs.declared.steps.Place.{Place}
 use Rattle.clause_core.specs.declared.steps.Step.TheVariants.{Rule}

@@ -21,7 +21,7 @@ use Rattle.spec_core.specs.WellSorted.{IsWellSorted, RuleIsSorted, IsLeft, IsSha
 use Rattle.spec_core.proofs.Guarded.{call_only}
 use Rattle.spec_core.proofs.Instances.{sorted_instance}
 use Rattle.spec_core.proofs.Values.{built_gives, built_only}
-use Rattle.path_order.specs.Laws.{HasRanks}
+use Rattle.term_order.specs.Laws.{HasRanks}
 use Rattle.clause_core.specs.declared.clauses.Clause.{Clause}
 use Rattle.clause_core.specs.declared.steps.Place.{Place}
 use Rattle.clause_core.specs.Equations.{Among}

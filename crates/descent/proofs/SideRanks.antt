@@ -13,7 +13,7 @@ use Rattle.spec_core.specs.Sorts.{Sorted}
 use Rattle.spec_core.specs.Truth.{AreValuesOf}
 use Rattle.spec_core.specs.WellSorted.{IsWellSorted}
 use Rattle.spec_core.proofs.Instances.{sorted_instance}
-use Rattle.path_order.specs.Laws.{HasRanks}
+use Rattle.term_order.specs.Laws.{HasRanks}
 use Rattle.clause_core.specs.declared.clauses.Clause.{Clause}
 use Rattle.clause_core.specs.Clauses.{sides_of, sides, ClauseIsSorted}
 use Rattle.clause_core.specs.Ranks.{IsGround}

@@ -13,7 +13,7 @@ use Rattle.spec_core.specs.Gives.{Gives}
 use Rattle.spec_core.specs.Truth.{AreValuesOf, AllHold, AllBroken}
 use Rattle.spec_core.specs.WellSorted.{IsWellSorted, IsPattern, ArePatterns}
 use Rattle.spec_core.proofs.Values.{built_only}
-use Rattle.path_order.specs.Laws.{HasRanks}
+use Rattle.term_order.specs.Laws.{HasRanks}
 use Rattle.clause_core.specs.declared.clauses.Clause.{Clause}
 use Rattle.clause_core.specs.declared.clauses.Relation.TheVariants.{Less}
 use Rattle.clause_core.specs.Clauses.{sides_of, ClauseIsSorted}

@@ -6,7 +6,7 @@ use Rattle.term_core.specs.declared.ids.VarId.{VarId}
 use Rattle.term_core.specs.Tree.{Tree}
 use Rattle.spec_core.specs.declared.records.Equation.{Equation}
 use Rattle.spec_core.specs.declared.records.Spec.{Spec}
-use Rattle.path_order.specs.Laws.{HasRanks}
+use Rattle.term_order.specs.Laws.{HasRanks}
 use Rattle.clause_core.specs.declared.clauses.Clause.{Clause}
 use Rattle.clause_core.specs.declared.clauses.Relation.{Relation}
 use Rattle.clause_core.specs.declared.clauses.Relation.TheVariants.{Less, Same}

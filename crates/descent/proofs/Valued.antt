@@ -17,7 +17,7 @@ use Rattle.spec_core.specs.WellSorted.{IsWellSorted}
 use Rattle.spec_core.proofs.Determined.{determined}
 use Rattle.spec_core.proofs.Instances.{sorted_instance}
 use Rattle.spec_core.proofs.Values.{built_gives, built_only}
-use Rattle.path_order.specs.Laws.{HasRanks}
+use Rattle.term_order.specs.Laws.{HasRanks}
 use Rattle.clause_core.specs.declared.clauses.Clause.{Clause}
 use Rattle.clause_core.specs.Clauses.{sides_of, sides, ClauseIsSorted}
 use Rattle.clause_core.specs.Admitted.{IsAdmitted}

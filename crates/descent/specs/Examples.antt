@@ -1,9 +1,8 @@
--- The one value of a sum, by the path ordering, and weights of a small clause.
+-- The one value of a sum, by the order of sums, and weights of a small clause.
 use Rattle.std.specs.Prelude.{◌≡◌, ℕ, [], ◌∷◌}
 use Rattle.term_core.specs.Tree.{Tree, tree_size}
 use Rattle.spec_core.specs.Naturals.{nat, naturals, zero_term, succ_term, plus_term}
-use Rattle.term_core.specs.Precedence.{by_number}
-use Rattle.path_order.specs.Rank.{IsRank}
+use Rattle.sample_specs.specs.SumOrder.{RankInSums}
 use Rattle.clause_core.specs.declared.clauses.Relation.TheVariants.{Less, Same}
 use Rattle.clause_core.specs.ExampleClauses.{unit_clause}
 use Rattle.descent.specs.OneValue.{HasOneValue}
@@ -15,7 +14,7 @@ by_size symbols depth t r = tree_size t ≡ r
 
 pub record WorkedExamples : Type 0 where
   -- plus(succ(zero), zero) has one value, which is succ(zero), by two uses of rules
-  pub sum : HasOneValue (IsRank by_number) naturals (plus_term (succ_term zero_term) zero_term) nat
+  pub sum : HasOneValue RankInSums naturals (plus_term (succ_term zero_term) zero_term) nat
   pub sum_is_one : sum.value ≡ succ_term zero_term
   pub two_uses : sum.cost ≡ 2
   -- by size, plus(?0, zero) = ?0 weighs 4 and 2 where ?0 is succ(zero)

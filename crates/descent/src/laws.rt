@@ -4,7 +4,7 @@ ghost use Rattle.descent.specs.OneValue.{ValuesRankLower};
 ghost use Rattle.descent.specs.SortedChildren.{ChildrenAreSorted};
 ghost use Rattle.descent.specs.WeightLaws.{ClausesHaveOneWeight, TidyingKeepsWeight};
 
-use path_order::{Lpo, TermOrder};
+use term_order::TermOrder;
 
 /// Every sorted term without variables has one value, which ranks no higher in any context.
 pub fn values_rank_lower<O: TermOrder>(order: &O)
@@ -40,8 +40,6 @@ pub fn steps_descend<O: TermOrder>(order: &O)
 pub fn worked_examples()
     ensures { WorkedExamples }
 {
-    let order = Lpo::by_number();
-    values_rank_lower(&order);
     clause_core::worked_examples();
     spec_core::worked_examples();
 }

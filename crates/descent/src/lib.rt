@@ -1,7 +1,8 @@
 //! The values of terms of admitted specifications, and one step of descent.
 //!
-//! It stands on term_core, spec_core, substitutions, path_order and clause_core. It has laws alone,
-//! and they hold for every order on terms: they are proved by the laws of `TermOrder`.
+//! It builds on term_core, spec_core, substitutions, term_order and clause_core; its worked
+//! examples take the order of sample_specs. It has laws alone, and they hold for every order on
+//! terms: they are proved by the laws of `TermOrder`.
 //!
 //! In an admitted specification each sorted term without variables gives exactly one value, at one
 //! cost, and in every ground context the value ranks no higher than the term

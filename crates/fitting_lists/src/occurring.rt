@@ -3,10 +3,10 @@ ghost use Rattle.fitting_lists.specs.Fitting.{both_sides, has_all};
 
 use crate::marking::{are_marked, mark, no_marks};
 use clause_core::Clause;
-use path_order::occurs;
 use spec_core::Equation;
 use std::alloc::Global;
 use term_core::{OutOfMemory, Term};
+use term_order::occurs;
 
 /// Whether all variables of the clause are in the term. The term is walked once for each variable,
 /// as far as its first occurrence.

@@ -17,10 +17,10 @@ use clause_core::{
     Child, Children, Clause, Place, Reference, Relation, Why, compare, into_tidied, tidied_within,
     within,
 };
-use path_order::TermOrder;
 use place_comparison::{relation_at, within_at};
 use std::alloc::Global;
 use term_core::{OutOfMemory, Seq, Term};
+use term_order::TermOrder;
 
 /// The most nodes of a block.
 const MOST_NODES: usize = 10_000;

@@ -14,11 +14,11 @@ use crate::nodes::{Node, StepError};
 use crate::referring::{entries_here, instances_are_there, node_at, usable_goal};
 use clause_core::{Children, Clause, Place, Reference, Why, instance, of_goal};
 use cond_rewrite::is_instance;
-use path_order::TermOrder;
 use spec_core::{Equation, Spec};
 use std::alloc::Global;
 use substitutions::Subst;
 use term_core::{Name, OutOfMemory, Seq, Term, front};
+use term_order::TermOrder;
 
 /// How an equation that is referred to rewrites: by the instance with these terms for its
 /// variables, the term at this place, from left to right where `left` is true.

@@ -22,9 +22,9 @@ use crate::solving::solve;
 use crate::subsuming::{by_lemma, subsume};
 use clause_core::{Children, Clause, Step};
 use descent::{children_are_sorted, steps_descend};
-use path_order::TermOrder;
 use spec_core::Spec;
 use std::alloc::Global;
+use term_order::TermOrder;
 
 /// What the step makes at the node of this number, which counts from 0, by the table of steps. The
 /// goals of the numbers `proved` may be used as lemmas. `Why` comes exactly where the step isn't

@@ -12,10 +12,10 @@ use crate::making::{closed, limited, reference};
 use crate::nodes::{Node, StepError};
 use crate::referring::{instance_here, node_at, premises_are_there, usable_goal};
 use clause_core::{Children, Clause, Why, among, of_goal};
-use path_order::TermOrder;
 use spec_core::{Equation, Spec};
 use std::alloc::Global;
 use term_core::{Name, Seq, Term};
+use term_order::TermOrder;
 
 /// `subsume`: an instance of the node of this number says no less than the clause here.
 pub(crate) fn subsume<O: TermOrder>(

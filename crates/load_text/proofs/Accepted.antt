@@ -18,11 +18,11 @@ use Rattle.load_text.proofs.CleanGoals.{load_goals_clean}
 
 load_stands : (n : ℕ) → n < 2 ^ 64 → StandsFor (load_raw n) (load_spec n)
 load_stands n few = record {
-  clean = (load_declarations n, ((tt, tt), (load_rules_clean, load_goals_clean n few)));
+  clean = (load_declarations n, (((tt, tt), tt), (load_rules_clean, load_goals_clean n few)));
   numbered = record {
     signature = load_signature n;
     declared = load_declared;
-    order = (refl, refl);
+    order = (refl, refl, refl);
     rules = load_rules_stand;
     goals = load_goals_stand 0 n;
     names = goal_names_distinct load_sig (load_raw n).goals (load_spec n).goals

@@ -15,8 +15,8 @@ use Rattle.spec_core.proofs.SortedNaturals.{bool_is_not_nat}
 use Rattle.term_core.specs.Precedence.{by_number}
 use Rattle.path_order.specs.Above.{Above, by_argument, by_head, by_arguments, this_is, this_above, later, all_none, all_some, here}
 use Rattle.clause_core.specs.Admitted.{RuleIsOrdered, RulesAreOrdered, IsAdmitted}
-use Rattle.clause_core.specs.Orders.{above_of}
-use Rattle.clause_core.proofs.OwnOrders.{ordered_by_number}
+use Rattle.spec_order.specs.Orders.{above_of}
+use Rattle.spec_order.proofs.OwnOrders.{ordered_by_number}
 use Rattle.load_text.specs.LoadSpec.{le_info, load_sig, le_zero_rule, le_succ_zero_rule, le_succ_rule, load_spec_rules, load_spec}
 
 -- what is so of each of the rules is so of the rule of each number

@@ -315,8 +315,8 @@ are_tokens n = record {
     refl,
     refl,
   );
-  ordered = (rules_tokens (goals_tokens 0 n), refl, refl);
-  format = inl (refl, refl, refl);
+  ordered = (rules_tokens (goals_tokens 0 n), rules_tokens (goals_tokens 0 n), refl, refl, refl);
+  format = inl (refl, refl, refl, refl);
 }
 
 pub load_reads : (n : ℕ) → n ≤ 200 → (again : RawSpec)

@@ -7,7 +7,7 @@ use Rattle.spec_grammar.specs.Grammar.{IsSpecText}
 use Rattle.spec_grammar.specs.Derives.{TextDerives}
 use Rattle.spec_printing.specs.Printed.{printed}
 use Rattle.sort_check.specs.StandsFor.{StandsFor}
-use Rattle.clause_core.specs.Orders.{above_of}
+use Rattle.spec_order.specs.Orders.{above_of}
 use Rattle.clause_core.specs.Admitted.{IsAdmitted}
 use Rattle.load_text.specs.LoadRaw.{load_raw}
 use Rattle.load_text.specs.LoadSpec.{load_spec}

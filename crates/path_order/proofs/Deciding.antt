@@ -15,7 +15,7 @@ use Rattle.path_order.specs.Above.{Above, SomeReaches, AboveAll, Falls, by_argum
 use Rattle.path_order.specs.Standing.{Stands, HaveOneLevel}
 use Rattle.path_order.specs.Arranged.{arranged}
 use Rattle.path_order.specs.ArrangedLaws.{count-arranged, each-arranged, arranged-each, arranged-same, weights-arranged}
-use Rattle.path_order.specs.Each.{Each, each-both, each-around, each-before, each-at, each-after}
+use Rattle.longest_chains.proofs.Each.{Each, each-both, each-around, each-before, each-at, each-after}
 use Rattle.path_order.specs.Irreflexive.{each-above, arguments-above, arguments_of, Reaches, reaches-arguments, irreflexive, each-irreflexive, diagonal, by-member, each-reaching, arranged-reach, falls-differ, same-arguments, same-symbol, same-first, same-rest}
 use Rattle.path_order.specs.InOneContext.{later-reaches, falls-around}
 

@@ -1,17 +1,13 @@
 -- A variable of a pattern: its instance is a part of the pattern's instance.
-use Rattle.std.proofs.Common.{◌≡◌, ◌∙◌, ℕ, ◌+◌, List, [], ◌∷◌, Bool, true, false, map, ap, sym, subst, refl, inl, inr, arith}
+use Rattle.std.proofs.Common.{◌≡◌, ◌∙◌, ℕ, ◌+◌, List, true, ap, sym, subst, inl, inr, arith}
 use Rattle.term_core.specs.Tree.{Tree, Trees, var, app, none, some, trees_of, instance, instances}
 use Rattle.term_core.specs.Measure.{weight, list_weight, list_weight_is}
 use Rattle.term_core.specs.Variables.{Occurs, OccursAny}
 use Rattle.term_core.specs.Precedence.{Precedence}
-use Rattle.term_core.specs.View.{tree_of}
-use Rattle.term_core.specs.declared.ids.SymId.{SymId}
-use Rattle.term_core.specs.declared.tree.Node.{Node}
-use Rattle.term_core.specs.declared.tree.Node.TheVariants.{App}
 use Rattle.path_order.specs.Above.{Above, SomeReaches, by_argument, later}
-use Rattle.path_order.specs.Each.{Each}
-use Rattle.path_order.specs.Operands.{read, meaning}
-use Rattle.path_order.specs.declared.operands.Operand.{Operand}
+use Rattle.longest_chains.proofs.Each.{Each}
+use Rattle.term_order.specs.Operands.{read, meaning}
+use Rattle.term_order.specs.declared.operands.Operand.{Operand}
 use Rattle.path_order.specs.Irreflexive.{Reaches, irreflexive, arguments-above}
 use Rattle.path_order.specs.Standing.{Stands}
 use Rattle.path_order.specs.declared.path.Standing.TheVariants.{Greater, Neither}
@@ -54,33 +50,6 @@ module _ (order : Precedence) (values : List Tree) (n : ℕ) where
   pub variable-not-above :
       (f : ℕ) (ts : Trees) → OccursAny n ts → Above order image (instance values (app f ts)) → ⊥
   variable-not-above f ts o a = not-above-pattern (app f ts) o a
-
--- what an application means, and its arguments
-maps_nothing : (ts : List Tree) → map (λ t. t) ts ≡ ts
-maps_nothing [] = refl
-maps_nothing (t ∷ ts) = ap (λ us. t ∷ us) (maps_nothing ts)
-
-instances_of : (values ts : List Tree) → instances values (trees_of ts) ≡ trees_of (map (instance values) ts)
-instances_of values [] = refl
-instances_of values (t ∷ ts) = ap (λ us. some (instance values t) us) (instances_of values ts)
-
-pub read_app :
-    (values : List Tree) (is_pattern : Bool) (f : ℕ) (ts : List Tree) →
-    read values is_pattern (app f (trees_of ts)) ≡ app f (trees_of (map (read values is_pattern) ts))
-read_app values true f ts = ap (λ us. app f us) (instances_of values ts)
-read_app values false f ts = ap (λ us. app f (trees_of us)) (sym (maps_nothing ts))
-
--- an operand that is an application
--- what an operand means whose node is an application
-pub operand_app :
-    (values : List Tree) (o : Operand) {node : Node} (f : SymId) {args ts : List Tree} →
-    ts ≡ args → node ≡ App f args → tree_of node ≡ o.term.now →
-    meaning values o ≡ app f.0 (trees_of (map (read values o.is_pattern) ts))
-operand_app values o f {args} {ts} same is view =
-    let e : app f.0 (trees_of ts) ≡ o.term.now =
-    ap (λ us. app f.0 (trees_of us)) same ∙ ap tree_of (sym is) ∙ view
-    in
-    ap (read values o.is_pattern) (sym e) ∙ read_app values o.is_pattern f.0 ts
 
 pub app_weight : (t : Tree) (f : ℕ) (ts : List Tree) → t ≡ app f (trees_of ts) → weight t ≡ list_weight ts + 1
 app_weight t f ts e =

@@ -11,7 +11,7 @@ use Rattle.term_core.proofs.Members.{In}
 use Rattle.term_core.proofs.Numbers.{same_or_not}
 use Rattle.term_core.proofs.Statuses.{IsPlace, status-places, status-once, status-sums, sum_of, sum_to, times-in, times-here, times-other}
 use Rattle.path_order.specs.Arranged.{numbered, picked, in_order, arranged}
-use Rattle.path_order.specs.Each.{Each}
+use Rattle.longest_chains.proofs.Each.{Each}
 
 abbrev pub Count : Trees → ℕ
 Count ts = length (list_of ts)

@@ -14,12 +14,9 @@
 mod laws;
 mod listed;
 mod operands;
-mod orders;
 mod path;
 
 pub use laws::{
     finitely_many_below, orders_by_number, rank_examples, same_within_depth, worked_examples,
 };
-pub use operands::occurs;
-pub use orders::TermOrder;
 pub use path::Lpo;

@@ -3,15 +3,16 @@ ghost use Rattle.term_core.specs.References.{terms_of};
 ghost use Rattle.std.specs.Option.{IfSome};
 ghost use Rattle.term_core.specs.Tree.{Tree, instance, tree_size, trees_of};
 ghost use Rattle.path_order.specs.Above.{Above, AboveAll, SomeReaches};
-ghost use Rattle.path_order.specs.Operands.{read, meaning, meanings};
+ghost use Rattle.term_order.specs.Operands.{read, meaning};
+ghost use Rattle.path_order.specs.Operands.{meanings};
 ghost use Rattle.path_order.specs.Standing.{Stands, HaveOneLevel};
 ghost use Rattle.path_order.specs.Arranged.{arranged};
 ghost use Rattle.term_core.specs.Precedence.{Precedence, IsPrecedence, by_number, level, status, is_status};
 
-use crate::operands::{Operand, Operands, occurs};
-use crate::orders::TermOrder;
+use crate::operands::Operands;
 use std::marker::Model;
 use term_core::{Node, Seq, SymId, Term};
+use term_order::{Operand, TermOrder, occurs};
 
 /// The lexicographic path ordering. A symbol of greater level has the greater precedence, and each
 /// symbol's status says in which order its arguments are compared.
@@ -94,8 +95,8 @@ impl Lpo {
             length (meanings values result) ≡ length args.now }
     {
         match self.status(symbol) {
-            Some(status) if status.len() == args.len() => operand.in_order(args, status),
-            _ => operand.with(args),
+            Some(status) if status.len() == args.len() => Operands::in_order(operand, args, status),
+            _ => Operands::with(operand, args),
         }
     }
 }
@@ -221,13 +222,18 @@ fn compare<'a>(order: &'a Lpo, list: &'a [&'a Term], t: Operand<'a>, s: Operand<
         }
         (Node::Var(_), Node::App(_, _)) => Standing::Neither,
         (Node::App(_, ts), Node::Var(_)) => {
-            Standing::greater_or_neither(some_reaches(order, list, t.with(ts.as_slice()), s))
+            Standing::greater_or_neither(some_reaches(
+                order,
+                list,
+                Operands::with(t, ts.as_slice()),
+                s,
+            ))
         }
         (Node::App(f, ts), Node::App(g, ss)) => {
             let (ts, ss) = (ts.as_slice(), ss.as_slice());
             let (level, other_level) = (order.level(*f), order.level(*g));
             if other_level < level {
-                Standing::greater_or_neither(above_all(order, list, t, s.with(ss)))
+                Standing::greater_or_neither(above_all(order, list, t, Operands::with(s, ss)))
             } else if other_level == level && ts.len() == ss.len() {
                 let first = order.arranged(*f, t, ts);
                 let second = order.arranged(*g, s, ss);
@@ -241,7 +247,7 @@ fn compare<'a>(order: &'a Lpo, list: &'a [&'a Term], t: Operand<'a>, s: Operand<
                 };
                 compare_arguments(order, list, t, s, f.0 == g.0)
             } else {
-                Standing::greater_or_neither(some_reaches(order, list, t.with(ts), s))
+                Standing::greater_or_neither(some_reaches(order, list, Operands::with(t, ts), s))
             }
         }
     }

@@ -4,7 +4,7 @@ use Rattle.std.proofs.Common.{◌≡◌, ◌∷◌, ◌++◌, refl, ap, sym, sub
 use Rattle.std.specs.Prelude.{◌↔◌}
 use Rattle.term_core.specs.Tree.{Tree}
 use Rattle.term_core.specs.Contexts.{Context, plug}
-use Rattle.path_order.specs.Laws.{IsTermOrder}
+use Rattle.term_order.specs.Laws.{IsTermOrder}
 use Rattle.clause_core.specs.declared.clauses.Relation.{Relation}
 use Rattle.clause_core.specs.declared.clauses.Relation.TheVariants.{Less, Same, Neither}
 use Rattle.clause_core.specs.Clauses.{sides}

@@ -2,7 +2,7 @@
 //! for the limits.
 //!
 //! It stands on clause_core, of which it takes clauses, their places and how clauses compare, and
-//! on path_order, whose orders keep what is above in each context. `specs/AtPlaces.antt` says how
+//! on term_order, whose orders keep what is above in each context. `specs/AtPlaces.antt` says how
 //! terms compare: two clauses that differ at one place compare as the two terms there do
 //! ([`place_decides`]). The layers above, which replace a term at a place, use that
 //! [`relation_at`] takes the relation of the two clauses from the two terms alone, and that

@@ -7,8 +7,8 @@ ghost use Rattle.place_comparison.specs.AtPlaces.{TermsCompare};
 
 use crate::laws::place_decides;
 use clause_core::Relation;
-use path_order::TermOrder;
 use term_core::Term;
+use term_order::TermOrder;
 
 /// How a clause with the old term at a place compares with the one that holds the new term there,
 /// whatever else stands in the clause. The two clauses aren't looked at: it is one test for

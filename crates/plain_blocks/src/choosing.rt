@@ -8,11 +8,11 @@ ghost use Rattle.plain_blocks.specs.Candidates.{IsStart, IsMade, IsTaken, IsNext
 use crate::candidates::{Candidate, Taken};
 use clause_core::{Children, Step, one_answer};
 use inference_rules::{Node, StepError, children};
-use path_order::TermOrder;
 use rewriting::Rewriter;
 use spec_core::Spec;
 use std::alloc::Global;
 use term_core::OutOfMemory;
+use term_order::TermOrder;
 
 /// The chosen step of a node with what it makes, over the nodes so far.
 pub(crate) fn next_step<O: TermOrder>(

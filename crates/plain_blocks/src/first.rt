@@ -4,12 +4,12 @@ ghost use Rattle.plain_blocks.specs.Plain.{IsPlainAnswer};
 use crate::laws::{one_block, plain_blocks};
 use crate::making::block_on;
 use clause_core::Block;
-use path_order::TermOrder;
 use plain_proof::first_plain;
 use spec_admit::Admitted;
 use spec_core::Goal;
 use std::alloc::Global;
 use term_core::OutOfMemory;
+use term_order::TermOrder;
 
 /// The block of the plain proof of the goal on the first variable, in the goal's own order, that
 /// has one of at most this length.

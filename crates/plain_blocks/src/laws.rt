@@ -1,7 +1,7 @@
 ghost use Rattle.plain_blocks.specs.Laws.{OneBlock, OneChoice, PlainBlocks};
 ghost use Rattle.plain_blocks.specs.StandingBlocks.{PlainBlocksStand};
 
-use path_order::TermOrder;
+use term_order::TermOrder;
 
 /// One step at most is chosen at a node.
 pub fn one_choice<O: TermOrder>(order: &O)

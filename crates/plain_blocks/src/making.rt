@@ -12,11 +12,11 @@ use crate::laws::{one_choice, plain_blocks};
 use crate::splitting::split_on;
 use clause_core::{Block, Children, of_goal, one_answer, tidying_laws};
 use inference_rules::Node;
-use path_order::TermOrder;
 use rewriting::Rewriter;
 use spec_core::{Goal, Spec};
 use std::alloc::Global;
 use term_core::{OutOfMemory, Seq, VarId};
+use term_order::TermOrder;
 
 /// The block of the goal's plain proof on the variable.
 pub(crate) fn block_on<O: TermOrder>(

@@ -2,7 +2,7 @@ ghost use Rattle.plain_proof.specs.Examples.{WorkedExamples};
 ghost use Rattle.plain_proof.specs.FirstSteps.{FirstSteps};
 ghost use Rattle.plain_proof.specs.Laws.{OneLength};
 
-use path_order::TermOrder;
+use term_order::TermOrder;
 
 /// Goals on naturals with addition, with the lengths of their plain proofs.
 pub fn worked_examples()

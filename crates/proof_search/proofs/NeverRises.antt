@@ -12,7 +12,7 @@ use Rattle.spec_core.specs.Sig.{Sig, IsSort}
 use Rattle.spec_core.specs.Sorts.{Sorted}
 use Rattle.spec_core.specs.WellSorted.{HasFewArguments}
 use Rattle.spec_core.proofs.Instances.{sorted_instance}
-use Rattle.path_order.specs.Laws.{IsTermOrder, HasRanks}
+use Rattle.term_order.specs.Laws.{IsTermOrder, HasRanks}
 use Rattle.descent.proofs.GroundTerms.{sorted_ground}
 use Rattle.proof_search.specs.Falling.{NeverRises}
 

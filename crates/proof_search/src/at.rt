@@ -20,10 +20,10 @@ use clause_core::{Child, Children, Clause, Reference, Relation, Step, one_answer
 use clause_places::{Spots, places_are_there};
 use fitting_lists::LeadingPlace;
 use inference_rules::{Node, StepError, children};
-use path_order::TermOrder;
 use routine_proof::Move;
 use std::alloc::Global;
 use term_core::OutOfMemory;
+use term_order::TermOrder;
 
 /// A node whose step is sought: its number and its clause, with the places there, over the nodes so
 /// far, which are those of the block that is being built.

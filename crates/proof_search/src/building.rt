@@ -8,10 +8,10 @@ use block_links::apart;
 use clause_core::{Children, Clause, Step};
 use fitting_lists::{LeadingPlace, leading};
 use inference_rules::Node;
-use path_order::TermOrder;
 use routine_proof::Move;
 use std::alloc::Global;
 use term_core::OutOfMemory;
+use term_order::TermOrder;
 
 /// A block that is being built: its nodes so far, of which the first ones have their steps.
 #[derive(Drop)]

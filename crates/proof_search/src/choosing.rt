@@ -22,10 +22,10 @@ use crate::referring::{first_lemma_instance, first_subsumption};
 use crate::rewriting::{first_hypothesis_use, first_lemma_use};
 use crate::ruling::{ByRule, first_ruling};
 use crate::setting::Setting;
-use path_order::TermOrder;
 use routine_proof::Move;
 use std::alloc::Global;
 use term_core::{OutOfMemory, VarId};
+use term_order::TermOrder;
 
 /// An entry of the list by which the step of a node is chosen.
 #[derive(Clone, Copy)]

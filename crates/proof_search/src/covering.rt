@@ -5,10 +5,10 @@ ghost use Rattle.proof_search.specs.Taking.{IsAt, IsFound};
 use crate::at::{Asked, At, taken};
 use clause_core::Step;
 use clause_places::asked;
-use path_order::TermOrder;
 use routine_proof::Move;
 use std::alloc::Global;
 use term_core::{OutOfMemory, Seq, VarId};
+use term_order::TermOrder;
 use test_sets::test_set;
 
 /// The cover of the variable that is asked for.

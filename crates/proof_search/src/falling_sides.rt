@@ -6,10 +6,10 @@ ghost use Rattle.proof_search.specs.FallingSides.{AreFalling, AreLemmaSides, Has
 
 use clause_core::Clause;
 use fitting_lists::{Matcher, has_all_variables};
-use path_order::TermOrder;
 use spec_core::Equation;
 use std::alloc::Global;
 use term_core::{OutOfMemory, Term, front};
+use term_order::TermOrder;
 
 /// The sides of a clause's only conclusion whose instances may be above those of the other side.
 #[derive(Clone, Copy)]

@@ -11,12 +11,12 @@ use crate::proving::{Tried, proof_from};
 use crate::setting::Setting;
 use crate::starting::Start;
 use clause_core::{Clause, Step, of_goal, within};
-use path_order::TermOrder;
 use routine_proof::proves_behind_claims;
 use spec_admit::Admitted;
 use spec_core::{Goal, Spec};
 use std::alloc::Global;
 use term_core::{OutOfMemory, Term, VarId};
+use term_order::TermOrder;
 use test_sets::test_set;
 
 /// The first routine proof of the goal of this number with at most `nodes` nodes, over the goals of

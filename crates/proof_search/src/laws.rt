@@ -1,6 +1,6 @@
 ghost use Rattle.proof_search.specs.Falling.{NeverRises};
 
-use path_order::TermOrder;
+use term_order::TermOrder;
 
 /// Where a term is above another one, no sorted instance of the other one is above that of the
 /// term: their ground instances would rank both higher and lower.

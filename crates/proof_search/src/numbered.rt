@@ -6,10 +6,10 @@ ghost use Rattle.proof_search.specs.Numbers.{step_of, equations_named, numbered}
 
 use crate::at::{Asked, At, taken};
 use clause_core::{Clause, Step};
-use path_order::TermOrder;
 use routine_proof::Move;
 use std::alloc::Global;
 use term_core::OutOfMemory;
+use term_order::TermOrder;
 
 /// The entries of the list whose steps name one equation, or one beside a given conclusion.
 #[derive(Clone, Copy)]

@@ -14,11 +14,11 @@ use crate::setting::Setting;
 use crate::starting::{Built, Start, block};
 use acceptance::{Allowed, allowed};
 use clause_core::{Block, Claim, Outcome, Step, of_goal};
-use path_order::TermOrder;
 use proof_script::print_claim;
 use spec_core::{Goal, Spec};
 use std::alloc::Global;
 use term_core::{OutOfMemory, Seq};
+use term_order::TermOrder;
 
 /// The most bytes of a claim in a report.
 const MOST_BYTES: usize = 300_000;

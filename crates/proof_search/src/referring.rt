@@ -14,11 +14,11 @@ use crate::leading_places::{LeadingEquation, leading_at};
 use crate::side_spines::SideSpines;
 use clause_core::{Clause, Place, Step, tidying_laws};
 use fitting_lists::{Matcher, copies, spines_may_become};
-use path_order::TermOrder;
 use routine_proof::Move;
 use spec_core::Equation;
 use std::alloc::Global;
 use term_core::{Name, OutOfMemory, Seq, Term};
+use term_order::TermOrder;
 
 /// Which clause a step refers to: that of the node of this number, or that of the goal of this
 /// name.

@@ -19,12 +19,12 @@ use crate::side_spines::SideSpines;
 use clause_core::{Clause, tidying_laws};
 use clause_places::places_are_there;
 use fitting_lists::{Matcher, copies, heads_agree, nothing_is_missing};
-use path_order::TermOrder;
 use place_comparison::place_decides;
 use routine_proof::Move;
 use spec_core::Equation;
 use std::alloc::Global;
 use term_core::{OutOfMemory, Term};
+use term_order::TermOrder;
 
 /// A clause that is to rewrite by its only conclusion, from those of the sides that may fall.
 #[derive(Drop)]

@@ -10,10 +10,10 @@ use crate::at::{Asked, At, taken};
 use crate::setting::Setting;
 use clause_core::{Place, Step};
 use clause_places::places_are_there;
-use path_order::TermOrder;
 use routine_proof::Move;
 use std::alloc::Global;
 use term_core::{Node, OutOfMemory, Seq, Term};
+use term_order::TermOrder;
 
 /// The entries of the list that rewrite the term at a place by rules.
 #[derive(Clone, Copy)]

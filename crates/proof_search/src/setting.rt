@@ -8,10 +8,10 @@ ghost use Rattle.proof_search.specs.Settings.{IsSetting, AreLemmas, IsLemma};
 use crate::falling_sides::{FallingSides, lemma_sides};
 use clause_core::{Clause, of_goal, tidying_laws};
 use fitting_lists::{LeadingPlace, leading, may_become};
-use path_order::TermOrder;
 use spec_core::{Goal, RuleTable, Spec};
 use std::alloc::Global;
 use term_core::{Name, OutOfMemory, Term};
+use term_order::TermOrder;
 
 /// What stays the same while the proof of a goal is looked for: the specification, the numbers of
 /// the lemmas with these goals as clauses, and the table of each function's rules.

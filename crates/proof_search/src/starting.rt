@@ -11,10 +11,10 @@ use crate::building::Building;
 use crate::choosing::{chosen, covered};
 use crate::setting::Setting;
 use clause_core::{Clause, Step};
-use path_order::TermOrder;
 use routine_proof::Move;
 use std::alloc::Global;
 use term_core::{OutOfMemory, VarId};
+use term_order::TermOrder;
 
 /// How a block begins: by a step of the list, or by the cover of a variable.
 #[derive(Clone, Copy)]

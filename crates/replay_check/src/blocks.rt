@@ -16,11 +16,11 @@ use crate::taken_steps::TakenSteps;
 use acceptance::{Allowed, allowed};
 use clause_core::{Clause, ReplayWhy, Step, Why, of_goal, within};
 use inference_rules::StepError;
-use path_order::TermOrder;
 use spec_admit::Admitted;
 use spec_core::Goal;
 use std::alloc::Global;
 use term_core::OutOfMemory;
+use term_order::TermOrder;
 
 /// Tests whether the steps prove the goal, where the goals of these numbers may be used. The first
 /// line of the claim is given; the steps stand on the lines behind it.

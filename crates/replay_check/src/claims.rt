@@ -13,11 +13,11 @@ use crate::claimed_goals::ClaimedGoals;
 use crate::lines::{line_behind, other_lines};
 use crate::values::check_values;
 use clause_core::{Claim, Outcome, ReplayWhy, Report};
-use path_order::TermOrder;
 use spec_admit::Admitted;
 use spec_core::{Goal, Spec};
 use std::alloc::Global;
 use term_core::Name;
+use term_order::TermOrder;
 
 /// The line of the first claim: one names the format, and one has the steps of a verdict.
 const FIRST_CLAIM: u64 = 3;

@@ -4,11 +4,11 @@ ghost use Rattle.replay_check.specs.Tells.{Tells};
 use crate::answers::{Answer, Stop};
 use crate::claims::check_claims;
 use clause_core::Report;
-use path_order::TermOrder;
 use soundness::accepted_are_true;
 use spec_admit::Admitted;
 use std::alloc::Global;
 use term_core::OutOfMemory;
+use term_order::TermOrder;
 
 /// Whether the report is accepted for the admitted specification, or where and why it is first
 /// refused. The claims are tested in order, and each step once, at the cost of the step, its node

@@ -9,10 +9,10 @@ use crate::last_uses::referred_node;
 use block_links::{apart, clause_without_sides};
 use clause_core::{Children, Clause, Step, Why};
 use inference_rules::{Node, StepError, children};
-use path_order::TermOrder;
 use spec_admit::Admitted;
 use std::alloc::Global;
 use term_core::OutOfMemory;
+use term_order::TermOrder;
 
 /// The nodes of a block so far, and the links from those whose steps are taken.
 #[derive(Drop)]

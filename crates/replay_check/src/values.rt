@@ -14,11 +14,11 @@ ghost use Rattle.replay_check.specs.NamedValues.{IsNamedValue};
 use crate::answers::Stop;
 use clause_core::ReplayWhy;
 use ground_eval::{Verdict, one_verdict, verdict};
-use path_order::TermOrder;
 use spec_admit::Admitted;
 use spec_core::{Goal, Signature, Spec, VarInfo};
 use std::alloc::Global;
 use term_core::{Name, Node, OutOfMemory, SortId, Term};
+use term_order::TermOrder;
 
 /// Tests whether the goal fails under the values, within this many steps for each side. The first
 /// line of the claim is given.

@@ -8,8 +8,7 @@ use Rattle.spec_core.specs.declared.records.Equation.{Equation}
 use Rattle.spec_core.specs.declared.records.Rule.{Rule}
 use Rattle.spec_core.specs.Naturals.{naturals, naturals_sig, zero_term, succ_term, plus_term, plus_zero_rule, plus_succ_rule}
 use Rattle.spec_core.specs.WellSorted.{IsWellSorted}
-use Rattle.term_core.specs.Precedence.{by_number}
-use Rattle.path_order.specs.Above.{Above}
+use Rattle.sample_specs.specs.SumOrder.{AboveInSums}
 use Rattle.clause_core.specs.declared.answers.Children.{Children}
 use Rattle.clause_core.specs.declared.answers.Why.TheVariants.{NoSuchPlace, NoSuchRule, DoesNotFit}
 use Rattle.clause_core.specs.declared.clauses.Clause.{Clause}
@@ -79,7 +78,7 @@ is_only : (e : Equation) (at : EquationAt (e ∷ []) 1) → at.equation ≡ e
 is_only e at = (equation_one (e ∷ []) 1 at (only e)).1
 
 abbrev says : List Clause → Clause → Step → Children → Type 0
-says = makes (Above by_number) naturals []
+says = makes AboveInSums naturals []
 
 not_trivial :
     (nodes : List Clause) (e : Equation) → (e.left ≡ e.right → ⊥) →
@@ -360,7 +359,7 @@ third_chosen =
     let nodes = alone first_left ∷ alone second_left ∷ third_node.clause ∷ [] in
     inl (its_move (says nodes third_node.clause) third_move third_says)
 
-pub block : IsRoutine (Above by_number) naturals [] (goal_clause sum_goal) no_split sum_steps
+pub block : IsRoutine AboveInSums naturals [] (goal_clause sum_goal) no_split sum_steps
 block = (
   first_node,
   first_move,
@@ -394,7 +393,7 @@ short =
     let three = decimal_digit 3 (lit< tt) in
     rw (three, two, one) (lit≤ tt)
 
-pub first_proof : IsFirstProof (Above by_number) naturals [] sum_goal 3 (Some sum_steps)
+pub first_proof : IsFirstProof AboveInSums naturals [] sum_goal 3 (Some sum_steps)
 first_proof = inl (record {
   routine = block;
   few = omega arith;
@@ -415,13 +414,13 @@ first_proof = inl (record {
 })
 
 pub too_few_nodes :
-    OneAnswer (Above by_number) → IsWellSorted naturals → IsFirstProof (Above by_number) naturals [] sum_goal 2 None
+    OneAnswer AboveInSums → IsWellSorted naturals → IsFirstProof AboveInSums naturals [] sum_goal 2 None
 too_few_nodes one fine = (never, tt)
   where
-    never : (steps : List Step) → IsProof (Above by_number) naturals [] sum_goal 2 no_split steps → ⊥
+    never : (steps : List Step) → IsProof AboveInSums naturals [] sum_goal 2 no_split steps → ⊥
     never steps p =
         let same : steps ≡ sum_steps =
-        routine_one (Above by_number) one naturals fine [] (goal_clause sum_goal) no_split steps sum_steps
+        routine_one AboveInSums one naturals fine [] (goal_clause sum_goal) no_split steps sum_steps
         p.routine block in
         let long : length steps ≡ 3 = ap (λ (ss : List Step). length ss) same in
         omega (arith, long, p.few)

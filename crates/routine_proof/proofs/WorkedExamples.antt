@@ -2,15 +2,14 @@
 use Rattle.std.proofs.Common.{refl}
 use Rattle.spec_core.specs.Naturals.{naturals}
 use Rattle.spec_core.specs.WellSorted.{IsWellSorted}
-use Rattle.term_core.specs.Precedence.{by_number}
-use Rattle.path_order.specs.Above.{Above}
+use Rattle.sample_specs.specs.SumOrder.{AboveInSums}
 use Rattle.clause_core.specs.StepLaws.{OneAnswer}
 use Rattle.routine_proof.specs.Candidates.{each}
 use Rattle.routine_proof.specs.Entries.{by_fitting, by_rewriting}
 use Rattle.routine_proof.specs.Examples.{WorkedExamples}
 use Rattle.routine_proof.proofs.SumBlock.{block, first_proof, too_few_nodes}
 
-pub worked_examples : OneAnswer (Above by_number) → IsWellSorted naturals → WorkedExamples
+pub worked_examples : OneAnswer AboveInSums → IsWellSorted naturals → WorkedExamples
 unfolding each by_fitting by_rewriting
 worked_examples one fine = record {
   block = block;

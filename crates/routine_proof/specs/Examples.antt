@@ -4,8 +4,7 @@ use Rattle.term_core.specs.Tree.{var}
 use Rattle.spec_core.specs.declared.records.Goal.{Goal}
 use Rattle.spec_core.specs.declared.records.Spec.{Spec}
 use Rattle.spec_core.specs.Naturals.{naturals, zero_term, succ_term, plus_term}
-use Rattle.term_core.specs.Precedence.{by_number}
-use Rattle.path_order.specs.Above.{Above}
+use Rattle.sample_specs.specs.SumOrder.{AboveInSums}
 use Rattle.clause_core.specs.declared.steps.Step.{Step}
 use Rattle.clause_core.specs.declared.steps.Step.TheVariants.{Trivial, Match, Absurd, Decompose, Clash, Solve, Rule, Subsume, ByLemma, Hyp, Lemma, Case, Cover}
 use Rattle.clause_core.specs.ClauseExamples.{equals, claims}
@@ -65,9 +64,9 @@ no_rules = record naturals { rules = [] }
 pub record WorkedExamples : Type 0 where
   -- plus(succ(zero), zero) = succ(zero) has this routine block, which is its first proof where
   -- three nodes may be made; with two nodes it has none
-  pub block : IsRoutine (Above by_number) naturals [] (goal_clause sum_goal) no_split sum_steps
-  pub first_proof : IsFirstProof (Above by_number) naturals [] sum_goal 3 (Some sum_steps)
-  pub too_few_nodes : IsFirstProof (Above by_number) naturals [] sum_goal 2 None
+  pub block : IsRoutine AboveInSums naturals [] (goal_clause sum_goal) no_split sum_steps
+  pub first_proof : IsFirstProof AboveInSums naturals [] sum_goal 3 (Some sum_steps)
+  pub too_few_nodes : IsFirstProof AboveInSums naturals [] sum_goal 2 None
   -- a clause with one variable is tried without a split, and then with the split at it
   pub starts_of_unit : starts unit_clause ≡ no_split ∷ split 0 ∷ []
   -- the split is the cover of its variable, at node 0 alone

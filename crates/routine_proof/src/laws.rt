@@ -2,7 +2,7 @@ ghost use Rattle.routine_proof.specs.Examples.{WorkedExamples};
 ghost use Rattle.routine_proof.specs.Laws.{OneBlock, OneProof, ProvesBehindClaims};
 ghost use Rattle.routine_proof.specs.Standing.{RoutineBlocksStand};
 
-use path_order::{Lpo, TermOrder};
+use term_order::TermOrder;
 
 /// Each start of a goal has at most one routine block.
 pub fn one_block<O: TermOrder>(order: &O)
@@ -33,7 +33,5 @@ pub fn routine_blocks_stand<O: TermOrder>(order: &O)
 pub fn worked_examples()
     ensures { WorkedExamples }
 {
-    let order = Lpo::by_number();
-    clause_core::one_answer(&order);
     spec_core::worked_examples();
 }

@@ -10,6 +10,7 @@
 //! which of them is its first proof. The layers above use that a start has at most one routine
 //! block ([`one_block`]), that a goal has one first proof or none ([`one_proof`]), and that what
 //! proves a clause by lemmas proves it behind claims that prove them ([`proves_behind_claims`]).
+//! The worked examples take the order of sample_specs.
 #![tactic(auto)]
 
 mod laws;

@@ -1,6 +1,6 @@
 ghost use Rattle.search_claims.specs.Laws.{SearchReportsAreAccepted, SearchReportsStand};
 
-use path_order::TermOrder;
+use term_order::TermOrder;
 
 /// The claims of searches for all goals of a well sorted specification make a report that has a
 /// text, where the specification's names may stand in one.

@@ -1,4 +1,4 @@
--- Levels and statuses, line by line.
+-- Levels, line by line.
 use Rattle.std.proofs.Common.{◌≡◌, ◌≢◌, ℕ, ◌<◌, ◌⊎◌, inl, inr, Bool, true, false, List, [], ◌∷◌, ◌++◌, length, get_or, set, get_or-set_same, get_or-set_other, length-set, refl, ap, sym, ◌∙◌, subst, arith, max}
 use Rattle.std.specs.Prelude.{◌==◌, ◌||◌, if◌then◌else◌}
 use Rattle.std.specs.List.{AllByRecursion}
@@ -12,7 +12,7 @@ use Rattle.spec_core.specs.Sig.{Sig}
 use Rattle.spec_grammar.specs.declared.raw.RawName.{RawName}
 use Rattle.spec_grammar.specs.declared.raw.RawEqual.{RawEqual}
 use Rattle.spec_grammar.specs.declared.raw.RawStatus.{RawStatus}
-use Rattle.sort_check.specs.Orders.{is_among, greatest, symbol_number, symbol_numbers, level_in, status_in}
+use Rattle.sort_check.specs.Orders.{is_among, greatest, symbol_number, symbol_numbers, level_in}
 use Rattle.sort_check.specs.OrderTests.{names_in, heads_of}
 use Rattle.sort_check.specs.Marks.{AreMarks}
 
@@ -26,7 +26,7 @@ or_true : (b : Bool) → (b || true) ≡ true
 or_true true = refl
 or_true false = refl
 
-neither : (a b : Bool) → (a || b) ≡ false → (a ≡ false) × (b ≡ false)
+pub neither : (a b : Bool) → (a || b) ≡ false → (a ≡ false) × (b ≡ false)
 neither true b h = cc
 neither false b h = (refl, h)
 
@@ -187,62 +187,3 @@ module _ (sig : Sig) where
           (ap (λ ls. level_in sig ls f) (sym (append-nil lines)) ∙ level-unnamed f lines [] q)
           ∙ sym (level-unnamed f lines (line ∷ []) q
           ∙ ap (λ c. if c then greatest (symbol_numbers sig line.names) else f) p)
-
-  -- Statuses.
-
-  status-named :
-      (f : ℕ) (lines others : List RawStatus) →
-      is_among f (symbol_numbers sig (heads_of lines)) ≡ true →
-      status_in sig (lines ++ others) f ≡ status_in sig lines f
-  status-named f [] others h = absurd (let q : false ≡ true = h in cc)
-  status-named f (line ∷ lines) others h =
-      by (symbol_number sig line.head == f) refl
-      (λ q. status-named f lines others
-      (sym (ap (λ b. b || is_among f (symbol_numbers sig (heads_of lines))) q) ∙ h))
-    where
-      by :
-          (b : Bool) → (symbol_number sig line.head == f) ≡ b →
-          ((symbol_number sig line.head == f) ≡ false →
-          status_in sig (lines ++ others) f ≡ status_in sig lines f) →
-          (if b then line.numbers else status_in sig (lines ++ others) f)
-          ≡ (if b then line.numbers else status_in sig lines f)
-      by true q later = refl
-      by false q later = later q
-
-  status-unnamed :
-      (f : ℕ) (lines others : List RawStatus) →
-      is_among f (symbol_numbers sig (heads_of lines)) ≡ false →
-      status_in sig (lines ++ others) f ≡ status_in sig others f
-  status-unnamed f [] others h = refl
-  status-unnamed f (line ∷ lines) others h =
-      let parts = neither (symbol_number sig line.head == f) (is_among f (symbol_numbers sig (heads_of lines))) h in
-      ap (λ b. if b then line.numbers else status_in sig (lines ++ others) f) parts.0
-      ∙ status-unnamed f lines others parts.1
-
-  -- one line more, whose function has no line before
-  pub status-here :
-      (f : ℕ) (lines : List RawStatus) (line : RawStatus) → symbol_number sig line.head ≡ f →
-      is_among f (symbol_numbers sig (heads_of lines)) ≡ false →
-      status_in sig (lines ++ line ∷ []) f ≡ line.numbers
-  status-here f lines line e new =
-      status-unnamed f lines (line ∷ []) new
-      ∙ ap (λ b. if b then line.numbers else status_in sig [] f) (eq-eqb (symbol_number sig line.head) f e)
-
-  pub status-elsewhere :
-      (f : ℕ) (lines : List RawStatus) (line : RawStatus) → symbol_number sig line.head ≢ f →
-      status_in sig (lines ++ line ∷ []) f ≡ status_in sig lines f
-  status-elsewhere f lines line d = by (is_among f (symbol_numbers sig (heads_of lines))) refl
-    where
-      other : (symbol_number sig line.head == f) ≡ false
-      other =
-          false_from_ne_true (symbol_number sig line.head == f)
-          (λ e. d (eqb-true (symbol_number sig line.head) f e))
-
-      by :
-          (b : Bool) → is_among f (symbol_numbers sig (heads_of lines)) ≡ b →
-          status_in sig (lines ++ line ∷ []) f ≡ status_in sig lines f
-      by true q = status-named f lines (line ∷ []) q
-      by false q =
-          status-unnamed f lines (line ∷ []) q
-          ∙ ap (λ b. if b then line.numbers else status_in sig [] f) other
-          ∙ sym (ap (λ ls. status_in sig ls f) (sym (append-nil lines)) ∙ status-unnamed f lines [] q)

@@ -22,8 +22,11 @@ pub mod OneSignature
 pub mod OneRule
 pub mod OneGoal
 pub mod Levels
+pub mod FirstLines
+pub mod Weighings
 pub mod Precedences
 pub mod LineLoops
+pub mod OrdersMade
 pub mod Counting
 pub mod OneSpec
 pub mod KeptSizes

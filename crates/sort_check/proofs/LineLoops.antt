@@ -1,12 +1,11 @@
--- One more name of an equal line, and one more line.
-use Rattle.std.proofs.Common.{◌≡◌, ◌≢◌, ℕ, ◌+◌, ◌<◌, ◌≤◌, inl, inr, Bool, false, Option, Some, List, [], ◌∷◌, ◌++◌, length, map, take, drop, get_or, set, ap, sym, ◌∙◌, subst, arith, append_assoc, max, get_or-set_same, get_or-set_other}
+-- One more name of an equal line, one more line, and one more weight.
+use Rattle.std.proofs.Common.{◌≡◌, ◌≢◌, ℕ, ◌+◌, ◌<◌, ◌≤◌, Bool, false, Option, Some, List, [], ◌∷◌, ◌++◌, length, map, take, drop, get_or, set, ap, sym, ◌∙◌, subst, arith, append_assoc, max, refl, replicate}
 use Rattle.std.specs.Prelude.{unwrap_or, if◌then◌else◌}
 use Rattle.std.specs.List.{range_with_len}
-use Rattle.std.proofs.lemmas.List.{append-nil, ext_get_or, map_more, map-append, take_all, length-map, get_or-map}
+use Rattle.std.proofs.lemmas.List.{append-nil, ext_get_or, map_more, map-append, take_all, length-map, get_or-map, get_or-replicate}
 use Rattle.std.proofs.lemmas.List.FromFn.{length-map-range_with_len, get_or-map-range_with_len, get_or-range_with_len}
 use Rattle.term_core.specs.declared.ids.SymId.{SymId}
 use Rattle.term_core.proofs.Items.{drop_past, taken_next}
-use Rattle.term_core.proofs.Numbers.{same_or_not}
 use Rattle.spec_core.specs.Sig.{Sig}
 use Rattle.spec_core.specs.Orders.{arities}
 use Rattle.spec_core.specs.Findings.{Clean}
@@ -14,10 +13,12 @@ use Rattle.spec_core.proofs.ByNumber.{count-arities}
 use Rattle.spec_grammar.specs.declared.raw.RawName.{RawName}
 use Rattle.spec_grammar.specs.declared.raw.RawEqual.{RawEqual}
 use Rattle.spec_grammar.specs.declared.raw.RawStatus.{RawStatus}
-use Rattle.sort_check.specs.Orders.{is_among, greatest, symbol_number, symbol_numbers, level_in, status_in, all_numbers}
-use Rattle.sort_check.specs.OrderTests.{arity, names_in, heads_of, equal_tests, IsUnlikeFirst}
+use Rattle.spec_grammar.specs.declared.raw.RawWeight.{RawWeight}
+use Rattle.sort_check.specs.Orders.{is_among, greatest, symbol_number, symbol_numbers, level_in, status_in, weight_in, all_numbers}
+use Rattle.sort_check.specs.OrderTests.{arity, names_in, heads_of, weighed_names, equal_tests, IsUnlikeFirst}
 use Rattle.sort_check.specs.Marks.{AreMarks, numbers_of, wanted_arity}
-use Rattle.sort_check.proofs.Levels.{greatest-more, names_in-more, heads_of-more, level-next, status-here, status-elsewhere, numbers-append}
+use Rattle.sort_check.proofs.Levels.{greatest-more, names_in-more, heads_of-more, level-next, numbers-append}
+use Rattle.sort_check.proofs.FirstLines.{given-next}
 use Rattle.sort_check.proofs.Precedences.{line-apart}
 
 -- what is written to a part that is the whole
@@ -158,22 +159,10 @@ module _ (sig : Sig) where
         is_among g (symbol_numbers sig (heads_of (take i raws))) ≡ false →
         get_or statuses f [] ≡ status_in sig (take i raws) f →
         get_or (set statuses g raw.numbers) f [] ≡ status_in sig (take (i + 1) raws) f
-    statuses-next f g statuses within here new was =
-        elim (same_or_not f g) [
-          | inl e ↦
-              ap (λ k. get_or (set statuses g raw.numbers) k []) e
-              ∙ get_or-set_same statuses g raw.numbers [] within
-              ∙ sym (ap (λ k. status_in sig (take i raws ++ raw ∷ []) k) e
-              ∙ status-here sig g (take i raws) raw here new)
-              ∙ back
-          | inr d ↦
-              get_or-set_other statuses g f raw.numbers [] d ∙ was
-              ∙ sym (status-elsewhere sig f (take i raws) raw (λ same. d (sym same ∙ here)))
-              ∙ back
-        ]
-      where
-        back : status_in sig (take i raws ++ raw ∷ []) f ≡ status_in sig (take (i + 1) raws) f
-        back = ap (λ ls. status_in sig ls f) (sym (taken_next raws i raw lt is))
+    statuses-next f g =
+        given-next (λ (line : RawStatus). symbol_number sig line.head) (λ (line : RawStatus). line.numbers)
+        (λ lines. symbol_numbers sig (heads_of lines)) (status_in sig) refl (λ l ls. refl) (λ l ls k. refl)
+        raws i raw lt is f g []
 
   pub statuses-begin :
       (f : ℕ) (statuses : List (List ℕ)) → statuses ≡ map (range_with_len 1) (arities sig) →
@@ -187,3 +176,28 @@ module _ (sig : Sig) where
       length statuses ≡ length sig.table
   statuses-long statuses e =
       ap (λ ss. length ss) e ∙ length-map (arities sig) (range_with_len 1) ∙ count-arities sig
+
+  -- Weights.
+
+  module _ (raws : List RawWeight) (i : ℕ) (raw : RawWeight) (lt : i < length raws) (is : raw ≡ get_or raws i raw) where
+    pub weighed-next :
+        (marks : List Bool) → AreMarks (symbol_numbers sig (weighed_names (take i raws ++ raw ∷ []))) marks →
+        AreMarks (symbol_numbers sig (weighed_names (take (i + 1) raws))) marks
+    weighed-next marks are =
+        subst (λ ws. AreMarks (symbol_numbers sig (weighed_names ws)) marks) (sym (taken_next raws i raw lt is)) are
+
+    pub weights-next :
+        (f g : ℕ) (weights : List ℕ) → g < length weights → symbol_number sig raw.name ≡ g →
+        is_among g (symbol_numbers sig (weighed_names (take i raws))) ≡ false →
+        get_or weights f 0 ≡ weight_in sig (take i raws) f →
+        get_or (set weights g raw.weight) f 0 ≡ weight_in sig (take (i + 1) raws) f
+    weights-next f g =
+        given-next (λ (w : RawWeight). symbol_number sig w.name) (λ (w : RawWeight). w.weight)
+        (λ ws. symbol_numbers sig (weighed_names ws)) (weight_in sig) refl (λ l ls. refl) (λ l ls k. refl)
+        raws i raw lt is f g 0
+
+  pub weights-begin :
+      (f : ℕ) (weights : List ℕ) → weights ≡ replicate (length sig.table) 1 → f < length sig.table →
+      get_or weights f 0 ≡ weight_in sig [] f
+  weights-begin f weights e lt =
+      ap (λ ws. get_or ws f 0) e ∙ get_or-replicate (length sig.table) f 1 0 lt

@@ -94,7 +94,7 @@ naturals_are_numbered : IsNumbered raw_naturals naturals
 naturals_are_numbered = record {
   signature = signature_stands;
   declared = declared;
-  order = stands_by_number naturals_sig raw_naturals refl refl;
+  order = stands_by_number naturals_sig raw_naturals refl refl refl;
   rules = (zero_rule_stands, (succ_rule_stands, tt));
   goals = (same_goal_stands, (unit_goal_stands, tt));
   names = well_sorted.names;
@@ -160,7 +160,7 @@ goals_clean = (
 )
 
 naturals_have_no_fault : HasNoFault raw_naturals
-naturals_have_no_fault = (declarations_clean raw_naturals.rules raw_naturals.goals, ((tt, tt), (rules_clean, goals_clean)))
+naturals_have_no_fault = (declarations_clean raw_naturals.rules raw_naturals.goals, (((tt, tt), tt), (rules_clean, goals_clean)))
 
 pub naturals_stand : StandsFor raw_naturals naturals
 naturals_stand = record { clean = naturals_have_no_fault; numbered = naturals_are_numbered }
@@ -169,7 +169,7 @@ pub loose_first : HasFirstFault (naturals_with (loose_rule ∷ []) []) 5 NotOnTh
 loose_first = inr (
   declarations_clean (loose_rule ∷ []) [],
   inr (
-    (tt, tt),
+    ((tt, tt), tt),
     inl (inl (inr (
       (λ h. omega arith, (λ h. omega arith, (λ h. omega arith, same))),
       inr ((((λ h. h (omega arith), (same, same)), tt), (λ h. omega arith, tt)), inl (tt, refl)),
@@ -181,7 +181,7 @@ pub free_first : HasFirstFault (naturals_with [] (free_goal ∷ [])) 3 SortNotIn
 free_first = inr (
   declarations_clean [] (free_goal ∷ []),
   inr (
-    (tt, tt),
+    ((tt, tt), tt),
     inr (
       tt,
       inl (inr (

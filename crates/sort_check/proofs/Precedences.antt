@@ -1,5 +1,5 @@
--- Where no test of the lines finds a fault, their levels and statuses make a precedence: the level of a symbol is the
--- number of a symbol that has as many arguments.
+-- Where no test of the lines finds a fault, they make an order. Their levels and statuses make a precedence: the level
+-- of a symbol is the number of a symbol that has as many arguments.
 use Rattle.std.proofs.Common.{◌≡◌, ◌≢◌, ℕ, ◌<◌, ◌⊎◌, inl, inr, Bool, true, false, Option, Some, None, List, [], ◌∷◌, ◌++◌, length, map, get_or, refl, ap, sym, ◌∙◌, subst, arith}
 use Rattle.std.specs.Prelude.{◌==◌, ◌||◌, if◌then◌else◌, IsTrue, unwrap_or, slice_index}
 use Rattle.std.specs.Str.{bytes_eq}
@@ -16,16 +16,18 @@ use Rattle.spec_core.specs.Sig.{Sig, names_of}
 use Rattle.spec_core.specs.Orders.{IsOrderOf, arities, order_by_number}
 use Rattle.spec_core.specs.Findings.{Clean, each_after}
 use Rattle.spec_core.specs.declared.records.OrderInfo.{OrderInfo}
-use Rattle.spec_core.specs.declared.records.OrderInfo.TheVariants.{Path}
+use Rattle.spec_core.specs.declared.records.OrderInfo.TheVariants.{Path, Weights}
 use Rattle.spec_core.proofs.ByNumber.{count-arities}
 use Rattle.spec_grammar.specs.declared.raw.RawName.{RawName}
 use Rattle.spec_grammar.specs.declared.raw.RawEqual.{RawEqual}
 use Rattle.spec_grammar.specs.declared.raw.RawStatus.{RawStatus}
+use Rattle.spec_grammar.specs.declared.raw.RawOrder.{RawOrder}
 use Rattle.spec_grammar.specs.declared.raw.RawSpec.{RawSpec}
-use Rattle.sort_check.specs.Orders.{is_among, greatest, symbol_number, symbol_numbers, level_in, status_in, all_numbers, OrderStands}
-use Rattle.sort_check.specs.OrderTests.{names_in, arity, name_tests, equal_tests, status_tests, order_tests, IsOrderOfArguments}
+use Rattle.sort_check.specs.Orders.{is_among, greatest, symbol_number, symbol_numbers, level_in, status_in, weight_in, all_numbers, OrderStands}
+use Rattle.sort_check.specs.OrderTests.{names_in, arity, name_tests, equal_tests, status_tests, order_line_tests, order_tests, IsOrderOfArguments}
 use Rattle.sort_check.specs.Words.{symbol_named}
 use Rattle.sort_check.proofs.Levels.{among-first, among-has, greatest-has}
+use Rattle.sort_check.proofs.Weighings.{given_are_weights}
 
 -- a map that changes nothing
 map-same : (g : ℕ → ℕ) → ((n : ℕ) → g n ≡ n) → (ns : List ℕ) → map g ns ≡ ns
@@ -188,21 +190,43 @@ module _ (sig : Sig) where
         one_arity = λ f g l k e. status-long f l ∙ ap arity_at e ∙ sym (status-long g k);
       }
 
+  -- the weights of an order line without a fault are weights
+  line_is_order :
+      (raw : RawSpec) (line : RawOrder) → raw.order ≡ Some line →
+      Clean (order_line_tests sig raw.equals raw.statuses raw.order) →
+      IsOrderOf sig (Weights (map (weight_in sig line.weights) (all_numbers sig)))
+  line_is_order raw line there clean =
+      let tested = subst (λ o. Clean (order_line_tests sig raw.equals raw.statuses o)) there clean in (
+        length-map-range_with_len (weight_in sig line.weights) 0 (length sig.table),
+        given_are_weights sig line.weights tested.1.1 (all_numbers sig),
+      )
+
   -- the order that lines without a fault stand for is an order
   pub stands_is_order :
       (raw : RawSpec) (order : OrderInfo) → Clean (order_tests sig raw) →
       OrderStands raw sig order → IsOrderOf sig order
   stands_is_order raw (Path levels statuses) c stands =
-      subst (λ (o : OrderInfo). IsOrderOf sig o) (sym (λ i. Path (stands.0 i) (stands.1 i)))
-      (levels-long raw.equals raw.statuses, made-is-precedence raw.equals raw.statuses c.0 c.1)
+      subst (λ (o : OrderInfo). IsOrderOf sig o) (sym (λ i. Path (stands.1 i) (stands.2 i)))
+      (levels-long raw.equals raw.statuses, made-is-precedence raw.equals raw.statuses c.0.0 c.0.1)
+  stands_is_order raw (Weights given) c stands =
+      subst (λ (o : OrderInfo). IsOrderOf sig o) (sym (λ i. Weights (stands.2 i)))
+      (line_is_order raw stands.0 stands.1 c.1)
 
   -- one order stands for lines
   pub one_order :
       (raw : RawSpec) (o u : OrderInfo) → OrderStands raw sig o → OrderStands raw sig u → o ≡ u
   one_order raw (Path ls ss) (Path ms us) p q =
-      let a : ls ≡ ms = p.0 ∙ sym q.0 in
-      let b : ss ≡ us = p.1 ∙ sym q.1 in
+      let a : ls ≡ ms = p.1 ∙ sym q.1 in
+      let b : ss ≡ us = p.2 ∙ sym q.2 in
       λ i. Path (a i) (b i)
+  one_order raw (Weights ws) (Weights vs) p q =
+      let some : Some p.0 ≡ Some q.0 = sym p.1 ∙ q.1 in
+      let same : p.0 ≡ q.0 = cc in
+      let e : ws ≡ vs =
+      p.2 ∙ ap (λ (line : RawOrder). map (weight_in sig line.weights) (all_numbers sig)) same ∙ sym q.2 in
+      λ i. Weights (e i)
+  one_order raw (Path ls ss) (Weights vs) p q = absurd (let e : None ≡ Some q.0 = sym p.0 ∙ q.1 in cc)
+  one_order raw (Weights ws) (Path ms us) p q = absurd (let e : None ≡ Some p.0 = sym q.0 ∙ p.1 in cc)
 
   -- Without lines it is the order by number.
 
@@ -229,8 +253,10 @@ module _ (sig : Sig) where
           ∙ sym (get_or-map (range_with_len 1) (arities sig) f 0 [] (omega (arith, lt, long, count-arities sig)))
 
   pub stands_by_number :
-      (raw : RawSpec) → raw.equals ≡ [] → raw.statuses ≡ [] → OrderStands raw sig (order_by_number sig)
-  stands_by_number raw no_equals no_statuses = (
+      (raw : RawSpec) → raw.equals ≡ [] → raw.statuses ≡ [] → raw.order ≡ None →
+      OrderStands raw sig (order_by_number sig)
+  stands_by_number raw no_equals no_statuses no_order = (
+    no_order,
     sym (ap (λ ls. map (level_in sig ls) (all_numbers sig)) no_equals ∙ levels_by_number),
     sym (ap (λ ls. map (status_in sig ls) (all_numbers sig)) no_statuses ∙ statuses_by_number),
   )

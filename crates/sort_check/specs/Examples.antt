@@ -1,5 +1,5 @@
 -- What the definitions say of raw naturals with addition, and of a few that have faults.
-use Rattle.std.specs.Prelude.{◌≡◌, ℕ, List, [], ◌∷◌, codes, map}
+use Rattle.std.specs.Prelude.{◌≡◌, ℕ, List, [], ◌∷◌, Option, None, Some, codes, map}
 use Rattle.spec_core.specs.Naturals.{naturals}
 use Rattle.spec_grammar.specs.FormatOne.{format_one}
 use Rattle.spec_grammar.specs.RawTree.{RawTree, word, none, some}
@@ -9,16 +9,18 @@ use Rattle.spec_grammar.specs.declared.raw.RawSort.{RawSort}
 use Rattle.spec_grammar.specs.declared.raw.RawFun.{RawFun}
 use Rattle.spec_grammar.specs.declared.raw.RawEqual.{RawEqual}
 use Rattle.spec_grammar.specs.declared.raw.RawStatus.{RawStatus}
+use Rattle.spec_grammar.specs.declared.raw.RawWeight.{RawWeight}
+use Rattle.spec_grammar.specs.declared.raw.RawOrder.{RawOrder}
 use Rattle.spec_grammar.specs.declared.raw.RawEq.{RawEq}
 use Rattle.spec_grammar.specs.declared.raw.RawBind.{RawBind}
 use Rattle.spec_grammar.specs.declared.raw.RawRule.{RawRule}
 use Rattle.spec_grammar.specs.declared.raw.RawGoal.{RawGoal}
 use Rattle.spec_grammar.specs.declared.raw.RawSpec.{RawSpec}
-use Rattle.sort_check.specs.Orders.{level_in, status_in}
+use Rattle.sort_check.specs.Orders.{level_in, status_in, weight_in}
 use Rattle.sort_check.specs.DeclarationTests.{sig_of}
 use Rattle.sort_check.specs.StandsFor.{StandsFor}
-use Rattle.sort_check.specs.FirstFault.{HasFirstFault}
-use Rattle.sort_check.specs.declared.faults.SortKind.TheVariants.{UnknownName, RepeatedName, WrongNumberOfArguments, NotOnTheLeft, SortNotInferred, NotAFunction, EqualTwice, StatusTwice, NoOrderOfArguments}
+use Rattle.sort_check.specs.FirstFault.{HasFirstFault, HasNoFault}
+use Rattle.sort_check.specs.declared.faults.SortKind.TheVariants.{UnknownName, RepeatedName, WrongNumberOfArguments, NotOnTheLeft, SortNotInferred, NotAFunction, EqualTwice, StatusTwice, NoOrderOfArguments, EqualOrStatusWithKbo, WrongWeight}
 
 -- a name at a place, 0 where the place doesn't matter
 abbrev pub name_at : List ℕ → ℕ → RawName
@@ -138,9 +140,16 @@ equal names = record { names = names }
 abbrev pub status : RawName → List ℕ → RawStatus
 status head numbers = record { head = head; numbers = numbers }
 
+-- the weight of a name at a place, and an order line with this name at place 5
+abbrev pub weight : List ℕ → ℕ → ℕ → RawWeight
+weight name at number = record { name = name_at name at; weight = number }
+
+abbrev pub order : List ℕ → List RawWeight → RawOrder
+order name weights = record { name = name_at name 5; weights = weights }
+
 -- naturals with plus, times, double and half, which have the numbers 4 to 7, and these lines and rules
-abbrev pub ordered_with : List RawEqual → List RawStatus → List RawRule → RawSpec
-ordered_with equals statuses rules =
+abbrev pub naturals_by : List RawEqual → List RawStatus → Option RawOrder → List RawRule → RawSpec
+naturals_by equals statuses line rules =
     record {
       version = 2;
       sorts = nat_sort ∷ [];
@@ -149,14 +158,29 @@ ordered_with equals statuses rules =
           ∷ [];
       equals = equals;
       statuses = statuses;
+      order = line;
       rules = rules;
       goals = [];
     }
+
+-- the same without an order line, and with one
+abbrev pub ordered_with : List RawEqual → List RawStatus → List RawRule → RawSpec
+ordered_with equals statuses rules = naturals_by equals statuses None rules
+
+abbrev pub weighed_with : List RawEqual → List RawStatus → RawOrder → List RawRule → RawSpec
+weighed_with equals statuses line rules = naturals_by equals statuses (Some line) rules
 
 -- equal times, plus and status plus(2, 1)
 abbrev pub ordered_naturals : RawSpec
 ordered_naturals =
     ordered_with (equal (times_at 0 ∷ plus_at 0 ∷ []) ∷ []) (status (plus_at 0) (2 ∷ 1 ∷ []) ∷ []) []
+
+-- order kbo : plus = 3, false = 1000
+abbrev pub weights : List RawWeight
+weights = weight (codes "plus") 0 3 ∷ weight (codes "false") 0 1000 ∷ []
+
+abbrev pub weighed_naturals : RawSpec
+weighed_naturals = weighed_with [] [] (order (codes "kbo") weights) []
 
 pub record WorkedExamples : Type 0 where
   -- raw naturals stand for naturals
@@ -205,3 +229,46 @@ pub record WorkedExamples : Type 0 where
   -- status plus(1)
   pub few_numbers : HasFirstFault (ordered_with [] (status (plus_at 5) (1 ∷ []) ∷ []) [])
       5 NoOrderOfArguments
+  -- order kbo : plus = 3, false = 1000 finds no fault, and the weights of true, false, plus and times are these
+  pub weighed : HasNoFault weighed_naturals
+  pub weights_of_symbols :
+      map (weight_in (sig_of weighed_naturals) weights) (0 ∷ 1 ∷ 4 ∷ 5 ∷ []) ≡ 1 ∷ 1000 ∷ 3 ∷ 1 ∷ []
+  -- equal plus, minus comes before order lpo
+  pub equal_before_order : HasFirstFault
+      (weighed_with (equal (plus_at 0 ∷ name_at (codes "minus") 3 ∷ []) ∷ []) []
+      (order (codes "lpo") []) [])
+      3 UnknownName
+  -- status plus(2, 1) and order lpo : minus = 1
+  pub no_ordering : HasFirstFault
+      (weighed_with [] (status (plus_at 0) (2 ∷ 1 ∷ []) ∷ [])
+      (order (codes "lpo") (weight (codes "minus") 9 1 ∷ [])) [])
+      5 UnknownName
+  -- status plus(2, 1) and order kbo : minus = 1
+  pub status_with_weights : HasFirstFault
+      (weighed_with [] (status (plus_at 0) (2 ∷ 1 ∷ []) ∷ [])
+      (order (codes "kbo") (weight (codes "minus") 9 1 ∷ [])) [])
+      5 EqualOrStatusWithKbo
+  -- equal plus, times and order kbo
+  pub equal_with_weights : HasFirstFault
+      (weighed_with (equal (plus_at 0 ∷ times_at 0 ∷ []) ∷ []) [] (order (codes "kbo") []) [])
+      5 EqualOrStatusWithKbo
+  -- order kbo : minus = 1, plus = 0: the name comes before the weight of a later one
+  pub no_weighed_symbol : HasFirstFault
+      (weighed_with [] []
+      (order (codes "kbo") (weight (codes "minus") 9 1 ∷ weight (codes "plus") 20 0 ∷ [])) [])
+      9 UnknownName
+  -- order kbo : plus = 2, plus = 0: the second name comes before its weight
+  pub weighed_twice : HasFirstFault
+      (weighed_with [] []
+      (order (codes "kbo") (weight (codes "plus") 9 2 ∷ weight (codes "plus") 20 0 ∷ [])) [])
+      20 RepeatedName
+  -- order kbo : true = 0
+  pub no_weight : HasFirstFault
+      (weighed_with [] [] (order (codes "kbo") (weight (codes "true") 9 0 ∷ [])) [])
+      9 WrongWeight
+  -- order kbo : plus = 1000, succ = 1001, whose fault comes before that of the rule plus(zero, y) = x
+  pub too_heavy : HasFirstFault
+      (weighed_with [] []
+      (order (codes "kbo") (weight (codes "plus") 9 1000 ∷ weight (codes "succ") 20 1001 ∷ []))
+      (loose_rule ∷ []))
+      20 WrongWeight

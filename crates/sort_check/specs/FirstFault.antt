@@ -16,8 +16,8 @@ use Rattle.sort_check.specs.declared.faults.SortKind.{SortKind}
 use Rattle.sort_check.specs.declared.faults.SortKind.TheVariants.{WrongSort}
 use Rattle.sort_check.specs.declared.faults.Part.TheVariants.{Ground}
 
--- faults are looked for in the declarations, then in the lines that order functions and their arguments, then in the rules
--- in order, then in the goals in order
+-- faults are looked for in the declarations, then in the lines that give an order, then in the rules in order, then in the
+-- goals in order
 abbrev pub spec_tests : RawSpec → Search SortFault
 spec_tests raw = then (declarations_tests raw)
     (then (order_tests (sig_of raw) raw)

@@ -1,20 +1,22 @@
--- What is tested at the lines that give functions one level and order their arguments.
-use Rattle.std.specs.Prelude.{◌≡◌, ◌≢◌, ℕ, List, [], ◌∷◌, ◌++◌, None, IsTrue, length, map, slice_index}
+-- What is tested at the lines that say how terms are ordered.
+use Rattle.std.specs.Prelude.{◌≡◌, ◌≢◌, ◌≤◌, ◌⊎◌, ℕ, List, [], ◌∷◌, ◌++◌, Option, Some, None, IsTrue, codes, length, map, slice_index}
 use Rattle.std.specs.List.{flat_map}
 use Rattle.term_core.specs.Precedence.{is_status}
 use Rattle.spec_core.specs.Sig.{Sig, IsConstructor}
 use Rattle.spec_core.specs.Orders.{arities}
-use Rattle.spec_core.specs.Findings.{Search, test, then, each_after}
+use Rattle.spec_core.specs.Findings.{Search, nothing, test, then, each_after}
 use Rattle.spec_grammar.specs.declared.raw.RawName.{RawName}
 use Rattle.spec_grammar.specs.declared.raw.RawEqual.{RawEqual}
 use Rattle.spec_grammar.specs.declared.raw.RawStatus.{RawStatus}
+use Rattle.spec_grammar.specs.declared.raw.RawWeight.{RawWeight}
+use Rattle.spec_grammar.specs.declared.raw.RawOrder.{RawOrder}
 use Rattle.spec_grammar.specs.declared.raw.RawSpec.{RawSpec}
 use Rattle.sort_check.specs.Orders.{is_among, symbol_number, symbol_numbers}
 use Rattle.sort_check.specs.Words.{symbol_named}
 use Rattle.sort_check.specs.declared.faults.SortFault.{SortFault}
 use Rattle.sort_check.specs.declared.faults.SortFault.TheVariants.{Sort}
 use Rattle.sort_check.specs.declared.faults.SortKind.{SortKind}
-use Rattle.sort_check.specs.declared.faults.SortKind.TheVariants.{UnknownName, WrongNumberOfArguments, NotAFunction, EqualTwice, StatusTwice, NoOrderOfArguments}
+use Rattle.sort_check.specs.declared.faults.SortKind.TheVariants.{UnknownName, RepeatedName, WrongNumberOfArguments, NotAFunction, EqualTwice, StatusTwice, NoOrderOfArguments, EqualOrStatusWithKbo, WrongWeight}
 
 -- the names in equal lines, and those at the heads of status lines
 abbrev pub names_in : List RawEqual → List RawName
@@ -22,6 +24,10 @@ names_in lines = flat_map (λ (line : RawEqual). line.names) lines
 
 abbrev pub heads_of : List RawStatus → List RawName
 heads_of lines = map (λ (line : RawStatus). line.head) lines
+
+-- the names in an order line
+abbrev pub weighed_names : List RawWeight → List RawName
+weighed_names ws = map (λ (w : RawWeight). w.name) ws
 
 -- each number from 1 to the number of arguments is there once
 abbrev pub IsOrderOfArguments : ℕ → List ℕ → Type 0
@@ -61,7 +67,30 @@ module _ (sig : Sig) where
       (test (Sort line.head.at NoOrderOfArguments)
       (¬ (IsOrderOfArguments (arity line.head) line.numbers)))
 
--- equal lines in order, and then status lines in order
+  -- equal lines in order, then status lines in order
+  abbrev pub path_tests : List RawEqual → List RawStatus → Search SortFault
+  path_tests equals statuses =
+      then (each_after equal_tests [] equals) (each_after status_tests [] statuses)
+
+  -- a weight with those before it
+  abbrev pub weight_tests : List RawWeight → RawWeight → Search SortFault
+  weight_tests before w = then (test (Sort w.name.at UnknownName) (symbol_named sig w.name.name ≡ None))
+      (then (test (Sort w.name.at RepeatedName)
+      (IsTrue (is_among (symbol_number sig w.name) (symbol_numbers sig (weighed_names before)))))
+      (test (Sort w.name.at WrongWeight) (¬ ((1 ≤ w.weight) × (w.weight ≤ 1000)))))
+
+  -- an order line, where the lines for the path ordering are these
+  abbrev pub line_tests : List RawEqual → List RawStatus → RawOrder → Search SortFault
+  line_tests equals statuses line =
+      then (test (Sort line.name.at UnknownName) (line.name.name ≢ codes "kbo"))
+      (then (test (Sort line.name.at EqualOrStatusWithKbo) ((equals ≢ []) ⊎ (statuses ≢ [])))
+      (each_after weight_tests [] line.weights))
+
+  abbrev pub order_line_tests : List RawEqual → List RawStatus → Option RawOrder → Search SortFault
+  order_line_tests equals statuses None = nothing
+  order_line_tests equals statuses (Some line) = line_tests equals statuses line
+
+-- the lines for the path ordering, then the order line
 abbrev pub order_tests : Sig → RawSpec → Search SortFault
-order_tests sig raw = then (each_after (equal_tests sig) [] raw.equals)
-    (each_after (status_tests sig) [] raw.statuses)
+order_tests sig raw = then (path_tests sig raw.equals raw.statuses)
+    (order_line_tests sig raw.equals raw.statuses raw.order)

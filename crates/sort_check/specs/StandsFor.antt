@@ -16,7 +16,7 @@ use Rattle.sort_check.specs.Goals.{GoalStands}
 use Rattle.sort_check.specs.FirstFault.{HasNoFault, TermHasNoFault}
 
 -- each declaration stands for that of the same number; names of sorts, of symbols and of goals are distinct, each sort has
--- a small value, and the order has the levels and statuses that the lines give
+-- a small value, and the order is the one that the lines give
 pub record IsNumbered (raw : RawSpec) (spec : Spec) : Type 0 where
   pub signature : SignatureStands raw spec.sig
   pub declared : IsDeclared spec.sig

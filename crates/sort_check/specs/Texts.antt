@@ -26,6 +26,8 @@ kind_text kind.NotAFunction = codes "not a function"
 kind_text kind.EqualTwice = codes "equal twice"
 kind_text kind.StatusTwice = codes "status twice"
 kind_text kind.NoOrderOfArguments = codes "no order of arguments"
+kind_text kind.EqualOrStatusWithKbo = codes "equal or status with kbo"
+kind_text kind.WrongWeight = codes "wrong weight"
 
 -- the words of a fault: its place and its kind
 abbrev pub fault_text : SortFault → List ℕ

@@ -8,7 +8,7 @@ use term_core::OutOfMemory;
 /// The kinds of sort fault.
 #[derive(Clone, Copy, Debug, PartialEq, Eq)]
 pub enum SortKind {
-    /// No sort, symbol or variable has this name.
+    /// No sort, symbol, variable or ordering has this name.
     UnknownName,
     RepeatedName,
     WrongNumberOfArguments,
@@ -38,6 +38,10 @@ pub enum SortKind {
     StatusTwice,
     /// Numbers of a status line that aren't each of 1 to the number of arguments once.
     NoOrderOfArguments,
+    /// An ordering by weights beside an equal or status line.
+    EqualOrStatusWithKbo,
+    /// A weight of 0, or of more than 1000.
+    WrongWeight,
 }
 
 impl fmt::Display for SortKind {
@@ -65,6 +69,8 @@ impl fmt::Display for SortKind {
             SortKind::EqualTwice => "equal twice",
             SortKind::StatusTwice => "status twice",
             SortKind::NoOrderOfArguments => "no order of arguments",
+            SortKind::EqualOrStatusWithKbo => "equal or status with kbo",
+            SortKind::WrongWeight => "wrong weight",
         })
     }
 }

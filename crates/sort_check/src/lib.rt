@@ -2,14 +2,14 @@
 //!
 //! It stands on spec_core and on spec_grammar. The folder `specs/` says which tests of a raw
 //! specification are made in which order (`specs/FirstFault.antt`), and apart from this what its
-//! numbering is, with the sorts that a goal's variables get (`specs/Inference.antt`) and the levels
-//! and statuses that equal and status lines give (`specs/Orders.antt`). A raw
-//! specification stands for its numbering where no test finds a fault (`specs/StandsFor.antt`). The
-//! layer above uses the contracts of [`elaborate`] and [`elaborate_term`]: what the raw one stands
-//! for is answered wherever there is such a thing, and nothing else is; the first fault is told
-//! with its place and kind exactly where it is there. The laws say that a raw specification stands
-//! for one at most and has one first fault at most, that one with a fault stands for none, and that
-//! what it stands for is well sorted and keeps the sizes of terms.
+//! numbering is, with the sorts that a goal's variables get (`specs/Inference.antt`) and the order
+//! that lines give: levels and statuses, or weights (`specs/Orders.antt`). A raw specification
+//! stands for its numbering where no test finds a fault (`specs/StandsFor.antt`). The layer above
+//! uses the contracts of [`elaborate`] and [`elaborate_term`]: what the raw one stands for is
+//! answered wherever there is such a thing, and nothing else is; the first fault is told with its
+//! place and kind exactly where it is there. The laws say that a raw specification stands for one
+//! at most and has one first fault at most, that one with a fault stands for none, and that what it
+//! stands for is well sorted and keeps the sizes of terms.
 #![tactic(auto)]
 
 mod clauses;
@@ -20,11 +20,13 @@ mod faults;
 mod goals;
 mod laws;
 mod limits;
+mod marks;
 mod orders;
 mod rounds;
 mod rules;
 mod variables;
 mod walk;
+mod weights;
 
 pub use elaborating::{elaborate, elaborate_term};
 pub use faults::{SortFault, SortKind};

@@ -1,22 +1,25 @@
 ghost use Rattle.std.specs.Prelude.{◌≡◌, ◌<◌, ◌==◌, ◌++◌, ◌∷◌, ℕ, List, [], IfOk, OnErr, IsTrue, ◌↔◌, if◌then◌else◌, length, map, replicate, slice_index};
 ghost use Rattle.std.specs.List.{list_all, range_with_len};
 ghost use Rattle.term_core.specs.Precedence.{is_status as orders_arguments, times};
-ghost use Rattle.spec_core.specs.Findings.{test, then, each_after};
+ghost use Rattle.spec_core.specs.Findings.{test, each_after};
 ghost use Rattle.spec_core.specs.Orders.{arities};
+ghost use Rattle.spec_core.specs.declared.records.OrderInfo.TheVariants.{Path};
 ghost use Rattle.sort_check.specs.Answers.{Answers};
 ghost use Rattle.sort_check.specs.Orders.{OrderStands, all_numbers, greatest as greatest_number, is_among, level_in, status_in, symbol_number, symbol_numbers};
-ghost use Rattle.sort_check.specs.OrderTests.{IsOrderOfArguments, arity as arity_of, equal_tests, function_tests, name_tests, order_tests, status_tests};
+ghost use Rattle.sort_check.specs.OrderTests.{IsOrderOfArguments, arity as arity_of, equal_tests, function_tests, name_tests, order_tests, path_tests, status_tests};
 ghost use Rattle.sort_check.specs.Marks.{AllAreBelow, AreMarks, numbers_of};
 ghost use Rattle.sort_check.specs.declared.faults.SortFault.TheVariants.{Sort};
 ghost use Rattle.sort_check.specs.declared.faults.SortKind.TheVariants.{NoOrderOfArguments as no_order_of_arguments};
 
 use crate::faults::{SortFault, SortKind, fault};
+use crate::marks::no_marks;
+use crate::weights::weights_of;
 use spec_core::{OrderInfo, Signature, order_by_number};
 use spec_grammar::{RawEqual, RawName, RawSpec, RawStatus};
 use std::alloc::Global;
 use term_core::{OutOfMemory, Seq, SymId};
 
-/// The order that the equal and status lines give: the order by number where there are none.
+/// The order that the lines give: the order by number where there are none.
 pub(crate) fn order_of(
     alloc: Global,
     sig: &Signature,
@@ -24,17 +27,44 @@ pub(crate) fn order_of(
 ) -> Result<OrderInfo, SortFault>
     ensures { Answers (order_tests sig.now raw.now) (OrderStands raw.now sig.now) result }
 {
+    let equals = raw.equals.as_slice();
+    let statuses = raw.statuses.as_slice();
+    let path = path_of(alloc, sig, equals, statuses)?;
+    match &raw.order {
+        None => Ok(path),
+        Some(line) => {
+            let weights = weights_of(alloc, sig, equals, statuses, line)?;
+            Ok(OrderInfo::Weights { weights })
+        }
+    }
+}
+
+/// The path ordering of equal and status lines.
+fn path_of(
+    alloc: Global,
+    sig: &Signature,
+    equals: &[RawEqual],
+    statuses: &[RawStatus],
+) -> Result<OrderInfo, SortFault>
+    ensures { Answers (path_tests sig.now equals.now statuses.now)
+        (λ order. order ≡ Path (map (level_in sig.now equals.now) (all_numbers sig.now))
+        (map (status_in sig.now statuses.now) (all_numbers sig.now))) result }
+{
     match order_by_number(alloc, sig)? {
-        OrderInfo::Path { levels, statuses } => {
+        OrderInfo::Path {
+            levels,
+            statuses: written,
+        } => {
             let mut levels = levels.into_vec();
-            let mut statuses = statuses.into_vec();
-            set_levels(alloc, sig, raw.equals.as_slice(), &mut levels)?;
-            set_statuses(alloc, sig, raw.statuses.as_slice(), &mut statuses)?;
+            let mut written = written.into_vec();
+            set_levels(alloc, sig, equals, &mut levels)?;
+            set_statuses(alloc, sig, statuses, &mut written)?;
             Ok(OrderInfo::Path {
                 levels: Seq::from_vec(levels),
-                statuses: Seq::from_vec(statuses),
+                statuses: Seq::from_vec(written),
             })
         }
+        OrderInfo::Weights { .. } => unreachable!(),
     }
 }
 
@@ -76,15 +106,6 @@ fn set_statuses(
         statuses[function.0 as usize] = status;
     }
     Ok(())
-}
-
-/// No mark at any symbol.
-fn no_marks(alloc: Global, sig: &Signature) -> Result<Vec<bool>, OutOfMemory>
-    ensures long { IfOk result (λ marks. length marks.items ≡ length sig.now.table) }
-    ensures none { IfOk result (λ marks. AreMarks [] marks.items) }
-{
-    let marks = Vec::from_elem(alloc, false, sig.symbols() as usize)?;
-    Ok(marks)
 }
 
 /// Takes the functions of an equal line, which have one number of arguments.

@@ -5,3 +5,4 @@ mod ProvedBlocks
 -- Goals whose clauses don't fail are true, and claims in their order.
 mod TrueGoals
 mod TrueClaims
+mod TrueReports

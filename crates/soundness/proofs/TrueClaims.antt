@@ -7,7 +7,7 @@ use Rattle.spec_core.specs.declared.records.Goal.{Goal}
 use Rattle.spec_core.specs.declared.records.Spec.{Spec}
 use Rattle.spec_core.specs.Truth.{GoalIsTrue}
 use Rattle.spec_core.specs.WellSorted.{IsWellSorted}
-use Rattle.path_order.specs.Laws.{HasRanks}
+use Rattle.term_order.specs.Laws.{HasRanks}
 use Rattle.clause_core.specs.declared.steps.Step.{Step}
 use Rattle.clause_core.specs.declared.reports.Claim.{Claim}
 use Rattle.clause_core.specs.declared.reports.Outcome.{Outcome}

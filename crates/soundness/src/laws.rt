@@ -1,7 +1,7 @@
 ghost use Rattle.soundness.specs.AcceptedAreTrue.{AcceptedAreTrue};
 ghost use Rattle.soundness.specs.Examples.{WorkedExamples};
 
-use path_order::{Lpo, TermOrder};
+use term_order::TermOrder;
 
 /// Where a well sorted specification is admitted and a report accepted by the same order, each
 /// proved claim is on a true goal, and each refuted one on a goal that fails under its values.
@@ -17,9 +17,8 @@ pub fn accepted_are_true<O: TermOrder>(order: &O)
 pub fn worked_examples()
     ensures { WorkedExamples }
 {
-    let order = Lpo::by_number();
-    accepted_are_true(&order);
     acceptance::worked_examples();
+    clause_core::tidying_laws();
     clause_core::worked_examples();
     spec_core::worked_examples();
 }

@@ -10,8 +10,7 @@ use Rattle.spec_core.specs.Covering.{IsMatched}
 use Rattle.spec_core.specs.Small.{IsSmall}
 use Rattle.spec_core.specs.Naturals.{nat, declares, naturals, naturals_sig, plus_succ_rule, zero_term, succ_term, plus_term}
 use Rattle.spec_core.proofs.SortedNaturals.{bool_is_not_nat}
-use Rattle.term_core.specs.Precedence.{by_number}
-use Rattle.path_order.specs.Above.{Above, SomeReaches, Falls, by_argument, by_head, by_arguments, this_is, this_above, later, all_none, all_some, here, further}
+use Rattle.sample_specs.specs.SumOrder.{AboveInSums}
 use Rattle.coverage_check.specs.Named.{IsNamed, IsSettled, no_rows, first_constructor}
 use Rattle.coverage_check.specs.LeftSides.{rows_of}
 use Rattle.clause_core.specs.Admitted.{RuleIsOrdered}
@@ -37,59 +36,14 @@ only_rule r P p (suc k) rule at = absurd (let q : None ≡ Some rule = at in cc)
 pub one_rule_apart : (r : Rule) → NoOverlap (record naturals { rules = r ∷ []; goals = [] })
 one_rule_apart r j k p q f i vs xs ys a b info sorted built m n = sym (only_rule r (λ (x : Rule). r.left ≡ x.left) refl j p a) ∙ only_rule r (λ (x : Rule). r.left ≡ x.left) refl k q b
 
-abbrev IsVar : Tree → Type 0
-IsVar (var n) = Unit {0}
-IsVar (app f ts) = ⊥
+not_above : AboveInSums (plus_term (var 0) (var 1)) (plus_term (var 0) (succ_term (var 1))) → ⊥
+not_above a = omega (arith, a (λ n. 0))
 
-abbrev AreVars : Trees → Type 0
-AreVars none = Unit {0}
-AreVars (some t ts) = IsVar t × AreVars ts
-
-mutual
-  -- variables are above nothing, and reach no call
-  no_variable : {t s : Tree} → IsVar t → Above by_number t s → ⊥
-  no_variable v (by_argument r) = v
-  no_variable v (by_head l a) = v
-  no_variable v (by_arguments e w) = v
-
-  no_reach : {ts : Trees} {s : Tree} → AreVars ts → (IsVar s → ⊥) → SomeReaches by_number ts s → ⊥
-  no_reach v a this_is = a v.0
-  no_reach v a (this_above p) = no_variable v.0 p
-  no_reach v a (later r) = no_reach v.1 a r
-
-  no_fall : {t : Tree} {ts ss : Trees} → AreVars ts → Falls by_number t ts ss → ⊥
-  no_fall v (here e p a) = no_variable v.0 p
-  no_fall v (further w) = no_fall v.1 w
-
--- a call on variables is above no call of the same function
-no_call : {t s : Tree} (f : ℕ) (ts us : Trees) → AreVars ts → t ≡ app f ts → s ≡ app f us → Above by_number t s → ⊥
-no_call f ts us v e d (by_argument {f = g} {ts = vs} {s = s} r) =
-    let q : app g vs ≡ app f ts = e in
-    let k : vs ≡ ts = cc in
-    no_reach (subst AreVars (sym k) v) (λ z. subst IsVar d z) r
-no_call f ts us v e d (by_head {f = g} {g = h} {ts = vs} {ss = ws} l a) =
-    let q : app g vs ≡ app f ts = e in
-    let r : app h ws ≡ app f us = d in
-    let k : g ≡ f = cc in
-    let m : h ≡ f = cc in
-    omega (arith, k, m, l)
-no_call f ts us v e d (by_arguments {f = g} {ts = vs} same w) =
-    let q : app g vs ≡ app f ts = e in
-    let k : vs ≡ ts = cc in
-    no_fall (subst AreVars (sym k) v) w
-
-not_above : Above by_number (plus_term (var 0) (var 1)) (plus_term (var 0) (succ_term (var 1))) → ⊥
-not_above a = no_call 4 (some (var 0) (some (var 1) none)) (some (var 0) (some (succ_term (var 1)) none)) (tt, (tt, tt)) refl refl a
-
-pub order : Tells (Above by_number) growing (Order 1 0)
+pub order : Tells AboveInSums growing (Order 1 0)
 order = (only_rule growing_rule (λ r. IsLinear r.left) two_variables, inl (inl (not_above, refl)))
 
-succ_ordered : RuleIsOrdered (Above by_number) plus_succ_rule
-succ_ordered = record {
-  right = by_head (omega arith) (all_some
-      (by_arguments refl (here refl (by_argument this_is) (all_some (by_argument (later this_is)) all_none))) all_none);
-  guards = tt;
-}
+succ_ordered : RuleIsOrdered AboveInSums plus_succ_rule
+succ_ordered = record { right = λ env. omega arith; guards = tt }
 
 zero_is_no_succ : (xs : List Tree) → instance xs (plus_term (succ_term (var 0)) (var 1)) ≡ plus_term zero_term zero_term → ⊥
 zero_is_no_succ xs h =
@@ -112,10 +66,10 @@ named : IsSmall naturals_sig nat zero_term → IsNamed naturals_sig (rows_of 4 w
 named small = first_constructor 2 (declares []) (record { decides = λ h. h.0; constructor = omega arith; info = refl; result = refl; before = booleans_settled (rows_of 4 without_zero.rules) }) refl (no_rows (small, tt))
 
 pub coverage : LeftSidesAreLinear naturals → IsSmall naturals_sig nat zero_term →
-    Tells (Above by_number) without_zero (Coverage (record { 0 = 4 }) (zero_term ∷ (zero_term ∷ [])))
+    Tells AboveInSums without_zero (Coverage (record { 0 = 4 }) (zero_term ∷ (zero_term ∷ [])))
 coverage linear small = (
   only_rule plus_succ_rule (λ (r : Rule). IsLinear r.left) (linear 1 plus_succ_rule refl),
-  only_rule plus_succ_rule (λ r. RuleIsOrdered (Above by_number) r) succ_ordered,
+  only_rule plus_succ_rule (λ r. RuleIsOrdered AboveInSums r) succ_ordered,
   one_rule_apart plus_succ_rule,
   only_rule plus_succ_rule (λ (r : Rule). Whole (group r.left 0 without_zero.rules)) alone,
   record { first = inl (not_covered, refl); info = declares (nat ∷ (nat ∷ [])); declared = refl; named = named small },

@@ -8,8 +8,7 @@ use Rattle.spec_core.specs.declared.records.VarInfo.{VarInfo}
 use Rattle.spec_core.specs.Groups.{Whole, alone, split, wanting}
 use Rattle.spec_core.specs.Linear.{IsLinear, LeftSidesAreLinear}
 use Rattle.spec_core.specs.Naturals.{naturals, plus_zero_rule, zero_term, plus_term}
-use Rattle.term_core.specs.Precedence.{by_number}
-use Rattle.path_order.specs.Above.{Above, by_argument, by_head, this_is, later, all_none}
+use Rattle.sample_specs.specs.SumOrder.{AboveInSums}
 use Rattle.overlap_check.specs.declared.answers.Linear.TheVariants.{Repeated}
 use Rattle.overlap_check.specs.declared.answers.Overlap.TheVariants.{Both}
 use Rattle.overlap_check.specs.Repetition.{IsLinearity}
@@ -22,7 +21,7 @@ use Rattle.spec_admit.specs.Examples.{half_rule, half, if_true}
 use Rattle.spec_admit.proofs.AdditionFaults.{two_variables, only_rule, one_rule_apart}
 
 pub linear : IsLinearity same_second (Repeated 2 (record { 0 = 0 })) →
-    Tells (Above by_number) same_second (Linear 2 (codes "x"))
+    Tells AboveInSums same_second (Linear 2 (codes "x"))
 linear h =
     let place : h.0 ≡ 1 = omega (arith, h.1) in
     let at : Some same_rule ≡ Some h.2.rule = sym (ap (λ n. slice_get same_second.rules n) place) ∙ h.2.at in
@@ -50,17 +49,17 @@ one_variable n (inr (inr (inr (inl h)))) = h.1
 one_variable n (inr (inr (inr (inr h)))) = h
 
 pub overlap : LeftSidesAreLinear naturals → IsOverlap two_zeros (Both 1 2 (zero_term ∷ zero_term ∷ [])) →
-    Tells (Above by_number) two_zeros (Overlap 1 2 (zero_term ∷ zero_term ∷ []))
+    Tells AboveInSums two_zeros (Overlap 1 2 (zero_term ∷ zero_term ∷ []))
 overlap linear both = (
   each_of_two (λ r. IsLinear r.left) plus_zero_rule right_zero_rule (linear 0 plus_zero_rule refl) one_variable,
-  each_of_two (RuleIsOrdered (Above by_number)) plus_zero_rule right_zero_rule
-      (record { right = by_argument (later this_is); guards = tt })
-      (record { right = by_argument this_is; guards = tt }),
+  each_of_two (RuleIsOrdered AboveInSums) plus_zero_rule right_zero_rule
+      (record { right = λ env. omega arith; guards = tt })
+      (record { right = λ env. omega arith; guards = tt }),
   both,
 )
 
-half_ordered : RuleIsOrdered (Above by_number) half_rule
-half_ordered = record { right = by_argument this_is; guards = ((by_head (omega arith) all_none, by_head (omega arith) all_none), tt) }
+half_ordered : RuleIsOrdered AboveInSums half_rule
+half_ordered = record { right = λ env. omega arith; guards = ((λ env. omega arith, λ env. omega arith), tt) }
 
 -- one list that begins with a test leaves the other side of the test without a list
 not_whole : {ms : List (ℕ × List Guard)} → (Whole [] → ⊥) → Whole ms → ms ≡ (0, if_true ∷ []) ∷ [] → ⊥
@@ -70,10 +69,10 @@ not_whole nothing (alone {k = k}) e =
     cc
 not_whole nothing (split test begin true_side false_side) e = nothing (subst (λ ns. Whole (wanting false ns)) e false_side)
 
-pub guards : (Whole [] → ⊥) → Tells (Above by_number) half (Guards 1)
+pub guards : (Whole [] → ⊥) → Tells AboveInSums half (Guards 1)
 guards nothing = (
   only_rule half_rule (λ r. IsLinear r.left) two_variables,
-  only_rule half_rule (RuleIsOrdered (Above by_number)) half_ordered,
+  only_rule half_rule (RuleIsOrdered AboveInSums) half_ordered,
   one_rule_apart half_rule,
   inl (λ w. not_whole nothing w refl, refl),
 )

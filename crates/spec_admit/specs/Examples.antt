@@ -5,8 +5,7 @@ use Rattle.spec_core.specs.declared.records.Guard.{Guard}
 use Rattle.spec_core.specs.declared.records.Rule.{Rule}
 use Rattle.spec_core.specs.declared.records.Spec.{Spec}
 use Rattle.spec_core.specs.Naturals.{naturals, variable, plus_succ_rule, zero_term, succ_term, plus_term}
-use Rattle.term_core.specs.Precedence.{by_number}
-use Rattle.path_order.specs.Above.{Above}
+use Rattle.sample_specs.specs.SumOrder.{AboveInSums}
 use Rattle.overlap_check.specs.Examples.{same_second, two_zeros}
 use Rattle.spec_admit.specs.FirstFault.{Tells}
 use Rattle.spec_admit.specs.declared.faults.AdmitFault.TheVariants.{Linear, Order, Overlap, Guards, Coverage}
@@ -44,12 +43,12 @@ without_zero = record naturals { rules = plus_succ_rule ∷ []; goals = [] }
 
 pub record WorkedExamples : Type 0 where
   -- plus(x, x) has x twice, after plus(zero, y)
-  pub linear : Tells (Above by_number) same_second (Linear 2 (codes "x"))
+  pub linear : Tells AboveInSums same_second (Linear 2 (codes "x"))
   -- the right side of the rule that doesn't end isn't below its left side
-  pub order : Tells (Above by_number) growing (Order 1 0)
+  pub order : Tells AboveInSums growing (Order 1 0)
   -- (zero, zero) match plus(zero, y) and plus(x, zero)
-  pub overlap : Tells (Above by_number) two_zeros (Overlap 1 2 (zero_term ∷ zero_term ∷ []))
+  pub overlap : Tells AboveInSums two_zeros (Overlap 1 2 (zero_term ∷ zero_term ∷ []))
   -- nothing is said where the test isn't true
-  pub guards : Tells (Above by_number) half (Guards 1)
+  pub guards : Tells AboveInSums half (Guards 1)
   -- where there is no rule for zero, (zero, zero) is named as missing for plus, whose number is 4
-  pub coverage : Tells (Above by_number) without_zero (Coverage (record { 0 = 4 }) (zero_term ∷ zero_term ∷ []))
+  pub coverage : Tells AboveInSums without_zero (Coverage (record { 0 = 4 }) (zero_term ∷ zero_term ∷ []))

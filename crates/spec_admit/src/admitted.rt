@@ -1,6 +1,6 @@
-use path_order::TermOrder;
 use spec_core::Spec;
 use std::marker::Model;
+use term_order::TermOrder;
 
 /// A specification that is admitted by its order. Contracts see the two as an `Admission`.
 #[derive(Drop)]

@@ -16,10 +16,10 @@ use crate::linearity::repeated_variable;
 use crate::ordering::unordered_rule;
 use descent::values_rank_lower;
 use overlap_check::{Overlap, overlap};
-use path_order::TermOrder;
 use spec_core::Spec;
 use std::alloc::Global;
 use term_core::Seq;
+use term_order::TermOrder;
 
 /// Admits a specification by this order, or gives it back unchanged with its first fault: of
 /// linearity, order, overlap, guards and coverage in this order, and within one kind the first by

@@ -1,7 +1,7 @@
 ghost use Rattle.spec_admit.specs.Examples.{WorkedExamples};
 ghost use Rattle.spec_admit.specs.Laws.{FirstOfItsGroup, NoFaultWhereAdmitted, OneFault, OneLeftSide, OneValueWhereAdmitted};
 
-use path_order::TermOrder;
+use term_order::TermOrder;
 
 /// By each order, an admitted specification has no fault.
 pub fn no_fault_where_admitted<O: TermOrder>()

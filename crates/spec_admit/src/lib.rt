@@ -1,10 +1,11 @@
 //! Which specifications are admitted, and the first fault of one that isn't.
 //!
-//! It stands on clause_core for what is asked of an admitted specification, on path_order for the
+//! It builds on clause_core for what is asked of an admitted specification, on term_order for the
 //! order's test, and on overlap_check and coverage_check for their tests and the values that they
-//! name. `specs/FirstFault.antt` says which fault is the first. The layers above use that a value of
-//! [`Admitted`] is a well sorted specification that is admitted by the order with it, and that
-//! [`admit`] refuses with the first fault.
+//! name; its worked examples take the order of sample_specs. `specs/FirstFault.antt` says which
+//! fault is the first. The layers above use that a value of [`Admitted`] is a well sorted
+//! specification that is admitted by the order with it, and that [`admit`] refuses with the first
+//! fault.
 #![tactic(auto)]
 
 mod admitted;

@@ -8,10 +8,10 @@ ghost use Rattle.clause_core.specs.Admitted.{GuardIsOrdered, RuleIsOrdered, Rule
 ghost use Rattle.spec_admit.specs.Tests.{all_order_tests};
 ghost use Rattle.spec_admit.specs.Parts.{IsUnorderedPart};
 
-use path_order::TermOrder;
 use spec_core::{Guard, Rule, Spec};
 use std::alloc::Global;
 use term_core::{OutOfMemory, SymId, Term, Terms};
+use term_order::TermOrder;
 
 /// The first rule whose left side isn't above one of its parts, and the number of that part: 0 for
 /// the right side, k for the k-th guard.

@@ -1,20 +1,18 @@
 -- How the terms of a specification are ordered.
 use Rattle.std.specs.Prelude.{◌≡◌, ℕ, List, map, length}
-use Rattle.term_core.specs.Precedence.{Precedence, IsPrecedence, written_by_number}
+use Rattle.term_core.specs.Precedence.{IsPrecedence, written_by_number}
+use Rattle.term_core.specs.Weights.{AreWeights}
 use Rattle.spec_core.specs.declared.records.SymInfo.{SymInfo}
 use Rattle.spec_core.specs.declared.records.OrderInfo.{OrderInfo}
-use Rattle.spec_core.specs.declared.records.OrderInfo.TheVariants.{Path}
+use Rattle.spec_core.specs.declared.records.OrderInfo.TheVariants.{Path, Weights}
 use Rattle.spec_core.specs.Sig.{Sig}
 
--- the levels and statuses of a path ordering
-abbrev pub precedence_of : OrderInfo → Precedence
-precedence_of (Path levels statuses) = record { levels = levels; statuses = statuses }
-
--- each symbol has a level and a status, and these make a precedence
+-- each symbol has a level and a status, and these make a precedence; or each symbol has a weight
 abbrev pub IsOrderOf : Sig → OrderInfo → Type 0
 IsOrderOf sig (Path levels statuses) =
     (length levels ≡ length sig.table)
     × IsPrecedence (record { levels = levels; statuses = statuses })
+IsOrderOf sig (Weights weights) = (length weights ≡ length sig.table) × AreWeights weights
 
 -- how many arguments each symbol has
 abbrev pub arities : Sig → List ℕ

@@ -18,6 +18,10 @@ impl OrderInfo {
                 let statuses = copied(alloc, statuses.as_slice())?;
                 Ok(OrderInfo::Path { levels, statuses })
             }
+            OrderInfo::Weights { weights } => {
+                let weights = Seq::from_vec(Vec::from_slice(alloc, weights.as_slice())?);
+                Ok(OrderInfo::Weights { weights })
+            }
         }
     }
 }

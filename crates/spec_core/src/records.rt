@@ -55,6 +55,10 @@ pub enum OrderInfo {
         levels: Seq<u32>,
         statuses: Seq<Seq<u8>>,
     },
+    /// By the ordering of Knuth and Bendix: the weight of each symbol.
+    Weights {
+        weights: Seq<u32>,
+    },
 }
 
 #[derive(Drop)]

@@ -1,9 +1,9 @@
 -- A stack takes each token of a text with the limit that the grammar marks it with.
-use Rattle.std.proofs.Common.{◌≡◌, ◌≢◌, ℕ, suc, ◌+◌, List, [], ◌∷◌, ◌++◌, ◌⊎◌, inl, inr, Option, None, Bool, true, false, length, refl, ap, sym, subst, ◌∙◌, add-one, arith}
+use Rattle.std.proofs.Common.{◌≡◌, ◌≢◌, ℕ, suc, ◌+◌, List, [], ◌∷◌, ◌++◌, ◌⊎◌, inl, inr, Option, Some, None, Bool, true, false, length, refl, ap, sym, subst, ◌∙◌, add-one, arith}
 use Rattle.std.specs.Prelude.{◌==◌}
 use Rattle.std.proofs.lemmas.List.{append-nil}
 use Rattle.spec_grammar.specs.declared.keys.Key.{Key}
-use Rattle.spec_grammar.specs.declared.keys.Key.TheVariants.{Spike, Sort, Fun, Rule, Goal, If, Unless, Equal, Status, LeftPar, RightPar, Comma, Colon, Equals, Bar, Arrow}
+use Rattle.spec_grammar.specs.declared.keys.Key.TheVariants.{Spike, Sort, Fun, Rule, Goal, If, Unless, Equal, Status, Order, LeftPar, RightPar, Comma, Colon, Equals, Bar, Arrow}
 use Rattle.spec_grammar.specs.declared.limits.LimitKind.{LimitKind}
 use Rattle.spec_grammar.specs.declared.raw.RawName.{RawName}
 use Rattle.spec_grammar.specs.declared.raw.RawNames.{RawNames}
@@ -11,6 +11,8 @@ use Rattle.spec_grammar.specs.declared.raw.RawSort.{RawSort}
 use Rattle.spec_grammar.specs.declared.raw.RawFun.{RawFun}
 use Rattle.spec_grammar.specs.declared.raw.RawEqual.{RawEqual}
 use Rattle.spec_grammar.specs.declared.raw.RawStatus.{RawStatus}
+use Rattle.spec_grammar.specs.declared.raw.RawWeight.{RawWeight}
+use Rattle.spec_grammar.specs.declared.raw.RawOrder.{RawOrder}
 use Rattle.spec_grammar.specs.declared.raw.RawEq.{RawEq}
 use Rattle.spec_grammar.specs.declared.raw.RawGuard.{RawGuard}
 use Rattle.spec_grammar.specs.declared.raw.RawRule.{RawRule}
@@ -20,8 +22,8 @@ use Rattle.spec_grammar.specs.declared.raw.RawSpec.{RawSpec}
 use Rattle.spec_grammar.specs.RawTree.{RawTree, RawTrees, word, none, some}
 use Rattle.spec_grammar.specs.Items.{Item, Word, Sign, Number}
 use Rattle.spec_grammar.specs.Limits.{name_mark, sort_mark, constructor_mark, fun_mark, arity_mark, term_mark, rule_mark, guard_mark, goal_mark, variable_mark, premise_mark, conclusion_mark}
-use Rattle.spec_grammar.specs.Grammar.{Marked, sign, term_text, args_text, more_text, more_names_text, names_text, con_text, constructors_text, AreSorts, funs_text, more_equal_text, AreEquals, more_numbers_text, AreStatuses, IsOrderText, guard_key, guards_text, sides_text, rules_text, commas_text, premises_text, bars_text, conclusions_text, IsClause, bind_text, more_binds_text, binds_text, AreGoals, IsFormat, IsSpecText, IsTermText}
-use Rattle.spec_grammar.specs.Symbols.{Symbol, key, name, args, more, names, more_names, format, body, order_then, sorts, funs, equals, more_equal, statuses, numeral, more_numbers, rules, guards, goals, binds, more_binds, clause, tail, commas, conclusions, bars, pass, react, react_key, react_word, term_then, right_then, sides_then, bind_then, take, is_empty, spec_symbols, term_symbols}
+use Rattle.spec_grammar.specs.Grammar.{Marked, sign, term_text, args_text, more_text, more_names_text, names_text, con_text, constructors_text, AreSorts, funs_text, more_equal_text, AreEquals, more_numbers_text, AreStatuses, weight_text, more_weights_text, weights_text, order_text, IsOrderText, guard_key, guards_text, sides_text, rules_text, commas_text, premises_text, bars_text, conclusions_text, IsClause, bind_text, more_binds_text, binds_text, AreGoals, IsFormat, IsSpecText, IsTermText}
+use Rattle.spec_grammar.specs.Symbols.{Symbol, key, name, args, more, names, more_names, format, body, order_then, sorts, funs, equals, more_equal, statuses, numeral, more_numbers, order, weights, more_weights, rules, guards, goals, binds, more_binds, clause, tail, commas, conclusions, bars, pass, react, react_key, react_word, term_then, right_then, sides_then, bind_then, weight_then, take, is_empty, spec_symbols, term_symbols}
 use Rattle.spec_grammar.proofs.Stacks.{Agrees, Skips, agrees_take, agrees_pass}
 
 -- the stack agrees with the text, as a record, so that its parts are found
@@ -69,29 +71,41 @@ pub head_rules : (version n : ℕ) (rs : List RawRule) (v : List Marked) → Hea
 head_rules version n [] v h = wider Rule (Goal ∷ []) v h
 head_rules version n (r ∷ rs) v h = inl refl
 
--- what may stand after the functions, and after the sorts
+-- what may stand after the lines `status`, after the lines `equal`, after the functions and after the sorts
+abbrev pub after_statuses : List Key
+after_statuses = Order ∷ Rule ∷ Goal ∷ []
+
+abbrev pub after_equals : List Key
+after_equals = Status ∷ after_statuses
+
 abbrev pub after_funs : List Key
-after_funs = Equal ∷ Status ∷ Rule ∷ Goal ∷ []
+after_funs = Equal ∷ after_equals
 
 abbrev pub after_sorts : List Key
 after_sorts = Fun ∷ after_funs
 
-pub head_statuses : (ss : List RawStatus) (w v : List Marked) → HeadIn (Rule ∷ Goal ∷ []) v
-    → AreStatuses ss w v → HeadIn (Status ∷ Rule ∷ Goal ∷ []) w
-head_statuses [] w v h e = subst (HeadIn (Status ∷ Rule ∷ Goal ∷ [])) (sym e) (wider Status (Rule ∷ Goal ∷ []) v h)
-head_statuses (s ∷ ss) w v h (first, others, after, listed, is, rest) =
-    subst (HeadIn (Status ∷ Rule ∷ Goal ∷ [])) (sym is) (inl refl)
+pub head_order_line : (line : Option RawOrder) (v : List Marked) → HeadIn (Rule ∷ Goal ∷ []) v
+    → HeadIn after_statuses (order_text line v)
+head_order_line None v h = wider Order (Rule ∷ Goal ∷ []) v h
+head_order_line (Some o) v h = inl refl
 
-pub head_equals : (es : List RawEqual) (w v : List Marked) → HeadIn (Status ∷ Rule ∷ Goal ∷ []) v
+pub head_statuses : (ss : List RawStatus) (w v : List Marked) → HeadIn after_statuses v
+    → AreStatuses ss w v → HeadIn after_equals w
+head_statuses [] w v h e = subst (HeadIn after_equals) (sym e) (wider Status after_statuses v h)
+head_statuses (s ∷ ss) w v h (first, others, after, listed, is, rest) =
+    subst (HeadIn after_equals) (sym is) (inl refl)
+
+pub head_equals : (es : List RawEqual) (w v : List Marked) → HeadIn after_equals v
     → AreEquals es w v → HeadIn after_funs w
-head_equals [] w v h e = subst (HeadIn after_funs) (sym e) (wider Equal (Status ∷ Rule ∷ Goal ∷ []) v h)
+head_equals [] w v h e = subst (HeadIn after_funs) (sym e) (wider Equal after_equals v h)
 head_equals (e ∷ es) w v h (first, second, others, after, listed, is, rest) =
     subst (HeadIn after_funs) (sym is) (inl refl)
 
 pub head_order : (raw : RawSpec) (w v : List Marked) → HeadIn (Rule ∷ Goal ∷ []) v
     → IsOrderText raw w v → HeadIn after_funs w
-head_order raw w v h (after, are_equals, are_statuses) =
-    head_equals raw.equals w after (head_statuses raw.statuses after v h are_statuses) are_equals
+head_order raw w v h (after, line, are_equals, are_statuses, is_line) =
+    let line_head = subst (HeadIn after_statuses) (sym is_line) (head_order_line raw.order v h) in
+    head_equals raw.equals w after (head_statuses raw.statuses after line line_head are_statuses) are_equals
 
 pub head_funs : (version n : ℕ) (fs : List RawFun) (v : List Marked)
     → HeadIn after_funs v → HeadIn after_sorts (funs_text version n fs v)
@@ -191,15 +205,15 @@ rules_agree version n (r ∷ rs) st v h e =
 more_equal_agree : (xs : List RawName) (st : List Symbol) (v : List Marked)
     → HeadIn after_funs v → Fits st v → Fits (more_equal ∷ st) (more_equal_text xs v)
 more_equal_agree [] st v e h =
-    fits_pass more_equal st v (skips more_equal after_funs v refl (refl, (refl, (refl, (refl, tt)))) e) h
+    fits_pass more_equal st v (skips more_equal after_funs v refl (refl, (refl, (refl, (refl, (refl, tt))))) e) h
 more_equal_agree (x ∷ xs) st v e h =
     fits_take more_equal st _ (Sign Comma) None _ refl
     (fits_take (name None) (more_equal ∷ st) [] (Word x.name x.at) _ _ refl (more_equal_agree xs st v e h))
 
 equals_agree : (es : List RawEqual) (st : List Symbol) (w v : List Marked)
-    → Fits st v → HeadIn (Status ∷ Rule ∷ Goal ∷ []) v → AreEquals es w v → Fits (equals ∷ st) w
+    → Fits st v → HeadIn after_equals v → AreEquals es w v → Fits (equals ∷ st) w
 equals_agree [] st w v h e is =
-    let skipped = skips equals (Status ∷ Rule ∷ Goal ∷ []) v refl (refl, (refl, (refl, tt))) e in
+    let skipped = skips equals after_equals v refl (refl, (refl, (refl, (refl, tt)))) e in
     subst (Fits (equals ∷ st)) (sym is) (fits_pass equals st v skipped h)
 equals_agree (q ∷ es) st w v h e (first, second, others, after, listed, is, rest) =
     let others_fit = equals_agree es st after v h e rest in
@@ -220,9 +234,9 @@ more_numbers_agree n (i ∷ is) st v h =
     (more_numbers_agree (n + 1) is st v h))
 
 statuses_agree : (ss : List RawStatus) (st : List Symbol) (w v : List Marked)
-    → Fits st v → HeadIn (Rule ∷ Goal ∷ []) v → AreStatuses ss w v → Fits (statuses ∷ st) w
+    → Fits st v → HeadIn after_statuses v → AreStatuses ss w v → Fits (statuses ∷ st) w
 statuses_agree [] st w v h e is =
-    let skipped = skips statuses (Rule ∷ Goal ∷ []) v refl (refl, (refl, tt)) e in
+    let skipped = skips statuses after_statuses v refl (refl, (refl, (refl, tt))) e in
     subst (Fits (statuses ∷ st)) (sym is) (fits_pass statuses st v skipped h)
 statuses_agree (s ∷ ss) st w v h e (first, others, after, listed, is, rest) =
     let others_fit = statuses_agree ss st after v h e rest in
@@ -235,26 +249,65 @@ statuses_agree (s ∷ ss) st w v h e (first, others, after, listed, is, rest) =
     (Word s.head.name s.head.at) _ _ refl opened in
     subst (Fits (statuses ∷ st)) (sym is) (fits_take statuses st _ (Sign Status) None _ refl named)
 
+-- the line of the order
+weight_agrees : (w : RawWeight) (st : List Symbol) (v : List Marked)
+    → Fits st v → Fits (weight_then st) (weight_text w v)
+weight_agrees w st v h =
+    let weighed = fits_take (numeral None) st [] (Number w.weight) None v refl h in
+    let equated = fits_take (key Equals) (numeral None ∷ st) [] (Sign Equals) None _ refl weighed in
+    fits_take (name None) (key Equals ∷ numeral None ∷ st) [] (Word w.name.name w.name.at) _ _ refl equated
+
+more_weights_agree : (ws : List RawWeight) (st : List Symbol) (v : List Marked)
+    → Fits st v → HeadIn (Rule ∷ Goal ∷ []) v → Fits (more_weights ∷ st) (more_weights_text ws v)
+more_weights_agree [] st v h e =
+    fits_pass more_weights st v (skips more_weights (Rule ∷ Goal ∷ []) v refl (refl, (refl, tt)) e) h
+more_weights_agree (w ∷ ws) st v h e =
+    let others = more_weights_agree ws st v h e in
+    fits_take more_weights st (weight_then (more_weights ∷ [])) (Sign Comma) None _ refl
+    (weight_agrees w (more_weights ∷ st) _ others)
+
+weights_agree : (ws : List RawWeight) (st : List Symbol) (v : List Marked)
+    → Fits st v → HeadIn (Rule ∷ Goal ∷ []) v → Fits (weights ∷ st) (weights_text ws v)
+weights_agree [] st v h e =
+    fits_pass weights st v (skips weights (Rule ∷ Goal ∷ []) v refl (refl, (refl, tt)) e) h
+weights_agree (w ∷ ws) st v h e =
+    let others = more_weights_agree ws st v h e in
+    fits_take weights st (weight_then (more_weights ∷ [])) (Sign Colon) None _ refl
+    (weight_agrees w (more_weights ∷ st) _ others)
+
+order_line_agrees : (line : Option RawOrder) (st : List Symbol) (v : List Marked)
+    → Fits st v → HeadIn (Rule ∷ Goal ∷ []) v → Fits (order ∷ st) (order_text line v)
+order_line_agrees None st v h e =
+    fits_pass order st v (skips order (Rule ∷ Goal ∷ []) v refl (refl, (refl, tt)) e) h
+order_line_agrees (Some o) st v h e =
+    let weighed = weights_agree o.weights st v h e in
+    let named = fits_take (name None) (weights ∷ st) [] (Word o.name.name o.name.at) _ _ refl weighed in
+    fits_take order st _ (Sign Order) None _ refl named
+
 -- a text of no lines is empty
-no_order : (raw : RawSpec) (w v : List Marked) → raw.equals ≡ [] → raw.statuses ≡ [] → IsOrderText raw w v → w ≡ v
-no_order raw w v no_equals no_statuses (after, are_equals, are_statuses) =
+no_order : (raw : RawSpec) (w v : List Marked) → raw.equals ≡ [] → raw.statuses ≡ []
+    → raw.order ≡ None → IsOrderText raw w v → w ≡ v
+no_order raw w v no_equals no_statuses no_line (after, line, are_equals, are_statuses, is_line) =
     let first : w ≡ after = subst (λ es. AreEquals es w after) no_equals are_equals in
-    let second : after ≡ v = subst (λ ss. AreStatuses ss after v) no_statuses are_statuses in
-    first ∙ second
+    let second : after ≡ line = subst (λ ss. AreStatuses ss after line) no_statuses are_statuses in
+    let third : line ≡ v = is_line ∙ ap (λ (o : Option RawOrder). order_text o v) no_line in
+    first ∙ second ∙ third
 
 order_agrees : (raw : RawSpec) (st : List Symbol) (w v : List Marked) → IsFormat raw → Fits st v
     → HeadIn (Rule ∷ Goal ∷ []) v → IsOrderText raw w v → Fits (order_then (raw.version == 2) st) w
-order_agrees raw st w v (inl (first, no_equals, no_statuses)) h e is =
+order_agrees raw st w v (inl (first, no_equals, no_statuses, no_line)) h e is =
     subst (λ n. Fits (order_then (n == 2) st) w) (sym first)
-    (subst (Fits st) (sym (no_order raw w v no_equals no_statuses is)) h)
-order_agrees raw st w v (inr second) h e (statuses_text, are_equals, are_statuses) =
-    let after = statuses_agree raw.statuses st statuses_text v h e are_statuses in
-    let head = head_statuses raw.statuses statuses_text v e are_statuses in
+    (subst (Fits st) (sym (no_order raw w v no_equals no_statuses no_line is)) h)
+order_agrees raw st w v (inr second) h e (statuses_text, line, are_equals, are_statuses, is_line) =
+    let line_fits = subst (Fits (order ∷ st)) (sym is_line) (order_line_agrees raw.order st v h e) in
+    let line_head = subst (HeadIn after_statuses) (sym is_line) (head_order_line raw.order v e) in
+    let after = statuses_agree raw.statuses (order ∷ st) statuses_text line line_fits line_head are_statuses in
+    let head = head_statuses raw.statuses statuses_text line line_head are_statuses in
     subst (λ n. Fits (order_then (n == 2) st) w) (sym second)
-    (equals_agree raw.equals (statuses ∷ st) w statuses_text after head are_equals)
+    (equals_agree raw.equals (statuses ∷ order ∷ st) w statuses_text after head are_equals)
 
 funs_agree : (version n : ℕ) (fs : List RawFun) (st : List Symbol) (v : List Marked) → Fits st v → HeadIn after_funs v → Fits (funs version n ∷ st) (funs_text version n fs v)
-funs_agree version n [] st v h e = fits_pass (funs version n) st v (skips (funs version n) after_funs v refl (refl, (refl, (refl, (refl, tt)))) e) h
+funs_agree version n [] st v h e = fits_pass (funs version n) st v (skips (funs version n) after_funs v refl (refl, (refl, (refl, (refl, (refl, tt))))) e) h
 funs_agree version n (f ∷ fs) st v h e =
     let others = funs_agree version (n + 1) fs st v h e in
     let result = fits_take (key Colon) (name None ∷ funs version (n + 1) ∷ st) [] (Sign Colon) None _ refl (fits_take (name None) (funs version (n + 1) ∷ st) [] (Word f.result.name f.result.at) _ _ refl others) in
@@ -262,7 +315,7 @@ funs_agree version n (f ∷ fs) st v h e =
 
 -- constructors and sorts
 sort_follows : (version n k t : ℕ) (v : List Marked) → HeadIn after_sorts v → Skips (sorts version n k t) v
-sort_follows version n k t v h = skips (sorts version n k t) after_sorts v refl (refl, (refl, (refl, (refl, (refl, tt))))) h
+sort_follows version n k t v h = skips (sorts version n k t) after_sorts v refl (refl, (refl, (refl, (refl, (refl, (refl, tt)))))) h
 
 constructors_agree : (version n k t : ℕ) (cs : List RawNames) (st : List Symbol) (v : List Marked) → HeadIn (Sort ∷ after_sorts) v → ((j : ℕ) → Fits (sorts version n j (t + length cs) ∷ st) v) → Fits (sorts version n (suc k) t ∷ st) (constructors_text version (suc k) t cs v)
 constructors_agree version n k t [] st v e h = subst (λ (u : ℕ). Fits (sorts version n (suc k) u ∷ st) v) (omega arith) (h (suc k))
@@ -270,7 +323,7 @@ constructors_agree version n k t (c ∷ cs) st v e h =
     let sum : t + length (c ∷ cs) ≡ t + 1 + length cs = omega arith in
     let others : Fits (sorts version n (suc (suc k)) (t + 1) ∷ st) (constructors_text version (suc (suc k)) (t + 1) cs v) = constructors_agree version n (suc k) (t + 1) cs st v e (λ j. subst (λ (u : ℕ). Fits (sorts version n j u ∷ st) v) sum (h j)) in
     let next : Fits (sorts version n (suc (suc k)) (t + 1) ∷ st) (constructors_text version (suc k + 1) (t + 1) cs v) = subst (λ (u : ℕ). Fits (sorts version n (suc (suc k)) (t + 1) ∷ st) (constructors_text version u (t + 1) cs v)) (sym (add-one (suc k))) others in
-    fits_take (sorts version n (suc k) t) st _ (Sign Bar) None _ refl (con_agrees (constructor_mark version (suc k) t) c (sorts version n (suc (suc k)) (t + 1) ∷ st) _ next (skips names (Bar ∷ Sort ∷ after_sorts) _ refl (refl, (refl, (refl, (refl, (refl, (refl, (refl, tt))))))) (head_constructors version (suc k + 1) (t + 1) cs v e)))
+    fits_take (sorts version n (suc k) t) st _ (Sign Bar) None _ refl (con_agrees (constructor_mark version (suc k) t) c (sorts version n (suc (suc k)) (t + 1) ∷ st) _ next (skips names (Bar ∷ Sort ∷ after_sorts) _ refl (refl, (refl, (refl, (refl, (refl, (refl, (refl, (refl, tt)))))))) (head_constructors version (suc k + 1) (t + 1) cs v e)))
 
 sorts_agree : (version n k t : ℕ) (ss : List RawSort) (st : List Symbol) (w v : List Marked) → Fits st v → HeadIn after_sorts v → AreSorts version n t ss w v → Fits (sorts version n k t ∷ st) w
 sorts_agree version n k t [] st w v h e a = subst (Fits (sorts version n k t ∷ st)) (sym a) (fits_pass (sorts version n k t) st v (sort_follows version n k t v e) h)
@@ -281,7 +334,7 @@ sorts_agree version n k t (s ∷ ss) st w v h e a =
     let next : (j : ℕ) → Fits (sorts version (n + 1) j (t + 1 + length others) ∷ st) after = λ j. sorts_agree version (n + 1) j (t + 1 + length others) ss st after v h e a.5 in
     let head = head_sorts version (n + 1) (t + 1 + length others) ss after v e a.5 in
     let rest : Fits (sorts version (n + 1) 1 (t + 1) ∷ st) (constructors_text version 1 (t + 1) others after) = constructors_agree version (n + 1) 0 (t + 1) others st after head next in
-    let con = con_agrees (constructor_mark version 0 t) first (sorts version (n + 1) 1 (t + 1) ∷ st) _ rest (skips names (Bar ∷ Sort ∷ after_sorts) _ refl (refl, (refl, (refl, (refl, (refl, (refl, (refl, tt))))))) (head_constructors version 1 (t + 1) others after head)) in
+    let con = con_agrees (constructor_mark version 0 t) first (sorts version (n + 1) 1 (t + 1) ∷ st) _ rest (skips names (Bar ∷ Sort ∷ after_sorts) _ refl (refl, (refl, (refl, (refl, (refl, (refl, (refl, (refl, tt)))))))) (head_constructors version 1 (t + 1) others after head)) in
     let equated = fits_take (key Equals) (name (constructor_mark version 0 t) ∷ names ∷ sorts version (n + 1) 1 (t + 1) ∷ st) [] (Sign Equals) None _ refl con in
     let named = fits_take (name None) (key Equals ∷ name (constructor_mark version 0 t) ∷ names ∷ sorts version (n + 1) 1 (t + 1) ∷ st) [] (Word s.head.name s.head.at) _ _ refl equated in
     subst (Fits (sorts version n k t ∷ st)) (sym a.4) (fits_take (sorts version n k t) st _ (Sign Sort) (sort_mark n) _ refl named)
@@ -364,18 +417,18 @@ format_takes raw (inl first) = rw first.0 refl
 format_takes raw (inr second) = rw second refl
 
 pub spec_agrees : (raw : RawSpec) (w : List Marked) → IsSpecText raw w → Agrees spec_symbols w
-spec_agrees raw w (sorts_text, order_text, goals_text, is, are_sorts, is_order, are_goals, known) =
+spec_agrees raw w (sorts_text, lines_text, goals_text, is, are_sorts, is_order, are_goals, known) =
     let version = raw.version in
     let behind = rules_text version 0 raw.rules goals_text in
     let goals_head = head_goals 0 raw.goals goals_text are_goals in
     let rules_head = head_rules version 0 raw.rules goals_text goals_head in
-    let order_head = head_order raw order_text behind rules_head is_order in
+    let order_head = head_order raw lines_text behind rules_head is_order in
     let ends = goals_agree 0 raw.goals goals_text are_goals in
     let ruled = rules_agree version 0 raw.rules (goals 0 ∷ []) goals_text ends goals_head in
-    let ordered = order_agrees raw (rules version 0 ∷ goals 0 ∷ []) order_text behind known ruled rules_head is_order in
+    let ordered = order_agrees raw (rules version 0 ∷ goals 0 ∷ []) lines_text behind known ruled rules_head is_order in
     let after = order_then (version == 2) (rules version 0 ∷ goals 0 ∷ []) in
-    let declared = funs_agree version 0 raw.funs after order_text ordered order_head in
-    let funs_head = head_funs version 0 raw.funs order_text order_head in
+    let declared = funs_agree version 0 raw.funs after lines_text ordered order_head in
+    let funs_head = head_funs version 0 raw.funs lines_text order_head in
     let sorted = sorts_agree version 0 0 0 raw.sorts (funs version 0 ∷ after) sorts_text _ declared funs_head are_sorts in
     let stack = subst (λ st. Fits st sorts_text) (sym (append-nil (body version))) sorted in
     let numbered = fits_take format [] (body version) (Number version) None sorts_text (format_takes raw known) stack in

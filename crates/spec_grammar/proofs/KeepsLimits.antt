@@ -2,6 +2,7 @@
 use Rattle.std.proofs.Common.{◌≡◌, ℕ, ◌+◌, ◌<◌, ◌≤◌, List, [], ◌∷◌, inl, inr, Option, Some, None, Bool, true, false, cond, nat_le, length, refl, ap, sym, subst, arith}
 use Rattle.std.specs.Prelude.{sum_by, ◌==◌}
 use Rattle.std.specs.List.{AllByRecursion}
+use Rattle.std.specs.Option.{IfSome}
 use Rattle.std.proofs.lemmas.Bool.{leb-true, leb-false}
 use Rattle.std.proofs.lemmas.List.Sums.{sum_by-cons}
 use Rattle.spec_grammar.specs.declared.keys.Key.{Key}
@@ -14,6 +15,8 @@ use Rattle.spec_grammar.specs.declared.raw.RawSort.{RawSort}
 use Rattle.spec_grammar.specs.declared.raw.RawFun.{RawFun}
 use Rattle.spec_grammar.specs.declared.raw.RawEqual.{RawEqual}
 use Rattle.spec_grammar.specs.declared.raw.RawStatus.{RawStatus}
+use Rattle.spec_grammar.specs.declared.raw.RawWeight.{RawWeight}
+use Rattle.spec_grammar.specs.declared.raw.RawOrder.{RawOrder}
 use Rattle.spec_grammar.specs.declared.raw.RawEq.{RawEq}
 use Rattle.spec_grammar.specs.declared.raw.RawGuard.{RawGuard}
 use Rattle.spec_grammar.specs.declared.raw.RawRule.{RawRule}
@@ -23,9 +26,9 @@ use Rattle.spec_grammar.specs.declared.raw.RawSpec.{RawSpec}
 use Rattle.spec_grammar.specs.RawTree.{RawTree, RawTrees, word, none, some}
 use Rattle.spec_grammar.specs.Items.{Item, items_of}
 use Rattle.spec_grammar.specs.Limits.{most_constructors, most_functions, most_rules, over, or_else, name_mark, constructor_mark, arity_mark, term_mark, variable_mark}
-use Rattle.spec_grammar.specs.Grammar.{Marked, sign, name_text, term_text, args_text, more_text, more_names_text, names_text, con_text, constructors_text, AreSorts, funs_text, more_equal_text, AreEquals, more_numbers_text, AreStatuses, guards_text, sides_text, rules_text, commas_text, premises_text, bars_text, conclusions_text, IsClause, bind_text, more_binds_text, binds_text, AreGoals, IsSpecText, IsTermText}
+use Rattle.spec_grammar.specs.Grammar.{Marked, sign, name_text, term_text, args_text, more_text, more_names_text, names_text, con_text, constructors_text, AreSorts, funs_text, more_equal_text, AreEquals, more_numbers_text, AreStatuses, more_weights_text, weights_text, order_text, guards_text, sides_text, rules_text, commas_text, premises_text, bars_text, conclusions_text, IsClause, bind_text, more_binds_text, binds_text, AreGoals, IsSpecText, IsTermText}
 use Rattle.spec_grammar.specs.Derives.{clean, Derives, TextDerives}
-use Rattle.spec_grammar.specs.KeepsLimits.{raw_depth, raw_depths, raw_count, WordsKeepLimits, AllWordsKeepLimits, TermKeepsLimits, NameKeepsLimits, NamesKeepLimits, SortKeepsLimits, FunctionKeepsLimits, EqualKeepsLimits, StatusKeepsLimits, RuleKeepsLimits, EquationKeepsLimits, BindKeepsLimits, GoalKeepsLimits, KeepsLimits}
+use Rattle.spec_grammar.specs.KeepsLimits.{raw_depth, raw_depths, raw_count, WordsKeepLimits, AllWordsKeepLimits, TermKeepsLimits, NameKeepsLimits, NamesKeepLimits, SortKeepsLimits, FunctionKeepsLimits, EqualKeepsLimits, StatusKeepsLimits, OrderKeepsLimits, RuleKeepsLimits, EquationKeepsLimits, BindKeepsLimits, GoalKeepsLimits, KeepsLimits}
 use Rattle.spec_grammar.proofs.Stacks.{limit_none}
 
 -- no token passes a limit
@@ -208,6 +211,31 @@ statuses_kept (s ∷ ss) w v (first, others, after, listed, is, rest) h =
     let number : length s.numbers ≡ length (first ∷ others) = ap (λ (is : List ℕ). length is) listed in
     (((name.0, omega (arith, number, kept.0)), all.0), all.1)
 
+-- the line of the order
+more_weights_kept : (ws : List RawWeight) (v : List Marked) → HasNoMark (more_weights_text ws v)
+    → AllByRecursion (λ (w : RawWeight). NameKeepsLimits w.name) ws × HasNoMark v
+more_weights_kept [] v h = (tt, h)
+more_weights_kept (w ∷ ws) v h =
+    let name = name_none w.name.name None h.1.0 in
+    let rest = more_weights_kept ws v h.1.1.1.1 in
+    ((name.0, rest.0), rest.1)
+
+weights_kept : (ws : List RawWeight) (v : List Marked) → HasNoMark (weights_text ws v)
+    → AllByRecursion (λ (w : RawWeight). NameKeepsLimits w.name) ws × HasNoMark v
+weights_kept [] v h = (tt, h)
+weights_kept (w ∷ ws) v h =
+    let name = name_none w.name.name None h.1.0 in
+    let rest = more_weights_kept ws v h.1.1.1.1 in
+    ((name.0, rest.0), rest.1)
+
+order_line_kept : (line : Option RawOrder) (v : List Marked) → HasNoMark (order_text line v)
+    → IfSome line OrderKeepsLimits × HasNoMark v
+order_line_kept None v h = (tt, h)
+order_line_kept (Some o) v h =
+    let name = name_none o.name.name None h.1.0 in
+    let rest = weights_kept o.weights v h.1.1 in
+    ((name.0, rest.0), rest.1)
+
 guards_kept : (n : ℕ) (gs : List RawGuard) (v : List Marked) → n ≤ 8 → HasNoMark (guards_text n gs v) → (n + length gs ≤ 8) × AllByRecursion (λ (g : RawGuard). TermKeepsLimits g.test) gs × HasNoMark v
 guards_kept n [] v le h = (omega arith, tt, h)
 guards_kept n (g ∷ gs) v le h =
@@ -301,15 +329,16 @@ goals_kept n (g ∷ gs) text v le (clause, after, is, are_clause, are) h =
 
 -- a specification, and a term alone
 pub derived_keeps_limits : (items : List Item) (raw : RawSpec) → Derives IsSpecText items raw → KeepsLimits raw
-derived_keeps_limits items raw (sorts_text, order_text, goals_text, is, are_sorts, is_order, are_goals, known) =
+derived_keeps_limits items raw (sorts_text, lines_text, goals_text, is, are_sorts, is_order, are_goals, known) =
     let version = raw.version in
     let marks = subst HasNoMark is (HasNoMark-clean items) in
-    let sorts = sorts_kept version 0 0 raw.sorts sorts_text (funs_text version 0 raw.funs order_text)
+    let sorts = sorts_kept version 0 0 raw.sorts sorts_text (funs_text version 0 raw.funs lines_text)
     (omega arith) (omega arith) are_sorts marks.1.1 in
-    let funs = funs_kept version 0 raw.funs order_text (omega arith) sorts.3 in
-    let equals = equals_kept raw.equals order_text is_order.0 is_order.1 funs.2 in
-    let statuses = statuses_kept raw.statuses is_order.0 _ is_order.2 equals.1 in
-    let rules = rules_kept version 0 raw.rules goals_text (omega arith) statuses.1 in
+    let funs = funs_kept version 0 raw.funs lines_text (omega arith) sorts.3 in
+    let equals = equals_kept raw.equals lines_text is_order.0 is_order.2 funs.2 in
+    let statuses = statuses_kept raw.statuses is_order.0 is_order.1 is_order.3 equals.1 in
+    let line = order_line_kept raw.order _ (subst HasNoMark is_order.4 statuses.1) in
+    let rules = rules_kept version 0 raw.rules goals_text (omega arith) line.1 in
     let goals = goals_kept 0 raw.goals goals_text [] (omega arith) are_goals rules.2 in
     record {
       few_sorts = omega (arith, sorts.0);
@@ -319,6 +348,7 @@ derived_keeps_limits items raw (sorts_text, order_text, goals_text, is, are_sort
       functions = funs.1;
       equals = equals.0;
       statuses = statuses.0;
+      order = line.0;
       few_rules = omega (arith, rules.0);
       rules = rules.1;
       few_goals = omega (arith, goals.0);

@@ -1,5 +1,5 @@
 -- Each stack has texts: whatever it has taken, some text begins with it.
-use Rattle.std.proofs.Common.{◌≡◌, ◌≢◌, ℕ, zero, suc, ◌+◌, List, [], ◌∷◌, ◌++◌, ◌⊎◌, inl, inr, Option, None, Bool, true, false, cond, length, refl, ap, sym, subst, ◌∙◌, add-one, add-zero, arith}
+use Rattle.std.proofs.Common.{◌≡◌, ◌≢◌, ℕ, zero, suc, ◌+◌, List, [], ◌∷◌, ◌++◌, ◌⊎◌, inl, inr, Option, Some, None, Bool, true, false, cond, length, refl, ap, sym, subst, ◌∙◌, add-one, add-zero, arith}
 use Rattle.std.proofs.lemmas.Bool.{eqb-true}
 use Rattle.std.specs.Prelude.{◌==◌, ◌||◌}
 use Rattle.spec_grammar.specs.declared.keys.Key.{Key}
@@ -11,6 +11,8 @@ use Rattle.spec_grammar.specs.declared.raw.RawSort.{RawSort}
 use Rattle.spec_grammar.specs.declared.raw.RawFun.{RawFun}
 use Rattle.spec_grammar.specs.declared.raw.RawEqual.{RawEqual}
 use Rattle.spec_grammar.specs.declared.raw.RawStatus.{RawStatus}
+use Rattle.spec_grammar.specs.declared.raw.RawWeight.{RawWeight}
+use Rattle.spec_grammar.specs.declared.raw.RawOrder.{RawOrder}
 use Rattle.spec_grammar.specs.declared.raw.RawEq.{RawEq}
 use Rattle.spec_grammar.specs.declared.raw.RawGuard.{RawGuard}
 use Rattle.spec_grammar.specs.declared.raw.RawRule.{RawRule}
@@ -21,8 +23,8 @@ use Rattle.spec_grammar.specs.RawTree.{RawTree, RawTrees, word, none, some}
 use Rattle.spec_grammar.specs.FormatOne.{format_one}
 use Rattle.spec_grammar.specs.Items.{Item, Word, Sign, Number}
 use Rattle.spec_grammar.specs.Limits.{name_mark, sort_mark, constructor_mark, fun_mark, arity_mark, term_mark, rule_mark, guard_mark, goal_mark, variable_mark, premise_mark, conclusion_mark}
-use Rattle.spec_grammar.specs.Grammar.{Marked, sign, number, name_text, term_text, args_text, more_text, more_names_text, names_text, con_text, constructors_text, AreSorts, funs_text, more_equal_text, AreEquals, numeral_text, more_numbers_text, AreStatuses, IsOrderText, IsFormat, guard_key, guards_text, sides_text, rules_text, commas_text, bars_text, conclusions_text, IsClause, bind_text, more_binds_text, binds_text, AreGoals, IsSpecText, IsTermText}
-use Rattle.spec_grammar.specs.Symbols.{Reaction, fail, key_code, react_args, react_more, react_names, react_more_names, react_bar, react_sorts, react_funs, react_equals, react_more_equal, react_statuses, react_more_numbers, react_rules, react_guards, react_goals, react_binds, react_more_binds, react_clause, react_tail, react_number, react_commas, react_bars, joined, feed, ends, Symbol, key, name, args, more, names, more_names, format, body, is_format, sorts, funs, equals, more_equal, statuses, numeral, more_numbers, rules, guards, goals, binds, more_binds, clause, tail, commas, conclusions, bars, pass, react, react_key, react_word, term_then, right_then, sides_then, bind_then, take, is_empty, spec_symbols, term_symbols}
+use Rattle.spec_grammar.specs.Grammar.{Marked, sign, number, name_text, term_text, args_text, more_text, more_names_text, names_text, con_text, constructors_text, AreSorts, funs_text, more_equal_text, AreEquals, numeral_text, more_numbers_text, AreStatuses, weight_text, more_weights_text, weights_text, order_text, IsOrderText, IsFormat, guard_key, guards_text, sides_text, rules_text, commas_text, bars_text, conclusions_text, IsClause, bind_text, more_binds_text, binds_text, AreGoals, IsSpecText, IsTermText}
+use Rattle.spec_grammar.specs.Symbols.{Reaction, fail, key_code, react_args, react_more, react_names, react_more_names, react_bar, react_sorts, react_funs, react_equals, react_more_equal, react_statuses, react_more_numbers, react_order, react_weights, react_more_weights, react_rules, react_guards, react_goals, react_binds, react_more_binds, react_clause, react_tail, react_number, react_commas, react_bars, joined, feed, ends, Symbol, key, name, args, more, names, more_names, format, body, is_format, sorts, funs, equals, more_equal, statuses, numeral, more_numbers, order, weights, more_weights, rules, guards, goals, binds, more_binds, clause, tail, commas, conclusions, bars, pass, react, react_key, react_word, term_then, right_then, sides_then, bind_then, weight_then, take, is_empty, spec_symbols, term_symbols}
 
 -- the declarations of a raw specification, before what stands behind them
 abbrev pub AreDeclarations : RawSpec → List Marked → List Marked → Type 0
@@ -49,6 +51,9 @@ Means more_equal w v = (xs : List RawName) × (w ≡ more_equal_text xs v)
 Means statuses w v = (ss : List RawStatus) × AreStatuses ss w v
 Means (numeral m) w v = (i : ℕ) × (w ≡ numeral_text m i v)
 Means (more_numbers n) w v = (is : List ℕ) × (w ≡ more_numbers_text n is v)
+Means order w v = (line : Option RawOrder) × (w ≡ order_text line v)
+Means weights w v = (ws : List RawWeight) × (w ≡ weights_text ws v)
+Means more_weights w v = (ws : List RawWeight) × (w ≡ more_weights_text ws v)
 Means (rules version n) w v = (rs : List RawRule) × (w ≡ rules_text version n rs v)
 Means (guards n) w v = (gs : List RawGuard) × (w ≡ guards_text n gs v)
 Means (goals n) w v = (gs : List RawGoal) × AreGoals n gs w v
@@ -222,6 +227,37 @@ built_statuses w v (u, (head, head_is), after_head) =
       ),
     )
 
+-- the line of the order
+weight_of : (st : List Symbol) (w v : List Marked) → MeansTo (weight_then st) w v
+    → (x : RawWeight) × (u : List Marked) × (w ≡ weight_text x u) × MeansTo st u v
+weight_of st w v (u, (n, n_is), after_name) =
+    let k = key_then Equals (numeral None ∷ st) u v after_name in
+    let i = k.2.1 in
+    let made : RawWeight = record { name = n; weight = i.0 } in
+    (made, k.2.0, n_is ∙ ap (name_text None n) (k.1 ∙ ap (λ y. sign Equals ∷ y) i.1), k.2.2)
+
+built_more_weights : (w v : List Marked)
+    → MeansTo (weight_then (more_weights ∷ [])) w v → Means more_weights (sign Comma ∷ w) v
+built_more_weights w v h =
+    let x = weight_of (more_weights ∷ []) w v h in
+    let xs = x.3.1 in
+    let others = xs.1 ∙ ap (more_weights_text xs.0) x.3.2 in
+    (x.0 ∷ xs.0, ap (λ y. sign Comma ∷ y) (x.2 ∙ ap (weight_text x.0) others))
+
+built_weights : (w v : List Marked)
+    → MeansTo (weight_then (more_weights ∷ [])) w v → Means weights (sign Colon ∷ w) v
+built_weights w v h =
+    let x = weight_of (more_weights ∷ []) w v h in
+    let xs = x.3.1 in
+    let others = xs.1 ∙ ap (more_weights_text xs.0) x.3.2 in
+    (x.0 ∷ xs.0, ap (λ y. sign Colon ∷ y) (x.2 ∙ ap (weight_text x.0) others))
+
+built_order : (w v : List Marked)
+    → MeansTo (name None ∷ weights ∷ []) w v → Means order (sign Order ∷ w) v
+built_order w v (u, (n, n_is), (t, (ws, ws_are), end)) =
+    let made : RawOrder = record { name = n; weights = ws } in
+    (Some made, ap (λ y. sign Order ∷ y) (n_is ∙ ap (name_text None n) (ws_are ∙ ap (weights_text ws) end)))
+
 -- the declarations of each format
 built_first : (w v : List Marked) → MeansTo (body 1) w v → Means format (number 1 ∷ w) v
 built_first w v (a, (ss, are_sorts), (b, (fs, funs_are), (c, (rs, rules_are), (d, (gs, are_goals), end)))) = (
@@ -232,24 +268,26 @@ built_first w v (a, (ss, are_sorts), (b, (fs, funs_are), (c, (rs, rules_are), (d
     b,
     c,
     subst (AreSorts 1 0 0 ss w) funs_are are_sorts,
-    (b, refl, rules_are),
+    (b, b, refl, refl, rules_are),
     subst (AreGoals 0 gs c) end are_goals,
   ),
-  inl (refl, refl, refl),
+  inl (refl, refl, refl, refl),
 )
 
 built_second : (w v : List Marked) → MeansTo (body 2) w v → Means format (number 2 ∷ w) v
 built_second w v (a, (ss, are_sorts), (b, (fs, funs_are), (c, (es, are_equals), others))) =
     let ts = others.1 in
-    let rs = others.2.1 in
-    let gs = others.2.2.1 in
-    let after_rules = others.2.0 in
+    let line = others.2.1 in
+    let rs = others.2.2.1 in
+    let gs = others.2.2.2.1 in
+    let after_rules = others.2.2.0 in
     let raw : RawSpec = record {
       version = 2;
       sorts = ss;
       funs = fs;
       equals = es;
       statuses = ts.0;
+      order = line.0;
       rules = rs.0;
       goals = gs.0;
     } in (
@@ -260,8 +298,8 @@ built_second w v (a, (ss, are_sorts), (b, (fs, funs_are), (c, (es, are_equals), 
         b,
         after_rules,
         subst (AreSorts 2 0 0 ss w) funs_are are_sorts,
-        (c, are_equals, subst (AreStatuses ts.0 c) rs.1 ts.1),
-        subst (AreGoals 0 gs.0 after_rules) others.2.2.2 gs.1,
+        (c, others.0, are_equals, ts.1, line.1 ∙ ap (order_text line.0) rs.1),
+        subst (AreGoals 0 gs.0 after_rules) others.2.2.2.2 gs.1,
       ),
       inr refl,
     )
@@ -466,6 +504,23 @@ module _ (v : List Marked) where
       takes (more_numbers n) (Sign Comma) None m _ ss w e h (λ u k. built_more_numbers n u v k)
   more_numbers_mean n _ m ss w e h = absurd (pass_take e)
 
+  order_means : (j : Key) (m : Option LimitKind) (ss : List Symbol) (w : List Marked)
+      → react_order j ≡ take m ss → MeansTo ss w v → Means order ((Sign j, m) ∷ w) v
+  order_means Order m ss w e h = takes order (Sign Order) None m _ ss w e h (λ u k. built_order u v k)
+  order_means _ m ss w e h = absurd (pass_take e)
+
+  weights_mean : (j : Key) (m : Option LimitKind) (ss : List Symbol) (w : List Marked)
+      → react_weights j ≡ take m ss → MeansTo ss w v → Means weights ((Sign j, m) ∷ w) v
+  weights_mean Colon m ss w e h =
+      takes weights (Sign Colon) None m _ ss w e h (λ u k. built_weights u v k)
+  weights_mean _ m ss w e h = absurd (pass_take e)
+
+  more_weights_mean : (j : Key) (m : Option LimitKind) (ss : List Symbol) (w : List Marked)
+      → react_more_weights j ≡ take m ss → MeansTo ss w v → Means more_weights ((Sign j, m) ∷ w) v
+  more_weights_mean Comma m ss w e h =
+      takes more_weights (Sign Comma) None m _ ss w e h (λ u k. built_more_weights u v k)
+  more_weights_mean _ m ss w e h = absurd (pass_take e)
+
   guards_mean : (n : ℕ) (j : Key) (m : Option LimitKind) (ss : List Symbol) (w : List Marked) → react_guards n j ≡ take m ss → MeansTo ss w v → Means (guards n) ((Sign j, m) ∷ w) v
   guards_mean n If m ss w e h = takes (guards n) (Sign If) (guard_mark n) m _ ss w e h (λ u k. built_guard n true u v k)
   guards_mean n Unless m ss w e h = takes (guards n) (Sign Unless) (guard_mark n) m _ ss w e h (λ u k. built_guard n false u v k)
@@ -517,6 +572,9 @@ module _ (v : List Marked) where
   key_means statuses j m ss w e h = statuses_mean j m ss w e h
   key_means (numeral n) j m ss w e h = absurd (fail_take e)
   key_means (more_numbers n) j m ss w e h = more_numbers_mean n j m ss w e h
+  key_means order j m ss w e h = order_means j m ss w e h
+  key_means weights j m ss w e h = weights_mean j m ss w e h
+  key_means more_weights j m ss w e h = more_weights_mean j m ss w e h
   key_means (rules version n) j m ss w e h = rules_mean version n j m ss w e h
   key_means (guards n) j m ss w e h = guards_mean n j m ss w e h
   key_means (goals n) j m ss w e h = goals_mean n j m ss w e h
@@ -577,6 +635,9 @@ empty_means more_equal v e = ([], refl)
 empty_means statuses v e = ([], refl)
 empty_means (numeral m) v e = absurd (let q : false ≡ true = e in cc)
 empty_means (more_numbers n) v e = ([], refl)
+empty_means order v e = (None, refl)
+empty_means weights v e = ([], refl)
+empty_means more_weights v e = ([], refl)
 empty_means (rules version n) v e = ([], refl)
 empty_means (guards n) v e = ([], refl)
 empty_means (goals n) v e = ([], refl)
@@ -633,8 +694,8 @@ least : (s : Symbol) (v : List Marked) → (w : List Marked) × Means s w v
 least (key k) v = (sign k ∷ v, (k, refl, refl))
 least (name m) v = (name_text m (record { name = []; at = 0 }) v, (record { name = []; at = 0 }, refl))
 least format v =
-    let whole : AreDeclarations (format_one [] [] [] []) v v = (v, v, refl, (v, refl, refl), refl) in
-    (number 1 ∷ v, (format_one [] [] [] [], v, refl, whole, inl (refl, refl, refl)))
+    let whole : AreDeclarations (format_one [] [] [] []) v v = (v, v, refl, (v, v, refl, refl, refl), refl) in
+    (number 1 ∷ v, (format_one [] [] [] [], v, refl, whole, inl (refl, refl, refl, refl)))
 least (numeral m) v = (numeral_text m 0 v, (0, refl))
 least clause v = (sign Arrow ∷ v, ([], [], inl refl))
 least (commas n) v = (sign Arrow ∷ v, ([], [], refl))

@@ -1,5 +1,5 @@
 -- A text has at least as many tokens as each of its terms has words.
-use Rattle.std.proofs.Common.{◌≡◌, ℕ, ◌+◌, ◌≤◌, List, [], ◌∷◌, inl, inr, Option, None, length, ap, sym, subst, arith}
+use Rattle.std.proofs.Common.{◌≡◌, ℕ, ◌+◌, ◌≤◌, List, [], ◌∷◌, inl, inr, Option, Some, None, length, ap, sym, subst, arith}
 use Rattle.std.specs.List.{AllByRecursion}
 use Rattle.spec_grammar.specs.declared.limits.LimitKind.{LimitKind}
 use Rattle.spec_grammar.specs.declared.raw.RawName.{RawName}
@@ -8,6 +8,8 @@ use Rattle.spec_grammar.specs.declared.raw.RawSort.{RawSort}
 use Rattle.spec_grammar.specs.declared.raw.RawFun.{RawFun}
 use Rattle.spec_grammar.specs.declared.raw.RawEqual.{RawEqual}
 use Rattle.spec_grammar.specs.declared.raw.RawStatus.{RawStatus}
+use Rattle.spec_grammar.specs.declared.raw.RawWeight.{RawWeight}
+use Rattle.spec_grammar.specs.declared.raw.RawOrder.{RawOrder}
 use Rattle.spec_grammar.specs.declared.raw.RawEq.{RawEq}
 use Rattle.spec_grammar.specs.declared.raw.RawGuard.{RawGuard}
 use Rattle.spec_grammar.specs.declared.raw.RawRule.{RawRule}
@@ -17,7 +19,7 @@ use Rattle.spec_grammar.specs.declared.raw.RawSpec.{RawSpec}
 use Rattle.spec_grammar.specs.declared.keys.Key.TheVariants.{Equals, Colon, Arrow, RightPar}
 use Rattle.spec_grammar.specs.RawTree.{RawTree, RawTrees, word, none, some}
 use Rattle.spec_grammar.specs.Limits.{term_mark, premise_mark, conclusion_mark}
-use Rattle.spec_grammar.specs.Grammar.{Marked, sign, name_text, term_text, args_text, more_text, more_names_text, names_text, constructors_text, AreSorts, funs_text, more_equal_text, AreEquals, more_numbers_text, AreStatuses, IsOrderText, guards_text, sides_text, rules_text, commas_text, premises_text, bars_text, conclusions_text, IsClause, more_binds_text, binds_text, AreGoals, IsSpecText}
+use Rattle.spec_grammar.specs.Grammar.{Marked, sign, name_text, term_text, args_text, more_text, more_names_text, names_text, constructors_text, AreSorts, funs_text, more_equal_text, AreEquals, more_numbers_text, AreStatuses, more_weights_text, weights_text, order_text, IsOrderText, guards_text, sides_text, rules_text, commas_text, premises_text, bars_text, conclusions_text, IsClause, more_binds_text, binds_text, AreGoals, IsSpecText}
 use Rattle.spec_grammar.specs.Sizes.{words, words_all, EquationHasFewWords, RuleHasFewWords, GoalHasFewWords, HasFewWords}
 
 mutual
@@ -183,9 +185,25 @@ statuses_len (s ∷ ss) w v (first, others, after, listed, is, rest) =
     let numbers = more_numbers_len 1 others (sign RightPar ∷ after) in
     omega (arith, statuses_len ss after v rest, numbers, ap (λ (x : List Marked). length x) is)
 
+-- the line of the order
+more_weights_len : (ws : List RawWeight) (v : List Marked) → length v ≤ length (more_weights_text ws v)
+more_weights_len [] v = omega arith
+more_weights_len (w ∷ ws) v = omega (arith, more_weights_len ws v)
+
+order_line_len : (line : Option RawOrder) (v : List Marked) → length v ≤ length (order_text line v)
+order_line_len None v = omega arith
+order_line_len (Some o) v = omega (arith, weights_len o.weights)
+  where
+    weights_len : (ws : List RawWeight) → length v ≤ length (weights_text ws v)
+    weights_len [] = omega arith
+    weights_len (w ∷ ws) = omega (arith, more_weights_len ws v)
+
 order_len : (raw : RawSpec) (w v : List Marked) → IsOrderText raw w v → length v ≤ length w
-order_len raw w v (after, are_equals, are_statuses) =
-    omega (arith, equals_len raw.equals w after are_equals, statuses_len raw.statuses after v are_statuses)
+order_len raw w v (after, line, are_equals, are_statuses, is_line) =
+    let shorter = order_line_len raw.order v in
+    let same = ap (λ (x : List Marked). length x) is_line in
+    let declared = equals_len raw.equals w after are_equals in
+    omega (arith, declared, statuses_len raw.statuses after line are_statuses, shorter, same)
 
 pub spec_words : (raw : RawSpec) (w : List Marked) → IsSpecText raw w → HasFewWords (length w) raw
 spec_words raw w (sorts, order, goals_text, is, are_sorts, is_order, are_goals, known) =

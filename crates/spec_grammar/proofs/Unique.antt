@@ -1,9 +1,9 @@
 -- Tokens are a text of one raw specification only.
-use Rattle.std.proofs.Common.{◌≡◌, ◌≢◌, ℕ, ◌+◌, List, [], ◌∷◌, inl, inr, Option, None, Bool, true, false, length, refl, ap, sym, subst, ◌∙◌}
+use Rattle.std.proofs.Common.{◌≡◌, ◌≢◌, ℕ, ◌+◌, List, [], ◌∷◌, inl, inr, Option, Some, None, Bool, true, false, length, refl, ap, sym, subst, ◌∙◌}
 use Rattle.std.specs.Prelude.{◌==◌}
 use Rattle.std.proofs.lemmas.Bool.{eqb-false}
 use Rattle.spec_grammar.specs.declared.keys.Key.{Key}
-use Rattle.spec_grammar.specs.declared.keys.Key.TheVariants.{Sort, Fun, Rule, Goal, If, Unless, Equal, Status, LeftPar, RightPar, Comma, Colon, Equals, Bar, Arrow}
+use Rattle.spec_grammar.specs.declared.keys.Key.TheVariants.{Sort, Fun, Rule, Goal, If, Unless, Equal, Status, Order, LeftPar, RightPar, Comma, Colon, Equals, Bar, Arrow}
 use Rattle.spec_grammar.specs.declared.limits.LimitKind.{LimitKind}
 use Rattle.spec_grammar.specs.declared.raw.RawName.{RawName}
 use Rattle.spec_grammar.specs.declared.raw.RawNames.{RawNames}
@@ -11,6 +11,8 @@ use Rattle.spec_grammar.specs.declared.raw.RawSort.{RawSort}
 use Rattle.spec_grammar.specs.declared.raw.RawFun.{RawFun}
 use Rattle.spec_grammar.specs.declared.raw.RawEqual.{RawEqual}
 use Rattle.spec_grammar.specs.declared.raw.RawStatus.{RawStatus}
+use Rattle.spec_grammar.specs.declared.raw.RawWeight.{RawWeight}
+use Rattle.spec_grammar.specs.declared.raw.RawOrder.{RawOrder}
 use Rattle.spec_grammar.specs.declared.raw.RawEq.{RawEq}
 use Rattle.spec_grammar.specs.declared.raw.RawGuard.{RawGuard}
 use Rattle.spec_grammar.specs.declared.raw.RawRule.{RawRule}
@@ -20,9 +22,9 @@ use Rattle.spec_grammar.specs.declared.raw.RawSpec.{RawSpec}
 use Rattle.spec_grammar.specs.RawTree.{RawTree, RawTrees, word, none, some}
 use Rattle.spec_grammar.specs.Items.{Item, Word, Sign, Number}
 use Rattle.spec_grammar.specs.Limits.{constructor_mark, arity_mark, term_mark, guard_mark, variable_mark, premise_mark, conclusion_mark}
-use Rattle.spec_grammar.specs.Grammar.{Marked, sign, name_text, term_text, args_text, more_text, more_names_text, names_text, con_text, constructors_text, AreSorts, funs_text, more_equal_text, AreEquals, numeral_text, more_numbers_text, AreStatuses, IsOrderText, guard_key, guards_text, sides_text, rules_text, commas_text, premises_text, bars_text, conclusions_text, IsClause, bind_text, more_binds_text, binds_text, AreGoals, IsSpecText, IsTermText}
+use Rattle.spec_grammar.specs.Grammar.{Marked, sign, name_text, term_text, args_text, more_text, more_names_text, names_text, con_text, constructors_text, AreSorts, funs_text, more_equal_text, AreEquals, numeral_text, more_numbers_text, AreStatuses, weight_text, more_weights_text, weights_text, order_text, IsOrderText, guard_key, guards_text, sides_text, rules_text, commas_text, premises_text, bars_text, conclusions_text, IsClause, bind_text, more_binds_text, binds_text, AreGoals, IsSpecText, IsTermText}
 use Rattle.spec_grammar.specs.Symbols.{key_code}
-use Rattle.spec_grammar.proofs.Agrees.{BeginsIn, HeadIn, after_funs, after_sorts, head_statuses, head_equals, head_order, head_goals, head_rules, head_funs, head_sorts, head_constructors, head_guards, head_bars}
+use Rattle.spec_grammar.proofs.Agrees.{BeginsIn, HeadIn, after_statuses, after_equals, after_funs, after_sorts, head_order_line, head_statuses, head_equals, head_order, head_goals, head_rules, head_funs, head_sorts, head_constructors, head_guards, head_bars}
 
 heads : {x y : Marked} {xs ys : List Marked} → x ∷ xs ≡ y ∷ ys → x ≡ y
 heads e = cc
@@ -159,12 +161,12 @@ one_sides m l r p q u v hu hv e =
 
 -- constructors and sorts
 no_names : (version i j : ℕ) (es : List RawNames) (w : List Marked) → HeadIn (Sort ∷ after_sorts) w → Apart LeftPar (constructors_text version i j es w)
-no_names version i j es w h = apart_head LeftPar (Bar ∷ Sort ∷ after_sorts) _ (refl, (refl, (refl, (refl, (refl, (refl, (refl, tt))))))) (head_constructors version i j es w h)
+no_names version i j es w h = apart_head LeftPar (Bar ∷ Sort ∷ after_sorts) _ (refl, (refl, (refl, (refl, (refl, (refl, (refl, (refl, tt)))))))) (head_constructors version i j es w h)
 
 one_constructors : (version k t : ℕ) (cs ds : List RawNames) (u v : List Marked) → HeadIn (Sort ∷ after_sorts) u → HeadIn (Sort ∷ after_sorts) v → constructors_text version k t cs u ≡ constructors_text version k t ds v → (cs ≡ ds) × (u ≡ v)
 one_constructors version k t [] [] u v hu hv e = (refl, e)
-one_constructors version k t [] (d ∷ ds) u v hu hv e = absurd (apart_head Bar (Sort ∷ after_sorts) u (refl, (refl, (refl, (refl, (refl, (refl, tt)))))) hu None _ e)
-one_constructors version k t (c ∷ cs) [] u v hu hv e = absurd (apart_head Bar (Sort ∷ after_sorts) v (refl, (refl, (refl, (refl, (refl, (refl, tt)))))) hv None _ (sym e))
+one_constructors version k t [] (d ∷ ds) u v hu hv e = absurd (apart_head Bar (Sort ∷ after_sorts) u (refl, (refl, (refl, (refl, (refl, (refl, (refl, tt))))))) hu None _ e)
+one_constructors version k t (c ∷ cs) [] u v hu hv e = absurd (apart_head Bar (Sort ∷ after_sorts) v (refl, (refl, (refl, (refl, (refl, (refl, (refl, tt))))))) hv None _ (sym e))
 one_constructors version k t (c ∷ cs) (d ∷ ds) u v hu hv e =
     let a = one_con (constructor_mark version k t) c d _ _ (no_names version (k + 1) (t + 1) cs u hu) (no_names version (k + 1) (t + 1) ds v hv) (tails e) in
     let b = one_constructors version (k + 1) (t + 1) cs ds u v hu hv a.1 in
@@ -174,7 +176,7 @@ sort_is : (s r : RawSort) → s.head ≡ r.head → s.constructors ≡ r.constru
 sort_is s r a b = λ i. record { head = a i; constructors = b i }
 
 no_sort : (v : List Marked) → HeadIn after_sorts v → Apart Sort v
-no_sort v h = apart_head Sort after_sorts v (refl, (refl, (refl, (refl, (refl, tt))))) h
+no_sort v h = apart_head Sort after_sorts v (refl, (refl, (refl, (refl, (refl, (refl, tt)))))) h
 
 one_sorts : (version n t : ℕ) (ss rs : List RawSort) (w u v : List Marked) → HeadIn after_sorts u → HeadIn after_sorts v → AreSorts version n t ss w u → AreSorts version n t rs w v → (ss ≡ rs) × (u ≡ v)
 one_sorts version n t [] [] w u v hu hv a b = (refl, sym a ∙ b)
@@ -196,7 +198,7 @@ fun_is : (f g : RawFun) → f.head ≡ g.head → f.result ≡ g.result → f �
 fun_is f g a b = λ i. record { head = a i; result = b i }
 
 no_fun : (v : List Marked) → HeadIn after_funs v → Apart Fun v
-no_fun v h = apart_head Fun after_funs v (refl, (refl, (refl, (refl, tt)))) h
+no_fun v h = apart_head Fun after_funs v (refl, (refl, (refl, (refl, (refl, tt))))) h
 
 one_funs : (version n : ℕ) (fs gs : List RawFun) (u v : List Marked) → HeadIn after_funs u → HeadIn after_funs v → funs_text version n fs u ≡ funs_text version n gs v → (fs ≡ gs) × (u ≡ v)
 one_funs version n [] [] u v hu hv e = (refl, e)
@@ -213,7 +215,7 @@ equal_is : (p q : RawEqual) → p.names ≡ q.names → p ≡ q
 equal_is p q a = λ i. record { names = a i }
 
 no_comma : (v : List Marked) → HeadIn after_funs v → Apart Comma v
-no_comma v h = apart_head Comma after_funs v (refl, (refl, (refl, (refl, tt)))) h
+no_comma v h = apart_head Comma after_funs v (refl, (refl, (refl, (refl, (refl, tt))))) h
 
 one_more_equal : (xs ys : List RawName) (u v : List Marked) → HeadIn after_funs u → HeadIn after_funs v
     → more_equal_text xs u ≡ more_equal_text ys v → (xs ≡ ys) × (u ≡ v)
@@ -225,11 +227,11 @@ one_more_equal (x ∷ xs) (y ∷ ys) u v hu hv e =
     let b = one_more_equal xs ys u v hu hv a.1 in
     (both a.0 b.0, b.1)
 
-no_equal : (v : List Marked) → HeadIn (Status ∷ Rule ∷ Goal ∷ []) v → Apart Equal v
-no_equal v h = apart_head Equal (Status ∷ Rule ∷ Goal ∷ []) v (refl, (refl, (refl, tt))) h
+no_equal : (v : List Marked) → HeadIn after_equals v → Apart Equal v
+no_equal v h = apart_head Equal after_equals v (refl, (refl, (refl, (refl, tt)))) h
 
 one_equals : (ps qs : List RawEqual) (w u v : List Marked)
-    → HeadIn (Status ∷ Rule ∷ Goal ∷ []) u → HeadIn (Status ∷ Rule ∷ Goal ∷ []) v
+    → HeadIn after_equals u → HeadIn after_equals v
     → AreEquals ps w u → AreEquals qs w v → (ps ≡ qs) × (u ≡ v)
 one_equals [] [] w u v hu hv a b = (refl, sym a ∙ b)
 one_equals [] (q ∷ qs) w u v hu hv a (first, second, others, after, listed, is, rest) =
@@ -265,11 +267,15 @@ one_more_numbers n (i ∷ is) (j ∷ js) u v e =
     let others : is ≡ js = b.0 in
     (both first others, b.1)
 
-no_status : (v : List Marked) → HeadIn (Rule ∷ Goal ∷ []) v → Apart Status v
-no_status v h = apart_head Status (Rule ∷ Goal ∷ []) v (refl, (refl, tt)) h
+-- a key that begins neither a rule nor a goal
+no_key : (k : Key) (v : List Marked) → NotIn k (Rule ∷ Goal ∷ []) → HeadIn (Rule ∷ Goal ∷ []) v → Apart k v
+no_key k v n h = apart_head k (Rule ∷ Goal ∷ []) v n h
+
+no_status : (v : List Marked) → HeadIn after_statuses v → Apart Status v
+no_status v h = apart_head Status after_statuses v (refl, (refl, (refl, tt))) h
 
 one_statuses : (ps qs : List RawStatus) (w u v : List Marked)
-    → HeadIn (Rule ∷ Goal ∷ []) u → HeadIn (Rule ∷ Goal ∷ []) v
+    → HeadIn after_statuses u → HeadIn after_statuses v
     → AreStatuses ps w u → AreStatuses qs w v → (ps ≡ qs) × (u ≡ v)
 one_statuses [] [] w u v hu hv a b = (refl, sym a ∙ b)
 one_statuses [] (q ∷ qs) w u v hu hv a (first, others, after, listed, is, rest) =
@@ -284,15 +290,65 @@ one_statuses (p ∷ ps) (q ∷ qs) w u v hu hv (i, is, a, a_listed, a_is, a_rest
     let rest = one_statuses ps qs a u v hu hv a_rest (subst (λ x. AreStatuses qs x v) (sym others.1) b_rest) in
     (both same rest.0, rest.1)
 
+-- the line of the order
+weight_is : (p q : RawWeight) → p.name ≡ q.name → p.weight ≡ q.weight → p ≡ q
+weight_is p q a b = λ i. record { name = a i; weight = b i }
+
+one_weight : (p q : RawWeight) (u v : List Marked) → weight_text p u ≡ weight_text q v → (p ≡ q) × (u ≡ v)
+one_weight p q u v e =
+    let named = one_name None p.name q.name _ _ e in
+    let weighed = one_numeral None p.weight q.weight u v (tails named.1) in
+    (weight_is p q named.0 weighed.0, weighed.1)
+
+one_more_weights : (ps qs : List RawWeight) (u v : List Marked)
+    → HeadIn (Rule ∷ Goal ∷ []) u → HeadIn (Rule ∷ Goal ∷ []) v
+    → more_weights_text ps u ≡ more_weights_text qs v → (ps ≡ qs) × (u ≡ v)
+one_more_weights [] [] u v hu hv e = (refl, e)
+one_more_weights [] (q ∷ qs) u v hu hv e = absurd (no_key Comma u (refl, (refl, tt)) hu _ _ e)
+one_more_weights (p ∷ ps) [] u v hu hv e = absurd (no_key Comma v (refl, (refl, tt)) hv _ _ (sym e))
+one_more_weights (p ∷ ps) (q ∷ qs) u v hu hv e =
+    let first = one_weight p q _ _ (tails e) in
+    let others = one_more_weights ps qs u v hu hv first.1 in
+    (both first.0 others.0, others.1)
+
+one_weights : (ps qs : List RawWeight) (u v : List Marked)
+    → HeadIn (Rule ∷ Goal ∷ []) u → HeadIn (Rule ∷ Goal ∷ []) v
+    → weights_text ps u ≡ weights_text qs v → (ps ≡ qs) × (u ≡ v)
+one_weights [] [] u v hu hv e = (refl, e)
+one_weights [] (q ∷ qs) u v hu hv e = absurd (no_key Colon u (refl, (refl, tt)) hu _ _ e)
+one_weights (p ∷ ps) [] u v hu hv e = absurd (no_key Colon v (refl, (refl, tt)) hv _ _ (sym e))
+one_weights (p ∷ ps) (q ∷ qs) u v hu hv e =
+    let first = one_weight p q _ _ (tails e) in
+    let others = one_more_weights ps qs u v hu hv first.1 in
+    (both first.0 others.0, others.1)
+
+order_is : (p q : RawOrder) → p.name ≡ q.name → p.weights ≡ q.weights → p ≡ q
+order_is p q a b = λ i. record { name = a i; weights = b i }
+
+one_order_line : (p q : Option RawOrder) (u v : List Marked)
+    → HeadIn (Rule ∷ Goal ∷ []) u → HeadIn (Rule ∷ Goal ∷ []) v
+    → order_text p u ≡ order_text q v → (p ≡ q) × (u ≡ v)
+one_order_line None None u v hu hv e = (refl, e)
+one_order_line None (Some q) u v hu hv e = absurd (no_key Order u (refl, (refl, tt)) hu _ _ e)
+one_order_line (Some p) None u v hu hv e = absurd (no_key Order v (refl, (refl, tt)) hv _ _ (sym e))
+one_order_line (Some p) (Some q) u v hu hv e =
+    let named = one_name None p.name q.name _ _ (tails e) in
+    let weighed = one_weights p.weights q.weights u v hu hv named.1 in
+    (ap (λ (o : RawOrder). Some o) (order_is p q named.0 weighed.0), weighed.1)
+
 one_order : (r q : RawSpec) (w u v : List Marked) → HeadIn (Rule ∷ Goal ∷ []) u → HeadIn (Rule ∷ Goal ∷ []) v
-    → IsOrderText r w u → IsOrderText q w v → (r.equals ≡ q.equals) × (r.statuses ≡ q.statuses) × (u ≡ v)
-one_order r q w u v hu hv (a, a_equals, a_statuses) (b, b_equals, b_statuses) =
-    let head_a = head_statuses r.statuses a u hu a_statuses in
-    let head_b = head_statuses q.statuses b v hv b_statuses in
+    → IsOrderText r w u → IsOrderText q w v
+    → (r.equals ≡ q.equals) × (r.statuses ≡ q.statuses) × (r.order ≡ q.order) × (u ≡ v)
+one_order r q w u v hu hv (a, m, a_equals, a_statuses, a_line) (b, n, b_equals, b_statuses, b_line) =
+    let line_a = subst (HeadIn after_statuses) (sym a_line) (head_order_line r.order u hu) in
+    let line_b = subst (HeadIn after_statuses) (sym b_line) (head_order_line q.order v hv) in
+    let head_a = head_statuses r.statuses a m line_a a_statuses in
+    let head_b = head_statuses q.statuses b n line_b b_statuses in
     let e = one_equals r.equals q.equals w a b head_a head_b a_equals b_equals in
-    let moved = subst (λ x. AreStatuses q.statuses x v) (sym e.1) b_statuses in
-    let s = one_statuses r.statuses q.statuses a u v hu hv a_statuses moved in
-    (e.0, s.0, s.1)
+    let moved = subst (λ x. AreStatuses q.statuses x n) (sym e.1) b_statuses in
+    let s = one_statuses r.statuses q.statuses a m n line_a line_b a_statuses moved in
+    let o = one_order_line r.order q.order u v hu hv (sym a_line ∙ s.1 ∙ b_line) in
+    (e.0, s.0, o.0, o.1)
 
 -- rules
 guard_is : (g h : RawGuard) → g.test ≡ h.test → g.wanted ≡ h.wanted → g ≡ h
@@ -470,8 +526,8 @@ one_goals n (g ∷ gs) (h ∷ hs) w a b =
     let others = one_goals (n + 1) gs hs a.1 a.4 (subst (λ (x : List Marked). AreGoals (n + 1) hs x []) (sym body.2) b.4) in
     both (goal_is g h named.0 bound.0 body.0 body.1) others
 
-spec_is : (r q : RawSpec) → r.version ≡ q.version → r.sorts ≡ q.sorts → r.funs ≡ q.funs → r.equals ≡ q.equals → r.statuses ≡ q.statuses → r.rules ≡ q.rules → r.goals ≡ q.goals → r ≡ q
-spec_is r q n a b e t c d = λ i. record { version = n i; sorts = a i; funs = b i; equals = e i; statuses = t i; rules = c i; goals = d i }
+spec_is : (r q : RawSpec) → r.version ≡ q.version → r.sorts ≡ q.sorts → r.funs ≡ q.funs → r.equals ≡ q.equals → r.statuses ≡ q.statuses → r.order ≡ q.order → r.rules ≡ q.rules → r.goals ≡ q.goals → r ≡ q
+spec_is r q n a b e t o c d = λ i. record { version = n i; sorts = a i; funs = b i; equals = e i; statuses = t i; order = o i; rules = c i; goals = d i }
 
 -- the texts of the declarations of a format: its sorts and functions, and its lines that order these
 abbrev HasDeclarations : ℕ → RawSpec → List Marked → List Marked → List Marked → Type 0
@@ -499,9 +555,9 @@ one_spec r q w (x, a, c, r_is, r_sorts, r_order, r_goals, r_known) (y, b, d, q_i
     let moved = subst (λ text. IsOrderText q text (rules_text version 0 q.rules d)) (sym f.1) here.1 in
     let o = one_order r q a _ _ rules_head other_rules_head r_order moved in
     let u = one_rules version 0 r.rules q.rules c d (head_goals 0 r.goals c r_goals)
-    (head_goals 0 q.goals d q_goals) o.2 in
+    (head_goals 0 q.goals d q_goals) o.3 in
     let g = one_goals 0 r.goals q.goals c r_goals (subst (λ text. AreGoals 0 q.goals text []) (sym u.1) q_goals) in
-    spec_is r q n s.0 f.0 o.0 o.1 u.0 g
+    spec_is r q n s.0 f.0 o.0 o.1 o.2 u.0 g
 
 pub one_term_text : (s t : RawTree) (w : List Marked) → IsTermText s w → IsTermText t w → s ≡ t
 one_term_text s t w a b = (one_term 0 None s t [] [] (λ m v e. nil_cons e) (λ m v e. nil_cons e) (sym a ∙ b)).0

@@ -1,10 +1,12 @@
 -- Small texts and faults.
-use Rattle.std.specs.Prelude.{◌≡◌, ℕ, zero, suc, List, [], ◌∷◌, ◌++◌, Some, None, codes}
-use Rattle.spec_grammar.specs.declared.keys.Key.TheVariants.{Spike, Goal, Equal, Status, LeftPar, RightPar, Comma, Colon, Equals, Arrow}
+use Rattle.std.specs.Prelude.{◌≡◌, ℕ, zero, suc, List, [], ◌∷◌, ◌++◌, Option, Some, None, codes}
+use Rattle.spec_grammar.specs.declared.keys.Key.TheVariants.{Spike, Goal, Equal, Status, Order, LeftPar, RightPar, Comma, Colon, Equals, Arrow}
 use Rattle.spec_grammar.specs.declared.limits.LimitKind.TheVariants as limit
 use Rattle.spec_grammar.specs.declared.raw.RawEq.{RawEq}
 use Rattle.spec_grammar.specs.declared.raw.RawEqual.{RawEqual}
 use Rattle.spec_grammar.specs.declared.raw.RawStatus.{RawStatus}
+use Rattle.spec_grammar.specs.declared.raw.RawWeight.{RawWeight}
+use Rattle.spec_grammar.specs.declared.raw.RawOrder.{RawOrder}
 use Rattle.spec_grammar.specs.declared.raw.RawGoal.{RawGoal}
 use Rattle.spec_grammar.specs.declared.raw.RawName.{RawName}
 use Rattle.spec_grammar.specs.declared.raw.RawSpec.{RawSpec}
@@ -65,14 +67,31 @@ abbrev pub status_items : List Item
 status_items = Sign Status ∷ Word (codes "h") 26 ∷ Sign LeftPar ∷ Number 2 ∷ Sign Comma
     ∷ Number 1 ∷ Sign RightPar ∷ []
 
+-- `order kbo : f = 2, g = 3` at these places
+abbrev pub one_order : List RawWeight → RawOrder
+one_order weights = record { name = record { name = codes "kbo"; at = 14 }; weights = weights }
+
+abbrev pub two_weights : List RawWeight
+two_weights =
+    record { name = record { name = codes "f"; at = 20 }; weight = 2 }
+    ∷ record { name = record { name = codes "g"; at = 27 }; weight = 3 } ∷ []
+
+abbrev pub order_items : List Item
+order_items = Sign Order ∷ Word (codes "kbo") 14 ∷ []
+
+abbrev pub weight_items : List Item
+weight_items = Sign Colon ∷ Word (codes "f") 20 ∷ Sign Equals ∷ Number 2 ∷ Sign Comma
+    ∷ Word (codes "g") 27 ∷ Sign Equals ∷ Number 3 ∷ []
+
 -- these lines alone, in format 2
-abbrev pub format_two : List RawEqual → List RawStatus → RawSpec
-format_two equals statuses = record {
+abbrev pub format_two : List RawEqual → List RawStatus → Option RawOrder → RawSpec
+format_two equals statuses order = record {
   version = 2;
   sorts = [];
   funs = [];
   equals = equals;
   statuses = statuses;
+  order = order;
   rules = [];
   goals = [];
 }
@@ -80,17 +99,27 @@ format_two equals statuses = record {
 pub record WorkedExamples : Type 0 where
   -- the header alone
   pub header : Derives IsSpecText (Sign Spike ∷ Number 1 ∷ []) (format_one [] [] [] [])
-  pub header_of_format_two : Derives IsSpecText (Sign Spike ∷ Number 2 ∷ []) (format_two [] [])
+  pub header_of_format_two : Derives IsSpecText (Sign Spike ∷ Number 2 ∷ []) (format_two [] [] None)
   -- there is no third format, and no function is ordered in the first
   pub other_format : IsFault IsSpecText (Sign Spike ∷ []) (Number 3 ∷ []) None
   -- two functions of one level, and an order of two arguments
   pub ordered : Derives IsSpecText (Sign Spike ∷ Number 2 ∷ equal_items ++ status_items)
-      (format_two (one_equal ∷ []) (one_status ∷ []))
+      (format_two (one_equal ∷ []) (one_status ∷ []) None)
   -- a line `equal` names two functions at least, and comes before each line `status`
   pub one_name : IsFault IsSpecText
       (Sign Spike ∷ Number 2 ∷ Sign Equal ∷ Word (codes "f") 14 ∷ []) [] None
   pub equal_after_status :
       IsFault IsSpecText (Sign Spike ∷ Number 2 ∷ status_items) equal_items None
+  -- the ordering by weights, with some weights and without
+  pub weighed : Derives IsSpecText (Sign Spike ∷ Number 2 ∷ order_items ++ weight_items)
+      (format_two [] [] (Some (one_order two_weights)))
+  pub unweighed : Derives IsSpecText (Sign Spike ∷ Number 2 ∷ order_items)
+      (format_two [] [] (Some (one_order [])))
+  -- a colon has a weight after it, and there is one line `order`, which format 1 hasn't
+  pub no_weight : IsFault IsSpecText
+      (Sign Spike ∷ Number 2 ∷ order_items ++ Sign Colon ∷ []) [] None
+  pub second_order : IsFault IsSpecText (Sign Spike ∷ Number 2 ∷ order_items) order_items None
+  pub order_in_format_one : IsFault IsSpecText (Sign Spike ∷ Number 1 ∷ []) order_items None
   -- a conclusion without the arrow and with it, and no equation at all
   pub without_arrow :
       Derives IsSpecText (goal_items (equation_items 17 21)) (one_goal (equation 17 21 ∷ []))

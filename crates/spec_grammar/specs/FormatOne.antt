@@ -1,5 +1,5 @@
 -- Raw specifications of format 1.
-use Rattle.std.specs.Prelude.{List, []}
+use Rattle.std.specs.Prelude.{List, [], None}
 use Rattle.spec_grammar.specs.declared.raw.RawSort.{RawSort}
 use Rattle.spec_grammar.specs.declared.raw.RawFun.{RawFun}
 use Rattle.spec_grammar.specs.declared.raw.RawRule.{RawRule}
@@ -15,6 +15,7 @@ format_one sorts funs rules goals =
       funs = funs;
       equals = [];
       statuses = [];
+      order = None;
       rules = rules;
       goals = goals;
     }

@@ -1,9 +1,9 @@
 -- The grammar: the tokens of each part of a raw specification, each token with the limit that it
 -- passes if there is one. Each text is told with what stands behind it, `rest`; a number says how
 -- many items stand before.
-use Rattle.std.specs.Prelude.{◌≡◌, ◌≢◌, ℕ, ◌+◌, ◌⊎◌, List, [], ◌∷◌, Option, None, Bool, true, false, length}
+use Rattle.std.specs.Prelude.{◌≡◌, ◌≢◌, ℕ, ◌+◌, ◌⊎◌, List, [], ◌∷◌, Option, Some, None, Bool, true, false, length}
 use Rattle.spec_grammar.specs.declared.keys.Key.{Key}
-use Rattle.spec_grammar.specs.declared.keys.Key.TheVariants.{Spike, Sort, Fun, Rule, Goal, If, Unless, Equal, Status, LeftPar, RightPar, Comma, Colon, Equals, Bar, Arrow}
+use Rattle.spec_grammar.specs.declared.keys.Key.TheVariants.{Spike, Sort, Fun, Rule, Goal, If, Unless, Equal, Status, Order, LeftPar, RightPar, Comma, Colon, Equals, Bar, Arrow}
 use Rattle.spec_grammar.specs.declared.limits.LimitKind.{LimitKind}
 use Rattle.spec_grammar.specs.declared.raw.RawName.{RawName}
 use Rattle.spec_grammar.specs.declared.raw.RawNames.{RawNames}
@@ -11,6 +11,8 @@ use Rattle.spec_grammar.specs.declared.raw.RawSort.{RawSort}
 use Rattle.spec_grammar.specs.declared.raw.RawFun.{RawFun}
 use Rattle.spec_grammar.specs.declared.raw.RawEqual.{RawEqual}
 use Rattle.spec_grammar.specs.declared.raw.RawStatus.{RawStatus}
+use Rattle.spec_grammar.specs.declared.raw.RawWeight.{RawWeight}
+use Rattle.spec_grammar.specs.declared.raw.RawOrder.{RawOrder}
 use Rattle.spec_grammar.specs.declared.raw.RawEq.{RawEq}
 use Rattle.spec_grammar.specs.declared.raw.RawGuard.{RawGuard}
 use Rattle.spec_grammar.specs.declared.raw.RawRule.{RawRule}
@@ -116,10 +118,28 @@ AreStatuses (s ∷ ss) text rest =
     ∷ numeral_text (arity_mark 0) first (more_numbers_text 1 others (sign RightPar ∷ after))))
     × AreStatuses ss after rest
 
--- how the functions are ordered: {equal} {status}
+-- weight = NAME "=" NUMBER
+abbrev pub weight_text : RawWeight → List Marked → List Marked
+weight_text w rest = name_text None w.name (sign Equals ∷ number w.weight ∷ rest)
+
+abbrev pub more_weights_text : List RawWeight → List Marked → List Marked
+more_weights_text [] rest = rest
+more_weights_text (w ∷ ws) rest = sign Comma ∷ weight_text w (more_weights_text ws rest)
+
+abbrev pub weights_text : List RawWeight → List Marked → List Marked
+weights_text [] rest = rest
+weights_text (w ∷ ws) rest = sign Colon ∷ weight_text w (more_weights_text ws rest)
+
+-- order = "order" NAME [":" weight {"," weight}]
+abbrev pub order_text : Option RawOrder → List Marked → List Marked
+order_text None rest = rest
+order_text (Some order) rest = sign Order ∷ name_text None order.name (weights_text order.weights rest)
+
+-- how terms are ordered: {equal} {status} [order]
 abbrev pub IsOrderText : RawSpec → List Marked → List Marked → Type 0
-IsOrderText raw text rest = (statuses : List Marked)
-    × AreEquals raw.equals text statuses × AreStatuses raw.statuses statuses rest
+IsOrderText raw text rest = (statuses : List Marked) × (order : List Marked)
+    × AreEquals raw.equals text statuses × AreStatuses raw.statuses statuses order
+    × (order ≡ order_text raw.order rest)
 
 -- rule = "rule" term "=" term {("if" | "unless") term}
 abbrev pub guard_key : Bool → Key
@@ -188,13 +208,14 @@ AreGoals n (g ∷ gs) text rest =
     ∷ name_text None g.head (binds_text g.binds (sign Colon ∷ clause)))
     × IsClause g.premises g.conclusions clause after × AreGoals (n + 1) gs after rest
 
--- format 1 has no line that orders functions
+-- format 1 has no line on the order of terms
 abbrev pub IsFormat : RawSpec → Type 0
 IsFormat raw =
-    ((raw.version ≡ 1) × (raw.equals ≡ []) × (raw.statuses ≡ [])) ⊎ (raw.version ≡ 2)
+    ((raw.version ≡ 1) × (raw.equals ≡ []) × (raw.statuses ≡ []) × (raw.order ≡ None))
+    ⊎ (raw.version ≡ 2)
 
 -- file = "spike" "1" {sort} {fun} {rule} {goal}
---      | "spike" "2" {sort} {fun} {equal} {status} {rule} {goal}
+--      | "spike" "2" {sort} {fun} {equal} {status} [order] {rule} {goal}
 abbrev pub IsSpecText : RawSpec → List Marked → Type 0
 IsSpecText raw text =
     (sorts : List Marked) × (order : List Marked) × (goals : List Marked)

@@ -1,5 +1,6 @@
 -- What a raw specification within the limits is.
 use Rattle.std.specs.Prelude.{ℕ, ◌+◌, ◌≤◌, max, length, sum_by}
+use Rattle.std.specs.Option.{IfSome}
 use Rattle.std.specs.List.{AllByRecursion}
 use Rattle.spec_grammar.specs.declared.raw.RawName.{RawName}
 use Rattle.spec_grammar.specs.declared.raw.RawNames.{RawNames}
@@ -7,6 +8,8 @@ use Rattle.spec_grammar.specs.declared.raw.RawSort.{RawSort}
 use Rattle.spec_grammar.specs.declared.raw.RawFun.{RawFun}
 use Rattle.spec_grammar.specs.declared.raw.RawEqual.{RawEqual}
 use Rattle.spec_grammar.specs.declared.raw.RawStatus.{RawStatus}
+use Rattle.spec_grammar.specs.declared.raw.RawWeight.{RawWeight}
+use Rattle.spec_grammar.specs.declared.raw.RawOrder.{RawOrder}
 use Rattle.spec_grammar.specs.declared.raw.RawEq.{RawEq}
 use Rattle.spec_grammar.specs.declared.raw.RawGuard.{RawGuard}
 use Rattle.spec_grammar.specs.declared.raw.RawRule.{RawRule}
@@ -74,6 +77,11 @@ EqualKeepsLimits e = AllByRecursion NameKeepsLimits e.names
 abbrev pub StatusKeepsLimits : RawStatus → Type 0
 StatusKeepsLimits s = NameKeepsLimits s.head × (length s.numbers ≤ 8)
 
+-- the name of an ordering, and weights of symbols
+abbrev pub OrderKeepsLimits : RawOrder → Type 0
+OrderKeepsLimits o =
+    NameKeepsLimits o.name × AllByRecursion (λ (w : RawWeight). NameKeepsLimits w.name) o.weights
+
 -- a rule of few enough guards
 pub record RuleKeepsLimits (r : RawRule) : Type 0 where
   pub left : TermKeepsLimits r.left
@@ -109,6 +117,7 @@ pub record KeepsLimits (raw : RawSpec) : Type 0 where
   pub functions : AllByRecursion FunctionKeepsLimits raw.funs
   pub equals : AllByRecursion EqualKeepsLimits raw.equals
   pub statuses : AllByRecursion StatusKeepsLimits raw.statuses
+  pub order : IfSome raw.order OrderKeepsLimits
   pub few_rules : length raw.rules ≤ most_rules raw.version
   pub rules : AllByRecursion RuleKeepsLimits raw.rules
   pub few_goals : length raw.goals ≤ 200

@@ -25,6 +25,9 @@ pub data Symbol : Type 0 where
   statuses : Symbol
   numeral : Option LimitKind → Symbol
   more_numbers : ℕ → Symbol
+  order : Symbol
+  weights : Symbol
+  more_weights : Symbol
   rules : ℕ → ℕ → Symbol
   guards : ℕ → Symbol
   goals : ℕ → Symbol
@@ -127,6 +130,22 @@ abbrev pub react_more_numbers : ℕ → Key → Reaction
 react_more_numbers n Comma = take None (numeral (arity_mark n) ∷ more_numbers (n + 1) ∷ [])
 react_more_numbers n _ = pass
 
+-- a weight before other symbols
+abbrev pub weight_then : List Symbol → List Symbol
+weight_then st = name None ∷ key Equals ∷ numeral None ∷ st
+
+abbrev pub react_order : Key → Reaction
+react_order Order = take None (name None ∷ weights ∷ [])
+react_order _ = pass
+
+abbrev pub react_weights : Key → Reaction
+react_weights Colon = take None (weight_then (more_weights ∷ []))
+react_weights _ = pass
+
+abbrev pub react_more_weights : Key → Reaction
+react_more_weights Comma = take None (weight_then (more_weights ∷ []))
+react_more_weights _ = pass
+
 abbrev pub react_rules : ℕ → ℕ → Key → Reaction
 react_rules version n Rule =
     take (rule_mark version n) (sides_then None (guards 0 ∷ rules version (n + 1) ∷ []))
@@ -185,6 +204,9 @@ react_key more_equal j = react_more_equal j
 react_key statuses j = react_statuses j
 react_key (numeral m) j = fail
 react_key (more_numbers n) j = react_more_numbers n j
+react_key order j = react_order j
+react_key weights j = react_weights j
+react_key more_weights j = react_more_weights j
 react_key (rules version n) j = react_rules version n j
 react_key (guards n) j = react_guards n j
 react_key (goals n) j = react_goals n j
@@ -207,9 +229,9 @@ react_word (commas n) b = fail
 react_word conclusions b = take (name_mark b None) (args 0 ∷ right_then (bars 1 ∷ []))
 react_word _ b = pass
 
--- the declarations of a format, of which only the second has lines that order functions
+-- the declarations of a format, of which only the second has lines on the order of terms
 abbrev pub order_then : Bool → List Symbol → List Symbol
-order_then true st = equals ∷ statuses ∷ st
+order_then true st = equals ∷ statuses ∷ order ∷ st
 order_then false st = st
 
 abbrev pub body : ℕ → List Symbol

@@ -24,7 +24,7 @@ pub use limits::{
     max_constructors, max_functions, max_rules,
 };
 pub use raw::{
-    RawBind, RawEq, RawEqual, RawFun, RawGoal, RawGuard, RawName, RawNames, RawRule, RawSort,
-    RawSpec, RawStatus,
+    RawBind, RawEq, RawEqual, RawFun, RawGoal, RawGuard, RawName, RawNames, RawOrder, RawRule,
+    RawSort, RawSpec, RawStatus, RawWeight,
 };
 pub use terms::{RawTerm, RawTerms};

@@ -43,6 +43,20 @@ pub struct RawStatus {
     pub numbers: Seq<u32>,
 }
 
+/// `NAME = 2`: the weight of a symbol.
+#[derive(Drop)]
+pub struct RawWeight {
+    pub name: RawName,
+    pub weight: u32,
+}
+
+/// `order NAME : weight, weight`: the name of an ordering, and the weights of symbols.
+#[derive(Drop)]
+pub struct RawOrder {
+    pub name: RawName,
+    pub weights: Seq<RawWeight>,
+}
+
 /// `LEFT = RIGHT`
 #[derive(Drop)]
 pub struct RawEq {
@@ -89,6 +103,7 @@ pub struct RawSpec {
     pub funs: Seq<RawFun>,
     pub equals: Seq<RawEqual>,
     pub statuses: Seq<RawStatus>,
+    pub order: Option<RawOrder>,
     pub rules: Seq<RawRule>,
     pub goals: Seq<RawGoal>,
 }

@@ -20,7 +20,7 @@ use Rattle.spec_grammar.specs.declared.raw.RawGoal.{RawGoal}
 use Rattle.spec_printing.specs.SamePlaces.{SameTerm, SameTerms, SameEquation, SameBind, SameGoal}
 use Rattle.sort_check.specs.Entries.{entry_names, known_sorts, sort_at, Differ}
 use Rattle.sort_check.specs.Rounds.{shared, after_pair, round_tests, after_round, rounds_tests, after_rounds}
-use Rattle.sort_check.specs.Words.{symbol_named, info_at, entries_after}
+use Rattle.sort_check.specs.Words.{entries_after}
 use Rattle.sort_check.specs.Occurrence.{names_after, names_after_sides}
 use Rattle.sort_check.specs.Terms.{EquationStands}
 use Rattle.sort_check.specs.Goals.{goal_names, VariableStands, GoalStands}

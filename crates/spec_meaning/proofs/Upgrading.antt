@@ -1,11 +1,11 @@
 -- What declarations stand for in one format they stand for in format 2, whose tests allow more.
-use Rattle.std.proofs.Common.{◌≡◌, ℕ, ◌≤◌, List, [], ◌∷◌, ◌++◌, Option, Some, None, Bool, true, false, cond, arith}
+use Rattle.std.proofs.Common.{ℕ, ◌≤◌, List, [], ◌∷◌, ◌++◌, Option, Some, None, Bool, true, false, cond, arith}
 use Rattle.std.specs.Prelude.{◌==◌}
 use Rattle.spec_core.specs.Sig.{Sig}
 use Rattle.spec_core.specs.Findings.{Clean, each_after}
 use Rattle.spec_core.specs.declared.records.Spec.{Spec}
 use Rattle.spec_core.specs.declared.records.OrderInfo.{OrderInfo}
-use Rattle.spec_core.specs.declared.records.OrderInfo.TheVariants.{Path}
+use Rattle.spec_core.specs.declared.records.OrderInfo.TheVariants.{Path, Weights}
 use Rattle.spec_grammar.specs.RawTree.{RawTree, RawTrees, word, none as no_raws, some as more_raws}
 use Rattle.spec_grammar.specs.declared.raw.RawRule.{RawRule}
 use Rattle.spec_grammar.specs.declared.raw.RawSpec.{RawSpec}
@@ -44,6 +44,7 @@ module _ (sig : Sig) (most more : ℕ) (le : most ≤ more) where
 order_stands : (raw : RawSpec) (sig : Sig) (order : OrderInfo) → OrderStands raw sig order →
     OrderStands (upgraded raw) sig order
 order_stands raw sig (Path levels statuses) stands = stands
+order_stands raw sig (Weights given) stands = stands
 
 pub upgraded_stands : (raw : RawSpec) (spec : Spec) → StandsFor raw spec → StandsFor (upgraded raw) spec
 upgraded_stands raw spec s =

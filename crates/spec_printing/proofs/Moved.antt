@@ -1,9 +1,9 @@
 -- Marked tokens whose names stand at other places, and texts of such tokens.
-use Rattle.std.proofs.Common.{◌≡◌, ◌⊎◌, inl, inr, ℕ, ◌+◌, List, [], ◌∷◌, Option, None, length, refl, ap, sym, subst, ◌∙◌}
+use Rattle.std.proofs.Common.{◌≡◌, inl, inr, ℕ, ◌+◌, List, [], ◌∷◌, Option, Some, None, length, refl, ap, sym, subst, ◌∙◌}
 use Rattle.std.specs.List.{AllZip}
 use Rattle.std.proofs.lemmas.List.Elements.{length_all_zip}
 use Rattle.spec_grammar.specs.declared.keys.Key.{Key}
-use Rattle.spec_grammar.specs.declared.keys.Key.TheVariants.{Spike, Sort, Fun, Equal, Status, Rule, Goal, LeftPar, RightPar, Comma, Colon, Equals, Bar, Arrow}
+use Rattle.spec_grammar.specs.declared.keys.Key.TheVariants.{Spike, Sort, Fun, Equal, Status, Order, Rule, Goal, LeftPar, RightPar, Comma, Colon, Equals, Bar, Arrow}
 use Rattle.spec_grammar.specs.declared.limits.LimitKind.{LimitKind}
 use Rattle.spec_grammar.specs.declared.raw.RawName.{RawName}
 use Rattle.spec_grammar.specs.declared.raw.RawNames.{RawNames}
@@ -11,6 +11,8 @@ use Rattle.spec_grammar.specs.declared.raw.RawSort.{RawSort}
 use Rattle.spec_grammar.specs.declared.raw.RawFun.{RawFun}
 use Rattle.spec_grammar.specs.declared.raw.RawEqual.{RawEqual}
 use Rattle.spec_grammar.specs.declared.raw.RawStatus.{RawStatus}
+use Rattle.spec_grammar.specs.declared.raw.RawWeight.{RawWeight}
+use Rattle.spec_grammar.specs.declared.raw.RawOrder.{RawOrder}
 use Rattle.spec_grammar.specs.declared.raw.RawEq.{RawEq}
 use Rattle.spec_grammar.specs.declared.raw.RawGuard.{RawGuard}
 use Rattle.spec_grammar.specs.declared.raw.RawRule.{RawRule}
@@ -20,8 +22,8 @@ use Rattle.spec_grammar.specs.declared.raw.RawSpec.{RawSpec}
 use Rattle.spec_grammar.specs.RawTree.{RawTree, RawTrees, word, none, some}
 use Rattle.spec_grammar.specs.Items.{Item, Word, Sign, Number}
 use Rattle.spec_grammar.specs.Limits.{name_mark, sort_mark, constructor_mark, fun_mark, arity_mark, term_mark, rule_mark, guard_mark, goal_mark, variable_mark, premise_mark, conclusion_mark}
-use Rattle.spec_grammar.specs.Grammar.{Marked, sign, number, name_text, term_text, args_text, more_text, more_names_text, names_text, con_text, constructors_text, AreSorts, funs_text, more_equal_text, AreEquals, numeral_text, more_numbers_text, AreStatuses, guard_key, guards_text, sides_text, rules_text, commas_text, bars_text, bind_text, more_binds_text, binds_text}
-use Rattle.spec_printing.specs.SamePlaces.{SameName, SameNames, SameTerm, SameTerms, SameSort, SameFun, SameEqual, SameStatus, SameEquation, SameGuard, SameRule, SameBind, SameGoal, IsSameButPlaces}
+use Rattle.spec_grammar.specs.Grammar.{Marked, sign, number, name_text, term_text, args_text, more_text, more_names_text, names_text, con_text, constructors_text, AreSorts, funs_text, more_equal_text, AreEquals, numeral_text, more_numbers_text, AreStatuses, weight_text, more_weights_text, weights_text, order_text, guard_key, guards_text, sides_text, rules_text, commas_text, bars_text, bind_text, more_binds_text, binds_text, IsFormat}
+use Rattle.spec_printing.specs.SamePlaces.{SameName, SameNames, SameTerm, SameTerms, SameSort, SameFun, SameEqual, SameStatus, SameWeight, SameOrder, SameEquation, SameGuard, SameRule, SameBind, SameGoal, IsSameButPlaces}
 use Rattle.spec_printing.proofs.Plain.{clause_text, goals_text, IsPlainText}
 
 -- one token, a name at any place, and then what follows
@@ -270,6 +272,56 @@ statuses_move (s ∷ ss) w rest v a h =
       moved = b.moved;
     }
 
+-- the line of the order
+weight_moves : (w : RawWeight) (rest v : List Marked) → Moved (weight_text w rest) v →
+    Moves weight_text SameWeight w rest v
+weight_moves w rest v h =
+    let a = name_moves None w.name (sign Equals ∷ number w.weight ∷ rest) v h in
+    let equals = a.moved in
+    let weighed = equals.2 in
+    record {
+      it = record { name = a.it; weight = w.weight };
+      after = weighed.0;
+      whole = a.whole ∙ ap (name_text None a.it) (equals.1 ∙ ap (λ (x : List Marked). sign Equals ∷ x) weighed.1);
+      same = (a.same, refl);
+      moved = weighed.2;
+    }
+
+more_weights_moves : (ws : List RawWeight) (rest v : List Marked) → Moved (more_weights_text ws rest) v →
+    Moves more_weights_text (AllZip SameWeight) ws rest v
+more_weights_moves ws rest v h =
+    behind_moves Comma (λ n. more_weights_text) (λ n. weight_text) SameWeight (λ n w. refl) (λ n y ys w. refl)
+    (λ n. weight_moves) 0 ws rest v h
+
+weights_moves : (ws : List RawWeight) (rest v : List Marked) → Moved (weights_text ws rest) v →
+    Moves weights_text (AllZip SameWeight) ws rest v
+weights_moves [] rest v h = record { it = []; after = v; whole = refl; same = tt; moved = h }
+weights_moves (w ∷ ws) rest v h =
+    let later : List Marked = more_weights_text ws rest in
+    let a = key_moves Colon None weight_text SameWeight w later v (weight_moves w later) h in
+    let b = more_weights_moves ws rest a.after a.moved in
+    record {
+      it = a.it ∷ b.it;
+      after = b.after;
+      whole = a.whole ∙ ap (λ (x : List Marked). sign Colon ∷ weight_text a.it x) b.whole;
+      same = (a.same, b.same);
+      moved = b.moved;
+    }
+
+order_moves : (line : Option RawOrder) (rest v : List Marked) → Moved (order_text line rest) v →
+    Moves order_text SameOrder line rest v
+order_moves None rest v h = record { it = None; after = v; whole = refl; same = tt; moved = h }
+order_moves (Some o) rest v h =
+    let a = name_moves None o.name (weights_text o.weights rest) h.0 h.2 in
+    let b = weights_moves o.weights rest a.after a.moved in
+    record {
+      it = Some (record { name = a.it; weights = b.it });
+      after = b.after;
+      whole = h.1 ∙ ap (λ (x : List Marked). sign Order ∷ x) (a.whole ∙ ap (name_text None a.it) b.whole);
+      same = (a.same, b.same);
+      moved = b.moved;
+    }
+
 -- terms
 mutual
   term_moves : (d : ℕ) (mark : Option LimitKind) (t : RawTree) (rest v : List Marked) → Moved (term_text d mark t rest) v → Moves (term_text d mark) SameTerm t rest v
@@ -461,17 +513,23 @@ as_empty Same [] ys all e = refl
 as_empty Same (x ∷ xs) [] all e = absurd all
 as_empty Same (x ∷ xs) (y ∷ ys) all e = absurd (let bad : y ∷ ys ≡ [] = e in cc)
 
--- the format of a raw specification has nothing to do with places
-abbrev HasFormat : ℕ → List RawEqual → List RawStatus → Type 0
-HasFormat version equals statuses =
-    ((version ≡ 1) × (equals ≡ []) × (statuses ≡ [])) ⊎ (version ≡ 2)
+no_order : (o p : Option RawOrder) → SameOrder o p → p ≡ None → o ≡ None
+no_order None p s e = refl
+no_order (Some o) None s e = absurd s
+no_order (Some o) (Some p) s e = absurd (let bad : ◌≡◌ {A = Option RawOrder} (Some p) None = e in cc)
 
+-- the format of a raw specification has nothing to do with places
 same_format :
-    (es fs : List RawEqual) (ss ts : List RawStatus) (version : ℕ) → AllZip SameEqual fs es → AllZip SameStatus ts ss →
-    HasFormat version es ss → HasFormat version fs ts
-same_format es fs ss ts version e s (inl one) =
-    inl (one.0, as_empty SameEqual fs es e one.1, as_empty SameStatus ts ss s one.2)
-same_format es fs ss ts version e s (inr two) = inr two
+    (again raw : RawSpec) → again.version ≡ raw.version → AllZip SameEqual again.equals raw.equals →
+    AllZip SameStatus again.statuses raw.statuses → SameOrder again.order raw.order → IsFormat raw → IsFormat again
+same_format again raw n e s o (inl one) =
+    inl (
+      n ∙ one.0,
+      as_empty SameEqual again.equals raw.equals e one.1,
+      as_empty SameStatus again.statuses raw.statuses s one.2,
+      no_order again.order raw.order o one.3,
+    )
+same_format again raw n e s o (inr two) = inr (n ∙ two)
 
 -- tokens of a raw specification with names at other places are those of one that is the same apart from places
 pub spec_moves : (raw : RawSpec) (w v : List Marked) → IsPlainText raw w → Moved w v → (again : RawSpec) × IsPlainText again v × IsSameButPlaces again raw
@@ -483,30 +541,31 @@ spec_moves raw w v p h =
     let rules : List Marked = rules_text version 0 raw.rules goals in
     let s = sorts_move version 0 0 raw.sorts p.sorts (funs_text version 0 raw.funs p.order) after.0 p.are after.2 in
     let f = funs_moves version 0 raw.funs p.order s.after s.moved in
-    let e = equals_move raw.equals p.order p.ordered.0 f.after p.ordered.1 f.moved in
-    let t = statuses_move raw.statuses p.ordered.0 rules e.after p.ordered.2 e.moved in
-    let r = rules_moves version 0 raw.rules goals t.after t.moved in
+    let e = equals_move raw.equals p.order p.ordered.0 f.after p.ordered.2 f.moved in
+    let t = statuses_move raw.statuses p.ordered.0 p.ordered.1 e.after p.ordered.3 e.moved in
+    let o = order_moves raw.order rules t.after (subst (λ (x : List Marked). Moved x t.after) p.ordered.4 t.moved) in
+    let r = rules_moves version 0 raw.rules goals o.after o.moved in
     let g = goals_moves 0 raw.goals [] r.after r.moved in
-    let rest : t.after ≡ rules_text version 0 r.it (goals_text 0 g.it []) =
+    let rest : o.after ≡ rules_text version 0 r.it (goals_text 0 g.it []) =
     r.whole ∙ ap (rules_text version 0 r.it) (g.whole ∙ ap (goals_text 0 g.it) g.moved) in
-    let statuses : AreStatuses t.it e.after (rules_text version 0 r.it (goals_text 0 g.it [])) =
-    subst (λ (x : List Marked). AreStatuses t.it e.after x) rest t.whole in (
-      record {
-        version = version;
-        sorts = s.it;
-        funs = f.it;
-        equals = e.it;
-        statuses = t.it;
-        rules = r.it;
-        goals = g.it;
-      },
+    let again : RawSpec = record {
+      version = version;
+      sorts = s.it;
+      funs = f.it;
+      equals = e.it;
+      statuses = t.it;
+      order = o.it;
+      rules = r.it;
+      goals = g.it;
+    } in (
+      again,
       record {
         sorts = after.0;
         order = f.after;
         whole = m.1 ∙ ap (λ (x : List Marked). sign Spike ∷ x) after.1;
         are = subst (λ (x : List Marked). AreSorts version 0 0 s.it after.0 x) f.whole s.whole;
-        ordered = (e.after, e.whole, statuses);
-        format = same_format raw.equals e.it raw.statuses t.it version e.same t.same p.format;
+        ordered = (e.after, t.after, e.whole, t.whole, o.whole ∙ ap (order_text o.it) rest);
+        format = same_format again raw refl e.same t.same o.same p.format;
       },
       record {
         version = refl;
@@ -514,6 +573,7 @@ spec_moves raw w v p h =
         funs = f.same;
         equals = e.same;
         statuses = t.same;
+        order = o.same;
         rules = r.same;
         goals = g.same;
       },

@@ -1,6 +1,6 @@
 -- The text of a raw specification that the printed form has: no arrow where there are conclusions only. Its tokens are as
 -- good as those of each other text of it, and no longer, also in a format with looser limits.
-use Rattle.std.proofs.Common.{◌≡◌, ◌≢◌, inl, inr, ℕ, ◌+◌, ◌<◌, ◌≤◌, ◌^◌, List, [], ◌∷◌, Option, None, length, refl, sym, subst, arith}
+use Rattle.std.proofs.Common.{◌≡◌, ◌≢◌, inl, inr, ℕ, ◌+◌, ◌<◌, ◌≤◌, ◌^◌, List, [], ◌∷◌, Option, Some, None, length, refl, sym, subst, arith}
 use Rattle.std.specs.Fmt.{decimal}
 use Rattle.std.specs.Str.{chars, IsUtf8}
 use Rattle.spec_text.specs.Names.{IsName}
@@ -12,6 +12,8 @@ use Rattle.spec_grammar.specs.declared.raw.RawSort.{RawSort}
 use Rattle.spec_grammar.specs.declared.raw.RawFun.{RawFun}
 use Rattle.spec_grammar.specs.declared.raw.RawEqual.{RawEqual}
 use Rattle.spec_grammar.specs.declared.raw.RawStatus.{RawStatus}
+use Rattle.spec_grammar.specs.declared.raw.RawWeight.{RawWeight}
+use Rattle.spec_grammar.specs.declared.raw.RawOrder.{RawOrder}
 use Rattle.spec_grammar.specs.declared.raw.RawEq.{RawEq}
 use Rattle.spec_grammar.specs.declared.raw.RawGuard.{RawGuard}
 use Rattle.spec_grammar.specs.declared.raw.RawRule.{RawRule}
@@ -21,7 +23,7 @@ use Rattle.spec_grammar.specs.declared.raw.RawSpec.{RawSpec}
 use Rattle.spec_grammar.specs.RawTree.{RawTree, RawTrees, word, none, some}
 use Rattle.spec_grammar.specs.Items.{Item, Word, Sign, Number, reserved}
 use Rattle.spec_grammar.specs.Limits.{sort_mark, constructor_mark, arity_mark, term_mark, goal_mark, premise_mark, conclusion_mark}
-use Rattle.spec_grammar.specs.Grammar.{Marked, sign, number, name_text, term_text, args_text, more_text, more_names_text, names_text, con_text, constructors_text, AreSorts, funs_text, more_equal_text, AreEquals, numeral_text, more_numbers_text, AreStatuses, IsOrderText, guards_text, sides_text, rules_text, commas_text, premises_text, bars_text, conclusions_text, IsClause, more_binds_text, binds_text, AreGoals, IsFormat, IsSpecText}
+use Rattle.spec_grammar.specs.Grammar.{Marked, sign, number, name_text, term_text, args_text, more_text, more_names_text, names_text, con_text, constructors_text, AreSorts, funs_text, more_equal_text, AreEquals, numeral_text, more_numbers_text, AreStatuses, more_weights_text, weights_text, order_text, IsOrderText, guards_text, sides_text, rules_text, commas_text, premises_text, bars_text, conclusions_text, IsClause, more_binds_text, binds_text, AreGoals, IsFormat, IsSpecText}
 use Rattle.spec_printing.proofs.Spellings.{item_text}
 use Rattle.spec_printing.proofs.Looser.{StaysClean, Looser, same_limits, named_clean}
 
@@ -140,12 +142,30 @@ statuses_good (s ∷ ss) text rest other f a =
     (more_numbers_good 1 a.1 (sign RightPar ∷ a.2) (sign RightPar ∷ b.0) (behind b.2))))) in
     (line b.0, (a.0, a.1, b.0, a.3, refl, b.1), subst (λ (w : List Marked). Follows w (line b.0)) (sym a.4) good)
 
+more_weights_good : (ws : List RawWeight) (rest other : List Marked) → Follows rest other →
+    Follows (more_weights_text ws rest) (more_weights_text ws other)
+more_weights_good [] rest other f = f
+more_weights_good (w ∷ ws) rest other f = behind (behind (behind (behind (more_weights_good ws rest other f))))
+
+weights_good : (ws : List RawWeight) (rest other : List Marked) → Follows rest other →
+    Follows (weights_text ws rest) (weights_text ws other)
+weights_good [] rest other f = f
+weights_good (w ∷ ws) rest other f = behind (behind (behind (behind (more_weights_good ws rest other f))))
+
+order_line_good : (line : Option RawOrder) (rest other : List Marked) → Follows rest other →
+    Follows (order_text line rest) (order_text line other)
+order_line_good None rest other f = f
+order_line_good (Some o) rest other f = behind (behind (weights_good o.weights rest other f))
+
 order_good : (raw : RawSpec) (text rest other : List Marked) → Follows rest other → IsOrderText raw text rest →
     (plain : List Marked) × IsOrderText raw plain other × Follows text plain
 order_good raw text rest other f a =
-    let s = statuses_good raw.statuses a.0 rest other f a.2 in
-    let e = equals_good raw.equals text a.0 s.0 s.2 a.1 in
-    (e.0, (s.0, e.1, s.1), e.2)
+    let line : List Marked = order_text raw.order other in
+    let l : Follows a.1 line =
+    subst (λ (w : List Marked). Follows w line) (sym a.4) (order_line_good raw.order rest other f) in
+    let s = statuses_good raw.statuses a.0 a.1 line l a.3 in
+    let e = equals_good raw.equals text a.0 s.0 s.2 a.2 in
+    (e.0, (s.0, line, e.1, s.1, refl), e.2)
 
 mutual
   term_good : (d : ℕ) (mark : Option LimitKind) (t : RawTree) (rest other : List Marked) → Follows rest other → Follows (term_text d mark t rest) (term_text d mark t other)

@@ -1,5 +1,5 @@
 -- The printed form doesn't tell the places of names.
-use Rattle.std.proofs.Common.{◌≡◌, ℕ, List, [], ◌∷◌, ◌++◌, refl, map}
+use Rattle.std.proofs.Common.{◌≡◌, ℕ, List, [], ◌∷◌, ◌++◌, Option, Some, None, refl, map}
 use Rattle.std.specs.Prelude.{codes, if◌then◌else◌}
 use Rattle.std.specs.Fmt.{decimal}
 use Rattle.std.specs.List.{AllZip, flat_map}
@@ -10,14 +10,16 @@ use Rattle.spec_grammar.specs.declared.raw.RawSort.{RawSort}
 use Rattle.spec_grammar.specs.declared.raw.RawFun.{RawFun}
 use Rattle.spec_grammar.specs.declared.raw.RawEqual.{RawEqual}
 use Rattle.spec_grammar.specs.declared.raw.RawStatus.{RawStatus}
+use Rattle.spec_grammar.specs.declared.raw.RawWeight.{RawWeight}
+use Rattle.spec_grammar.specs.declared.raw.RawOrder.{RawOrder}
 use Rattle.spec_grammar.specs.declared.raw.RawEq.{RawEq}
 use Rattle.spec_grammar.specs.declared.raw.RawGuard.{RawGuard}
 use Rattle.spec_grammar.specs.declared.raw.RawRule.{RawRule}
 use Rattle.spec_grammar.specs.declared.raw.RawBind.{RawBind}
 use Rattle.spec_grammar.specs.declared.raw.RawGoal.{RawGoal}
 use Rattle.spec_grammar.specs.declared.raw.RawSpec.{RawSpec}
-use Rattle.spec_printing.specs.Printed.{listed, spaced, term_printed, others_printed, equation_printed, names_printed, sort_line, fun_line, equal_line, status_line, guard_printed, rule_line, bind_printed, arrow_printed, goal_line, header_line, printed}
-use Rattle.spec_printing.specs.SamePlaces.{SameName, SameNames, SameTerm, SameTerms, SameSort, SameFun, SameEqual, SameStatus, SameEquation, SameGuard, SameRule, SameBind, SameGoal, IsSameButPlaces}
+use Rattle.spec_printing.specs.Printed.{listed, spaced, term_printed, others_printed, equation_printed, names_printed, sort_line, fun_line, equal_line, status_line, weight_printed, weights_printed, order_line, guard_printed, rule_line, bind_printed, arrow_printed, goal_line, header_line, printed}
+use Rattle.spec_printing.specs.SamePlaces.{SameName, SameNames, SameTerm, SameTerms, SameSort, SameFun, SameEqual, SameStatus, SameWeight, SameOrder, SameEquation, SameGuard, SameRule, SameBind, SameGoal, IsSameButPlaces}
 
 -- lists whose elements have the same texts
 module _ {X : Type 0} (text : X → List ℕ) (Same : X → X → Type 0) (one : (x y : X) → Same x y → text x ≡ text y) where
@@ -83,6 +85,28 @@ equal e f s =
 status : (s t : RawStatus) → SameStatus s t → status_line s ≡ status_line t
 status s t same = λ i. codes "status " ++ same.0 i ++ listed (map decimal (same.1 i)) ++ codes "\n"
 
+weight : (w x : RawWeight) → SameWeight w x → weight_printed w ≡ weight_printed x
+weight w x s = λ i. s.0 i ++ codes " = " ++ decimal (s.1 i)
+
+weights : (ws xs : List RawWeight) → AllZip SameWeight ws xs → weights_printed ws ≡ weights_printed xs
+weights [] [] all = refl
+weights (w ∷ ws) (x ∷ xs) all =
+    let first = weight w x all.0 in
+    let behind : (y z : RawWeight) → SameWeight y z → codes ", " ++ weight_printed y ≡ codes ", " ++ weight_printed z =
+    λ y z s. let q = weight y z s in λ i. codes ", " ++ q i in
+    let rest = lines (λ y. codes ", " ++ weight_printed y) SameWeight behind ws xs all.1 in
+    λ i. codes " : " ++ first i ++ rest i
+weights [] (x ∷ xs) all = absurd all
+weights (w ∷ ws) [] all = absurd all
+
+order : (o p : Option RawOrder) → SameOrder o p → order_line o ≡ order_line p
+order None None s = refl
+order None (Some p) s = absurd s
+order (Some o) None s = absurd s
+order (Some o) (Some p) s =
+    let all = weights o.weights p.weights s.1 in
+    λ i. codes "order " ++ s.0 i ++ all i ++ codes "\n"
+
 guard : (g h : RawGuard) → SameGuard g h → guard_printed g ≡ guard_printed h
 guard g h s = let tested = term g.test h.test s.0 in λ i. (if s.1 i then codes " if " else codes " unless ") ++ tested i
 
@@ -121,6 +145,7 @@ printed_same raw other s =
     let funs = lines fun_line SameFun function raw.funs other.funs s.funs in
     let equals = lines equal_line SameEqual equal raw.equals other.equals s.equals in
     let statuses = lines status_line SameStatus status raw.statuses other.statuses s.statuses in
+    let line = order raw.order other.order s.order in
     let rules = lines rule_line SameRule rule raw.rules other.rules s.rules in
     let goals = lines goal_line SameGoal goal_same raw.goals other.goals s.goals in
-    λ i. header_line (s.version i) ++ sorts i ++ funs i ++ equals i ++ statuses i ++ rules i ++ goals i
+    λ i. header_line (s.version i) ++ sorts i ++ funs i ++ equals i ++ statuses i ++ line i ++ rules i ++ goals i

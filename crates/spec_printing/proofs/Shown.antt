@@ -1,5 +1,5 @@
 -- The printed form is what the pieces of the plain text write.
-use Rattle.std.proofs.Common.{◌≡◌, ℕ, ◌+◌, List, [], ◌∷◌, ◌++◌, Bool, true, false, Option, None, length, refl, ap, sym, ◌∙◌, append_assoc}
+use Rattle.std.proofs.Common.{◌≡◌, ℕ, ◌+◌, List, [], ◌∷◌, ◌++◌, Bool, true, false, Option, Some, None, length, refl, ap, sym, ◌∙◌, append_assoc}
 use Rattle.std.specs.Prelude.{codes, map, if◌then◌else◌}
 use Rattle.std.specs.Fmt.{decimal}
 use Rattle.std.specs.List.{flat_map}
@@ -13,6 +13,8 @@ use Rattle.spec_grammar.specs.declared.raw.RawSort.{RawSort}
 use Rattle.spec_grammar.specs.declared.raw.RawFun.{RawFun}
 use Rattle.spec_grammar.specs.declared.raw.RawEqual.{RawEqual}
 use Rattle.spec_grammar.specs.declared.raw.RawStatus.{RawStatus}
+use Rattle.spec_grammar.specs.declared.raw.RawWeight.{RawWeight}
+use Rattle.spec_grammar.specs.declared.raw.RawOrder.{RawOrder}
 use Rattle.spec_grammar.specs.declared.raw.RawEq.{RawEq}
 use Rattle.spec_grammar.specs.declared.raw.RawGuard.{RawGuard}
 use Rattle.spec_grammar.specs.declared.raw.RawRule.{RawRule}
@@ -22,8 +24,8 @@ use Rattle.spec_grammar.specs.declared.raw.RawSpec.{RawSpec}
 use Rattle.spec_grammar.specs.RawTree.{RawTree, RawTrees, word, none, some}
 use Rattle.spec_grammar.specs.Items.{Sign}
 use Rattle.spec_grammar.specs.Limits.{constructor_mark, term_mark, guard_mark, variable_mark, premise_mark, conclusion_mark}
-use Rattle.spec_grammar.specs.Grammar.{Marked, sign, name_text, term_text, more_text, more_names_text, names_text, con_text, constructors_text, AreSorts, funs_text, more_equal_text, AreEquals, more_numbers_text, AreStatuses, guard_key, guards_text, sides_text, rules_text, commas_text, premises_text, bars_text, conclusions_text, bind_text, more_binds_text, binds_text}
-use Rattle.spec_printing.specs.Printed.{listed, spaced, term_printed, others_printed, sides_printed, equation_printed, names_printed, sort_line, fun_line, equal_line, status_line, guard_printed, rule_line, bind_printed, clause_printed, goal_line, header_line, printed}
+use Rattle.spec_grammar.specs.Grammar.{Marked, sign, name_text, term_text, more_text, more_names_text, names_text, con_text, constructors_text, AreSorts, funs_text, more_equal_text, AreEquals, more_numbers_text, AreStatuses, weight_text, more_weights_text, weights_text, order_text, guard_key, guards_text, sides_text, rules_text, commas_text, premises_text, bars_text, conclusions_text, bind_text, more_binds_text, binds_text}
+use Rattle.spec_printing.specs.Printed.{listed, spaced, term_printed, others_printed, sides_printed, equation_printed, names_printed, sort_line, fun_line, equal_line, status_line, weight_printed, weights_printed, order_line, guard_printed, rule_line, bind_printed, clause_printed, goal_line, header_line, printed}
 use Rattle.spec_printing.proofs.Plain.{clause_text, goals_text, IsPlainText}
 use Rattle.spec_printing.proofs.Pieces.{blank, pieces}
 
@@ -176,6 +178,45 @@ statuses_shown (s ∷ ss) text rest x a h =
     ∙ ap (λ (ys : List ℕ). before (numbers_more a.1 ++ (codes ")" ++ ys))) (statuses_shown ss a.2 rest x a.5 h)
     ∙ ap (λ (ys : List ℕ). codes "\n" ++ ys) (status_shown s a.0 a.1 later x a.3)
 
+-- the line of the order
+weight_shown :
+    (w : RawWeight) (rest : List Marked) →
+    shown false (weight_text w rest) ≡ codes " " ++ (weight_printed w ++ shown false rest)
+weight_shown w rest =
+    ap (λ (ys : List ℕ). codes " " ++ ys)
+    (sym (regroup_three w.name.name (codes " = ") (decimal w.weight) (shown false rest)))
+
+abbrev weights_more : List RawWeight → List ℕ
+weights_more ws = flat_map (λ x. codes ", " ++ weight_printed x) ws
+
+more_weights_shown :
+    (ws : List RawWeight) (rest : List Marked) →
+    shown false (more_weights_text ws rest) ≡ weights_more ws ++ shown false rest
+more_weights_shown [] rest = refl
+more_weights_shown (w ∷ ws) rest =
+    ap (λ (ys : List ℕ). codes "," ++ ys) (weight_shown w (more_weights_text ws rest))
+    ∙ ap (λ (ys : List ℕ). codes ", " ++ (weight_printed w ++ ys)) (more_weights_shown ws rest)
+    ∙ sym (regroup_three (codes ", ") (weight_printed w) (weights_more ws) (shown false rest))
+
+weights_shown :
+    (ws : List RawWeight) (rest : List Marked) →
+    shown false (weights_text ws rest) ≡ weights_printed ws ++ shown false rest
+weights_shown [] rest = refl
+weights_shown (w ∷ ws) rest =
+    ap (λ (ys : List ℕ). codes " :" ++ ys) (weight_shown w (more_weights_text ws rest))
+    ∙ ap (λ (ys : List ℕ). codes " : " ++ (weight_printed w ++ ys)) (more_weights_shown ws rest)
+    ∙ sym (regroup_three (codes " : ") (weight_printed w) (weights_more ws) (shown false rest))
+
+order_shown :
+    (line : Option RawOrder) (rest : List Marked) (x : List ℕ) → shown false rest ≡ codes "\n" ++ x →
+    shown false (order_text line rest) ≡ codes "\n" ++ (order_line line ++ x)
+order_shown None rest x h = h
+order_shown (Some o) rest x h =
+    let weights : List ℕ = weights_printed o.weights in
+    let before : List ℕ → List ℕ = λ (ys : List ℕ). codes "\norder " ++ (o.name.name ++ ys) in
+    ap before (weights_shown o.weights rest) ∙ ap (λ (ys : List ℕ). before (weights ++ ys)) h
+    ∙ ap (λ (ys : List ℕ). codes "\n" ++ ys) (sym (regroup_four (codes "order ") o.name.name weights (codes "\n") x))
+
 -- terms
 mutual
   term_shown : (d : ℕ) (mark : Option LimitKind) (t : RawTree) (rest : List Marked) (inner : Bool) → shown inner (term_text d mark t rest) ≡ blank inner ++ (term_printed t ++ shown false rest)
@@ -283,9 +324,9 @@ goals_shown n (g ∷ gs) rest x h =
     ∙ ap (λ (ys : List ℕ). codes "\n" ++ ys) (sym (regroup_seven (codes "goal ") g.head.name binds (codes " :") clause (codes "\n") later x))
 
 -- the whole
-parts_joined : (a s f e t r g : List ℕ) →
-    (((((a ++ s) ++ f) ++ e) ++ t) ++ r) ++ g ≡ a ++ (s ++ (f ++ (e ++ (t ++ (r ++ (g ++ []))))))
-parts_joined a s f e t r g = simp (append_assoc, append-nil)
+parts_joined : (a s f e t o r g : List ℕ) →
+    ((((((a ++ s) ++ f) ++ e) ++ t) ++ o) ++ r) ++ g ≡ a ++ (s ++ (f ++ (e ++ (t ++ (o ++ (r ++ (g ++ [])))))))
+parts_joined a s f e t o r g = simp (append_assoc, append-nil)
 
 -- the header before all other lines
 headed : (version : ℕ) (x : List ℕ) → header_line version ++ x ≡ codes "spike " ++ (decimal version ++ (codes "\n" ++ x))
@@ -298,18 +339,20 @@ printed_is raw w p =
     let rules : List Marked = rules_text version 0 raw.rules goals in
     let goal_lines : List ℕ = flat_map goal_line raw.goals ++ [] in
     let rule_lines : List ℕ = flat_map rule_line raw.rules ++ goal_lines in
-    let status_lines : List ℕ = flat_map status_line raw.statuses ++ rule_lines in
+    let order_lines : List ℕ = order_line raw.order ++ rule_lines in
+    let status_lines : List ℕ = flat_map status_line raw.statuses ++ order_lines in
     let equal_lines : List ℕ = flat_map equal_line raw.equals ++ status_lines in
     let fun_lines : List ℕ = flat_map fun_line raw.funs ++ equal_lines in
     let sort_lines : List ℕ = flat_map sort_line raw.sorts ++ fun_lines in
     let a = goals_shown 0 raw.goals [] [] refl in
     let b = rules_shown version 0 raw.rules goals goal_lines a in
-    let c = statuses_shown raw.statuses p.ordered.0 rules rule_lines p.ordered.2 b in
-    let d = equals_shown raw.equals p.order p.ordered.0 status_lines p.ordered.1 c in
-    let e = funs_shown version 0 raw.funs p.order equal_lines d in
-    let f = sorts_shown version 0 0 raw.sorts p.sorts (funs_text version 0 raw.funs p.order) fun_lines p.are e in
-    let whole = ap (shown true) p.whole ∙ ap (λ (ys : List ℕ). codes "spike " ++ (decimal version ++ ys)) f in
+    let c = ap (shown false) p.ordered.4 ∙ order_shown raw.order rules rule_lines b in
+    let d = statuses_shown raw.statuses p.ordered.0 p.ordered.1 order_lines p.ordered.3 c in
+    let e = equals_shown raw.equals p.order p.ordered.0 status_lines p.ordered.2 d in
+    let f = funs_shown version 0 raw.funs p.order equal_lines e in
+    let g = sorts_shown version 0 0 raw.sorts p.sorts (funs_text version 0 raw.funs p.order) fun_lines p.are f in
+    let whole = ap (shown true) p.whole ∙ ap (λ (ys : List ℕ). codes "spike " ++ (decimal version ++ ys)) g in
     parts_joined (header_line version) (flat_map sort_line raw.sorts) (flat_map fun_line raw.funs)
-    (flat_map equal_line raw.equals) (flat_map status_line raw.statuses) (flat_map rule_line raw.rules)
-    (flat_map goal_line raw.goals)
+    (flat_map equal_line raw.equals) (flat_map status_line raw.statuses) (order_line raw.order)
+    (flat_map rule_line raw.rules) (flat_map goal_line raw.goals)
     ∙ headed version sort_lines ∙ sym whole

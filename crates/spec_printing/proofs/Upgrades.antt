@@ -85,6 +85,7 @@ module _ (reading : OneReading) where
         funs = s.funs;
         equals = s.equals;
         statuses = s.statuses;
+        order = s.order;
         rules = s.rules;
         goals = s.goals;
       })

@@ -1,9 +1,10 @@
 -- Printed forms that the checker computes.
-use Rattle.std.specs.Prelude.{◌≡◌, ℕ, List, [], ◌∷◌, ◌++◌, Bool, true, false, codes}
+use Rattle.std.specs.Prelude.{◌≡◌, ℕ, List, [], ◌∷◌, ◌++◌, Some, None, Bool, true, false, codes}
 use Rattle.spec_grammar.specs.declared.raw.RawName.{RawName}
 use Rattle.spec_grammar.specs.declared.raw.RawNames.{RawNames}
 use Rattle.spec_grammar.specs.declared.raw.RawSort.{RawSort}
 use Rattle.spec_grammar.specs.declared.raw.RawFun.{RawFun}
+use Rattle.spec_grammar.specs.declared.raw.RawWeight.{RawWeight}
 use Rattle.spec_grammar.specs.declared.raw.RawEq.{RawEq}
 use Rattle.spec_grammar.specs.declared.raw.RawGuard.{RawGuard}
 use Rattle.spec_grammar.specs.declared.raw.RawRule.{RawRule}
@@ -92,9 +93,27 @@ ordered = record {
       ∷ record { names = name (codes "f") ∷ name (codes "g") ∷ name (codes "h") ∷ [] } ∷ [];
   statuses = record { head = name (codes "add"); numbers = 2 ∷ 1 ∷ [] }
       ∷ record { head = name (codes "even"); numbers = 1 ∷ [] } ∷ [];
+  order = None;
   rules = guarded_rule ∷ [];
   goals = [];
 }
+
+-- the ordering by weights, of these weights
+abbrev pub weighed : List RawWeight → RawSpec
+weighed weights = record {
+  version = 2;
+  sorts = [];
+  funs = plus_fun ∷ [];
+  equals = [];
+  statuses = [];
+  order = Some (record { name = name (codes "kbo"); weights = weights });
+  rules = guarded_rule ∷ [];
+  goals = [];
+}
+
+abbrev pub two_weights : List RawWeight
+two_weights = record { name = name (codes "succ"); weight = 1 }
+    ∷ record { name = name (codes "plus"); weight = 20 } ∷ []
 
 -- `a = b`, `c = d`, `e = f` and `h = i`
 abbrev pub a_is_b : RawEq
@@ -123,6 +142,12 @@ pub record PrintedExamples : Type 0 where
   pub orders : printed ordered ≡ codes "spike 2\n"
       ++ codes "fun even(Nat) : Bool\nfun odd(Nat) : Bool\n"
       ++ codes "equal even, odd\nequal f, g, h\nstatus add(2, 1)\nstatus even(1)\n"
+      ++ codes "rule f(x, y) = g(x) if le(x, y) unless eq(x, y)\n"
+  pub weights : printed (weighed two_weights) ≡ codes "spike 2\n"
+      ++ codes "fun plus(Nat, Nat) : Nat\norder kbo : succ = 1, plus = 20\n"
+      ++ codes "rule f(x, y) = g(x) if le(x, y) unless eq(x, y)\n"
+  pub no_weights : printed (weighed []) ≡ codes "spike 2\n"
+      ++ codes "fun plus(Nat, Nat) : Nat\norder kbo\n"
       ++ codes "rule f(x, y) = g(x) if le(x, y) unless eq(x, y)\n"
   pub in_format_two : printed (upgraded declarations) ≡ codes "spike 2\n"
       ++ codes "sort Nat = zero | succ(Nat)\nfun plus(Nat, Nat) : Nat\n"

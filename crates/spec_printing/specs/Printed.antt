@@ -1,5 +1,5 @@
 -- The printed form of a raw specification: one line with its format, and one line a declaration.
-use Rattle.std.specs.Prelude.{ℕ, List, [], ◌∷◌, ◌++◌, codes, map, if◌then◌else◌}
+use Rattle.std.specs.Prelude.{ℕ, List, [], ◌∷◌, ◌++◌, Option, Some, None, codes, map, if◌then◌else◌}
 use Rattle.std.specs.Fmt.{decimal}
 use Rattle.std.specs.List.{flat_map}
 use Rattle.spec_grammar.specs.declared.raw.RawName.{RawName}
@@ -8,6 +8,8 @@ use Rattle.spec_grammar.specs.declared.raw.RawSort.{RawSort}
 use Rattle.spec_grammar.specs.declared.raw.RawFun.{RawFun}
 use Rattle.spec_grammar.specs.declared.raw.RawEqual.{RawEqual}
 use Rattle.spec_grammar.specs.declared.raw.RawStatus.{RawStatus}
+use Rattle.spec_grammar.specs.declared.raw.RawWeight.{RawWeight}
+use Rattle.spec_grammar.specs.declared.raw.RawOrder.{RawOrder}
 use Rattle.spec_grammar.specs.declared.raw.RawEq.{RawEq}
 use Rattle.spec_grammar.specs.declared.raw.RawGuard.{RawGuard}
 use Rattle.spec_grammar.specs.declared.raw.RawRule.{RawRule}
@@ -68,6 +70,22 @@ equal_line e = codes "equal" ++ spaced (codes ", ") (map (λ (n : RawName). n.na
 abbrev pub status_line : RawStatus → List ℕ
 status_line s = codes "status " ++ s.head.name ++ listed (map decimal s.numbers) ++ codes "\n"
 
+-- `NAME = NUMBER`
+abbrev pub weight_printed : RawWeight → List ℕ
+weight_printed w = w.name.name ++ codes " = " ++ decimal w.weight
+
+-- ` : NAME = NUMBER, NAME = NUMBER`, and nothing where there is no weight
+abbrev pub weights_printed : List RawWeight → List ℕ
+weights_printed [] = []
+weights_printed (w ∷ ws) =
+    codes " : " ++ weight_printed w ++ flat_map (λ x. codes ", " ++ weight_printed x) ws
+
+-- `order NAME : NAME = NUMBER, NAME = NUMBER`, where there is such a line
+abbrev pub order_line : Option RawOrder → List ℕ
+order_line None = []
+order_line (Some order) =
+    codes "order " ++ order.name.name ++ weights_printed order.weights ++ codes "\n"
+
 -- ` if TEST` or ` unless TEST`
 abbrev pub guard_printed : RawGuard → List ℕ
 guard_printed g = (if g.wanted then codes " if " else codes " unless ") ++ term_printed g.test
@@ -100,8 +118,8 @@ goal_line g = codes "goal " ++ g.head.name ++ listed (map bind_printed g.binds) 
 abbrev pub header_line : ℕ → List ℕ
 header_line version = codes "spike " ++ decimal version ++ codes "\n"
 
--- the header, the sorts, the functions and how they are ordered, the rules and the goals
+-- the header, the sorts, the functions and how terms are ordered, the rules and the goals
 abbrev pub printed : RawSpec → List ℕ
 printed raw = header_line raw.version ++ flat_map sort_line raw.sorts ++ flat_map fun_line raw.funs
-    ++ flat_map equal_line raw.equals ++ flat_map status_line raw.statuses
+    ++ flat_map equal_line raw.equals ++ flat_map status_line raw.statuses ++ order_line raw.order
     ++ flat_map rule_line raw.rules ++ flat_map goal_line raw.goals

@@ -1,5 +1,5 @@
 -- Raw specifications that are the same apart from the places of their names.
-use Rattle.std.specs.Prelude.{◌≡◌}
+use Rattle.std.specs.Prelude.{◌≡◌, Option, Some, None}
 use Rattle.std.specs.List.{AllZip}
 use Rattle.spec_grammar.specs.declared.raw.RawName.{RawName}
 use Rattle.spec_grammar.specs.declared.raw.RawNames.{RawNames}
@@ -7,6 +7,8 @@ use Rattle.spec_grammar.specs.declared.raw.RawSort.{RawSort}
 use Rattle.spec_grammar.specs.declared.raw.RawFun.{RawFun}
 use Rattle.spec_grammar.specs.declared.raw.RawEqual.{RawEqual}
 use Rattle.spec_grammar.specs.declared.raw.RawStatus.{RawStatus}
+use Rattle.spec_grammar.specs.declared.raw.RawWeight.{RawWeight}
+use Rattle.spec_grammar.specs.declared.raw.RawOrder.{RawOrder}
 use Rattle.spec_grammar.specs.declared.raw.RawEq.{RawEq}
 use Rattle.spec_grammar.specs.declared.raw.RawGuard.{RawGuard}
 use Rattle.spec_grammar.specs.declared.raw.RawRule.{RawRule}
@@ -50,6 +52,17 @@ SameEqual e f = AllZip SameName e.names f.names
 abbrev pub SameStatus : RawStatus → RawStatus → Type 0
 SameStatus s t = SameName s.head t.head × (s.numbers ≡ t.numbers)
 
+-- the same symbol and weight
+abbrev pub SameWeight : RawWeight → RawWeight → Type 0
+SameWeight w x = SameName w.name x.name × (w.weight ≡ x.weight)
+
+-- no line in both, or the same name and weights
+abbrev pub SameOrder : Option RawOrder → Option RawOrder → Type 0
+SameOrder None None = Unit {0}
+SameOrder None (Some p) = ⊥
+SameOrder (Some o) None = ⊥
+SameOrder (Some o) (Some p) = SameName o.name p.name × AllZip SameWeight o.weights p.weights
+
 -- the same sides
 abbrev pub SameEquation : RawEq → RawEq → Type 0
 SameEquation e f = SameTerm e.left f.left × SameTerm e.right f.right
@@ -81,5 +94,6 @@ pub record IsSameButPlaces (raw other : RawSpec) : Type 0 where
   pub funs : AllZip SameFun raw.funs other.funs
   pub equals : AllZip SameEqual raw.equals other.equals
   pub statuses : AllZip SameStatus raw.statuses other.statuses
+  pub order : SameOrder raw.order other.order
   pub rules : AllZip SameRule raw.rules other.rules
   pub goals : AllZip SameGoal raw.goals other.goals

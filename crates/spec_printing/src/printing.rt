@@ -5,11 +5,11 @@ ghost use Rattle.spec_grammar.specs.RawTree.{raw_trees};
 ghost use Rattle.spec_grammar.specs.declared.raw.RawName.{RawName};
 ghost use Rattle.spec_printing.specs.ReadsBack.{ReadsBackAs};
 ghost use Rattle.spec_printing.specs.Upgraded.{upgraded};
-ghost use Rattle.spec_printing.specs.Printed.{printed, header_line, listed, spaced, term_printed, others_printed, sides_printed, equation_printed, names_printed, sort_line, fun_line, equal_line, status_line, guard_printed, rule_line, bind_printed, arrow_printed, clause_printed, goal_line};
+ghost use Rattle.spec_printing.specs.Printed.{printed, header_line, listed, spaced, term_printed, others_printed, sides_printed, equation_printed, names_printed, sort_line, fun_line, equal_line, status_line, weight_printed, weights_printed, order_line, guard_printed, rule_line, bind_printed, arrow_printed, clause_printed, goal_line};
 
 use spec_grammar::{
-    RawBind, RawEq, RawEqual, RawFun, RawGoal, RawGuard, RawName, RawNames, RawRule, RawSort,
-    RawSpec, RawStatus, RawTerm,
+    RawBind, RawEq, RawEqual, RawFun, RawGoal, RawGuard, RawName, RawNames, RawOrder, RawRule,
+    RawSort, RawSpec, RawStatus, RawTerm, RawWeight,
 };
 use std::alloc::Global;
 use term_core::{OutOfMemory, front};
@@ -40,6 +40,7 @@ fn printed_form(alloc: Global, version: u32, raw: &RawSpec) -> Result<Vec<u8>, O
     append_funs(raw.funs.as_slice(), &mut text)?;
     append_equals(raw.equals.as_slice(), &mut text)?;
     append_statuses(alloc, raw.statuses.as_slice(), &mut text)?;
+    append_order(alloc, &raw.order, &mut text)?;
     append_rules(raw.rules.as_slice(), &mut text)?;
     append_goals(raw.goals.as_slice(), &mut text)?;
     Ok(text)
@@ -223,6 +224,54 @@ fn append_numbers(alloc: Global, numbers: &[u32], text: &mut Vec<u8>) -> Result<
         append_number(alloc, *other, text)?;
     }
     text.push(b')')?;
+    Ok(())
+}
+
+/// Appends `order NAME : NAME = NUMBER, NAME = NUMBER`, and nothing where there is no such line.
+fn append_order(
+    alloc: Global,
+    order: &Option<RawOrder>,
+    text: &mut Vec<u8>,
+) -> Result<(), OutOfMemory>
+    ensures { OnOk result (text.new.items ≡ text.old.items ++ order_line order.now) }
+{
+    let Some(order) = order else {
+        return Ok(());
+    };
+    text.extend_from_slice(b"order ")?;
+    text.extend_from_slice(order.name.name.as_bytes())?;
+    append_weights(alloc, order.weights.as_slice(), text)?;
+    text.push(b'\n')?;
+    Ok(())
+}
+
+/// Appends ` : NAME = NUMBER, NAME = NUMBER`.
+fn append_weights(
+    alloc: Global,
+    weights: &[RawWeight],
+    text: &mut Vec<u8>,
+) -> Result<(), OutOfMemory>
+    ensures { OnOk result (text.new.items ≡ text.old.items ++ weights_printed weights.now) }
+{
+    let Some((first, others)) = front(weights) else {
+        return Ok(());
+    };
+    text.extend_from_slice(b" : ")?;
+    append_weight(alloc, first, text)?;
+    for other in others {
+        text.extend_from_slice(b", ")?;
+        append_weight(alloc, other, text)?;
+    }
+    Ok(())
+}
+
+/// Appends `NAME = NUMBER`.
+fn append_weight(alloc: Global, weight: &RawWeight, text: &mut Vec<u8>) -> Result<(), OutOfMemory>
+    ensures { OnOk result (text.new.items ≡ text.old.items ++ weight_printed weight.now) }
+{
+    text.extend_from_slice(weight.name.name.as_bytes())?;
+    text.extend_from_slice(b" = ")?;
+    append_number(alloc, weight.weight, text)?;
     Ok(())
 }
 

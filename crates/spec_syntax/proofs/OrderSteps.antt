@@ -1,10 +1,11 @@
--- Lines that order functions, from their items, and texts of these items with one more at the end.
+-- The lines on the order of terms, from their items, and texts of these items with one more at the end.
 use Rattle.std.proofs.Common.{◌≡◌, ℕ, ◌+◌, ◌<◌, List, [], ◌∷◌, ◌++◌, None, length, refl, ap, sym, subst, ◌∙◌, arith}
-use Rattle.spec_grammar.specs.declared.keys.Key.TheVariants.{Equal, Status, LeftPar, RightPar, Comma}
+use Rattle.spec_grammar.specs.declared.keys.Key.TheVariants.{Equal, Status, LeftPar, RightPar, Comma, Colon}
 use Rattle.spec_grammar.specs.declared.raw.RawName.{RawName}
 use Rattle.spec_grammar.specs.declared.raw.RawEqual.{RawEqual}
 use Rattle.spec_grammar.specs.declared.raw.RawStatus.{RawStatus}
-use Rattle.spec_grammar.specs.Grammar.{Marked, sign, name_text, more_equal_text, AreEquals, numeral_text, more_numbers_text, AreStatuses}
+use Rattle.spec_grammar.specs.declared.raw.RawWeight.{RawWeight}
+use Rattle.spec_grammar.specs.Grammar.{Marked, sign, name_text, more_equal_text, AreEquals, numeral_text, more_numbers_text, AreStatuses, weight_text, more_weights_text, weights_text}
 use Rattle.spec_grammar.specs.Limits.{arity_mark}
 use Rattle.spec_syntax.specs.ReadingOrders.{AreNumbers}
 use Rattle.spec_syntax.proofs.Grow.{items_grow}
@@ -92,3 +93,25 @@ pub statuses_join :
     → AreStatuses (ss ++ others) w v
 statuses_join [] others w u v a b = subst (λ (x : List Marked). AreStatuses others x v) (sym a) b
 statuses_join (s ∷ ss) others w u v a b = (a.0, a.1, a.2, a.3, a.4, statuses_join ss others a.2 u v a.5 b)
+
+-- the weights after a colon, before what follows
+abbrev pub opened_weights : List RawWeight → List Marked → List Marked
+opened_weights [] v = sign Colon ∷ v
+opened_weights (w ∷ ws) v = sign Colon ∷ weight_text w (more_weights_text ws v)
+
+more_weights_grow :
+    (ws : List RawWeight) (w : RawWeight) (v : List Marked)
+    → more_weights_text (ws ++ w ∷ []) v ≡ more_weights_text ws (sign Comma ∷ weight_text w v)
+more_weights_grow [] w v = refl
+more_weights_grow (x ∷ ws) w v = ap (λ (u : List Marked). sign Comma ∷ weight_text x u) (more_weights_grow ws w v)
+
+pub opened_weights_grow :
+    (ws : List RawWeight) (w : RawWeight) (v : List Marked) → 0 < length ws
+    → opened_weights (ws ++ w ∷ []) v ≡ opened_weights ws (sign Comma ∷ weight_text w v)
+opened_weights_grow [] w v h = absurd (omega arith)
+opened_weights_grow (x ∷ ws) w v h = ap (λ (u : List Marked). sign Colon ∷ weight_text x u) (more_weights_grow ws w v)
+
+pub opened_weights_are :
+    (ws : List RawWeight) (v : List Marked) → 0 < length ws → opened_weights ws v ≡ weights_text ws v
+opened_weights_are [] v h = absurd (omega arith)
+opened_weights_are (w ∷ ws) v h = refl

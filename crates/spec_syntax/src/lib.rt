@@ -22,6 +22,6 @@ pub use fault::SyntaxFault;
 pub use laws::one_fault;
 pub use reading::{read, read_term};
 pub use spec_grammar::{
-    LimitKind, RawBind, RawEq, RawEqual, RawFun, RawGoal, RawGuard, RawName, RawNames, RawRule,
-    RawSort, RawSpec, RawStatus, RawTerm, RawTerms,
+    LimitKind, RawBind, RawEq, RawEqual, RawFun, RawGoal, RawGuard, RawName, RawNames, RawOrder,
+    RawRule, RawSort, RawSpec, RawStatus, RawTerm, RawTerms, RawWeight,
 };

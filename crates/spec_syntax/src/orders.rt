@@ -1,44 +1,57 @@
 ghost use Rattle.std.specs.Prelude.{◌+◌, ◌∷◌, []};
-ghost use Rattle.spec_grammar.specs.Grammar.{sign, name_text, numeral_text, AreEquals, AreStatuses};
+ghost use Rattle.spec_grammar.specs.Grammar.{sign, name_text, numeral_text, weight_text, weights_text, order_text, AreEquals, AreStatuses};
 ghost use Rattle.spec_grammar.specs.Items.{items_of};
 ghost use Rattle.spec_grammar.specs.Limits.{arity_mark};
-ghost use Rattle.spec_grammar.specs.Symbols.{equals as equals_symbol, more_equal as more_equal_symbol, statuses as statuses_symbol, numeral as numeral_symbol, more_numbers as more_numbers_symbol};
+ghost use Rattle.spec_grammar.specs.Symbols.{equals as equals_symbol, more_equal as more_equal_symbol, statuses as statuses_symbol, numeral as numeral_symbol, more_numbers as more_numbers_symbol, order as order_symbol, weights as weights_symbol, more_weights as more_weights_symbol, weight_then};
 ghost use Rattle.spec_grammar.specs.declared.keys.Key.TheVariants.{Comma, Equal, Status};
 ghost use Rattle.spec_syntax.specs.Reading.{Reads, ReadsAs, ReadsNext, ReadsNextAs};
 ghost use Rattle.spec_syntax.specs.ReadingOrders.{ReadsOrder, AreNumbers, equal_symbols, number_symbols, status_symbols};
 
 use crate::stop::Stop;
 use crate::words::{Source, over};
-use spec_grammar::{Key, LimitKind, MAX_ARGUMENTS, RawEqual, RawName, RawStatus};
+use spec_grammar::{
+    Key, LimitKind, MAX_ARGUMENTS, RawEqual, RawName, RawOrder, RawStatus, RawWeight,
+};
 use spec_text::Token;
 use term_core::Seq;
 
-/// The lines that order functions.
+/// The lines on the order of terms.
 #[derive(Drop)]
 pub(crate) struct OrderLines {
     pub(crate) equals: Seq<RawEqual>,
     pub(crate) statuses: Seq<RawStatus>,
+    pub(crate) order: Option<RawOrder>,
 }
 
 impl<'a> Source<'a> {
-    /// The lines of a format that order functions, of which the first format has none.
+    /// The lines of a format on the order of terms, of which the first format has none.
     pub(crate) fn order<'t>(
         &self,
         tokens: &'t [Token],
         version: u32,
     ) -> Result<(OrderLines, &'t [Token]), Stop>
-        ensures { ReadsOrder version (λ x. x.0.equals) (λ x. x.0.statuses)
-            (λ x. items_of self.now.bytes.now x.1.now) (items_of self.now.bytes.now tokens.now)
-            result }
+        ensures { ReadsOrder version (λ x. x.0) (λ x. items_of self.now.bytes.now x.1.now)
+            (items_of self.now.bytes.now tokens.now) result }
     {
         if version != 2 {
             let equals = Seq::new(self.alloc);
             let statuses = Seq::new(self.alloc);
-            return Ok((OrderLines { equals, statuses }, tokens));
+            let lines = OrderLines {
+                equals,
+                statuses,
+                order: None,
+            };
+            return Ok((lines, tokens));
         }
         let (equals, rest) = self.equals(tokens)?;
         let (statuses, rest) = self.statuses(rest)?;
-        Ok((OrderLines { equals, statuses }, rest))
+        let (order, rest) = self.order_line(rest)?;
+        let lines = OrderLines {
+            equals,
+            statuses,
+            order,
+        };
+        Ok((lines, rest))
     }
 
     /// The equal lines.
@@ -177,6 +190,64 @@ impl<'a> Source<'a> {
         };
         let (number, rest) = self.number(next, over(n, MAX_ARGUMENTS, LimitKind::Arity))?;
         Ok(Some((number, rest)))
+    }
+
+    /// The line of the ordering, if there is one.
+    #[tactic(auto, unfolding(spec_grammar::specs::Symbols::run))]
+    fn order_line<'t>(&self, tokens: &'t [Token]) -> Result<(Option<RawOrder>, &'t [Token]), Stop>
+        ensures { Reads (λ x. order_text x.0) (λ x. items_of self.now.bytes.now x.1.now)
+            (order_symbol ∷ []) (items_of self.now.bytes.now tokens.now) result }
+    {
+        let Some(next) = self.after_key(tokens, Key::Order) else {
+            return Ok((None, tokens));
+        };
+        let (name, rest) = self.name(next, None)?;
+        let (weights, rest) = self.weights(rest)?;
+        Ok((Some(RawOrder { name, weights }), rest))
+    }
+
+    /// The weights after a colon, if there is one.
+    #[tactic(auto, unfolding(spec_grammar::specs::Symbols::run))]
+    fn weights<'t>(&self, tokens: &'t [Token]) -> Result<(Seq<RawWeight>, &'t [Token]), Stop>
+        ensures { Reads (λ x. weights_text x.0) (λ x. items_of self.now.bytes.now x.1.now)
+            (weights_symbol ∷ []) (items_of self.now.bytes.now tokens.now) result }
+    {
+        let mut made = Seq::new(self.alloc);
+        let Some(next) = self.after_key(tokens, Key::Colon) else {
+            return Ok((made, tokens));
+        };
+        let (first, mut rest) = self.weight(next)?;
+        made.push(first)?;
+        while let Some((weight, after)) = self.next_weight(rest)? {
+            made.push(weight)?;
+            rest = after;
+        }
+        Ok((made, rest))
+    }
+
+    /// The weight after a comma; None where no comma comes next.
+    #[tactic(auto, unfolding(spec_grammar::specs::Symbols::run))]
+    fn next_weight<'t>(&self, tokens: &'t [Token]) -> Result<Option<(RawWeight, &'t [Token])>, Stop>
+        ensures { ReadsNext (λ x v. sign Comma ∷ weight_text x.0 v)
+            (λ x. items_of self.now.bytes.now x.1.now) more_weights_symbol more_weights_symbol
+            (items_of self.now.bytes.now tokens.now) result }
+    {
+        let Some(next) = self.after_key(tokens, Key::Comma) else {
+            return Ok(None);
+        };
+        let (weight, rest) = self.weight(next)?;
+        Ok(Some((weight, rest)))
+    }
+
+    /// The weight of a symbol.
+    fn weight<'t>(&self, tokens: &'t [Token]) -> Result<(RawWeight, &'t [Token]), Stop>
+        ensures { Reads (λ x. weight_text x.0) (λ x. items_of self.now.bytes.now x.1.now)
+            (weight_then []) (items_of self.now.bytes.now tokens.now) result }
+    {
+        let (name, rest) = self.name(tokens, None)?;
+        let rest = self.expect(rest, Key::Equals)?;
+        let (weight, rest) = self.number(rest, None)?;
+        Ok((RawWeight { name, weight }, rest))
     }
 
     /// The number that has to come next, in a place that may pass a limit.

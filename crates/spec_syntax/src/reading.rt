@@ -79,17 +79,22 @@ impl<'a> Source<'a> {
         let (version, rest) = self.format(rest)?;
         let (sorts, rest) = self.sorts(rest, version)?;
         let (funs, rest) = self.functions(rest, version)?;
-        let (order, rest) = self.order(rest, version)?;
+        let (lines, rest) = self.order(rest, version)?;
         let (rules, rest) = self.rules(rest, version)?;
         let (goals, rest) = self.goals(rest)?;
         self.expect_end(rest)?;
-        let OrderLines { equals, statuses } = order;
+        let OrderLines {
+            equals,
+            statuses,
+            order,
+        } = lines;
         Ok(RawSpec {
             version,
             sorts,
             funs,
             equals,
             statuses,
+            order,
             rules,
             goals,
         })

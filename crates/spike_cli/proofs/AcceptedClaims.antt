@@ -7,7 +7,7 @@ use Rattle.spec_core.specs.declared.records.Goal.{Goal}
 use Rattle.spec_core.specs.declared.records.Spec.{Spec}
 use Rattle.spec_core.specs.Order.{substitutions}
 use Rattle.spec_core.specs.WellSorted.{IsWellSorted}
-use Rattle.clause_core.specs.Orders.{above_of}
+use Rattle.spec_order.specs.Orders.{above_of}
 use Rattle.refuter.specs.declared.answers.Search.{Search}
 use Rattle.refuter.specs.declared.answers.Search.TheVariants.{Found, NotFound}
 use Rattle.refuter.specs.Finds.{Finds, IsFalse}

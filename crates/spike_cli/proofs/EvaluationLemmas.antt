@@ -8,7 +8,7 @@ use Rattle.spec_core.specs.WellSorted.{IsWellSorted}
 use Rattle.spec_core.specs.Sig.{Sig}
 use Rattle.spec_core.specs.TermText.{SymbolsAreInRange, term_text}
 use Rattle.spec_core.specs.Gives.{Gives}
-use Rattle.clause_core.specs.Orders.{above_of}
+use Rattle.spec_order.specs.Orders.{above_of}
 use Rattle.clause_core.specs.Admitted.{IsAdmitted}
 use Rattle.spec_core.proofs.Keeps.{keeps}
 use Rattle.accepted_spec.specs.declared.refusals.Refusal.{Refusal}

@@ -14,6 +14,8 @@ use Rattle.spec_grammar.specs.declared.raw.RawSort.{RawSort}
 use Rattle.spec_grammar.specs.declared.raw.RawFun.{RawFun}
 use Rattle.spec_grammar.specs.declared.raw.RawEqual.{RawEqual}
 use Rattle.spec_grammar.specs.declared.raw.RawStatus.{RawStatus}
+use Rattle.spec_grammar.specs.declared.raw.RawWeight.{RawWeight}
+use Rattle.spec_grammar.specs.declared.raw.RawOrder.{RawOrder}
 use Rattle.spec_grammar.specs.declared.raw.RawEq.{RawEq}
 use Rattle.spec_grammar.specs.declared.raw.RawGuard.{RawGuard}
 use Rattle.spec_grammar.specs.declared.raw.RawRule.{RawRule}
@@ -23,7 +25,7 @@ use Rattle.spec_grammar.specs.declared.raw.RawSpec.{RawSpec}
 use Rattle.spec_grammar.specs.RawTree.{RawTree, RawTrees, word, none, some}
 use Rattle.spec_grammar.specs.Items.{Word, reserved}
 use Rattle.spec_grammar.specs.Limits.{name_mark, constructor_mark, term_mark, variable_mark, premise_mark, conclusion_mark}
-use Rattle.spec_grammar.specs.Grammar.{Marked, sign, name_text, term_text, args_text, more_text, more_names_text, names_text, con_text, constructors_text, AreSorts, funs_text, more_equal_text, AreEquals, more_numbers_text, AreStatuses, IsOrderText, guards_text, sides_text, rules_text, commas_text, premises_text, bars_text, conclusions_text, IsClause, more_binds_text, binds_text, AreGoals, IsSpecText}
+use Rattle.spec_grammar.specs.Grammar.{Marked, sign, name_text, term_text, args_text, more_text, more_names_text, names_text, con_text, constructors_text, AreSorts, funs_text, more_equal_text, AreEquals, more_numbers_text, AreStatuses, more_weights_text, weights_text, order_text, IsOrderText, guards_text, sides_text, rules_text, commas_text, premises_text, bars_text, conclusions_text, IsClause, more_binds_text, binds_text, AreGoals, IsSpecText}
 use Rattle.spec_grammar.specs.Derives.{TextDerives}
 use Rattle.spec_printing.proofs.Plain.{IsGood, AllGood}
 use Rattle.spec_printing.proofs.Pieces.{tokens_good}
@@ -253,24 +255,38 @@ statuses_behind (s ∷ ss) w v (first, others, after, listed, is, rest) h =
     let closed = more_numbers_behind 1 others (sign RightPar ∷ after) good.2.2.2.2 in
     statuses_behind ss after v rest closed.2
 
+-- and what comes after the line of the ordering
+after_more_weights : (ws : List RawWeight) (v : List Marked) → AllGood (more_weights_text ws v) → AllGood v
+after_more_weights [] v h = h
+after_more_weights (w ∷ ws) v h = after_more_weights ws v h.2.2.2.2
+
+after_weights : (ws : List RawWeight) (v : List Marked) → AllGood (weights_text ws v) → AllGood v
+after_weights [] v h = h
+after_weights (w ∷ ws) v h = after_more_weights ws v h.2.2.2.2
+
+after_order_line : (order : Option RawOrder) (v : List Marked) → AllGood (order_text order v) → AllGood v
+after_order_line None v h = h
+after_order_line (Some line) v h = after_weights line.weights v h.2.2
+
 order_behind : (raw : RawSpec) (w v : List Marked) → IsOrderText raw w v → AllGood w → AllGood v
-order_behind raw w v (middle, are_equals, are_statuses) h =
+order_behind raw w v (middle, line, are_equals, are_statuses, is_line) h =
     let after_equals = equals_behind raw.equals w middle are_equals h in
-    statuses_behind raw.statuses middle v are_statuses after_equals
+    let after_statuses = statuses_behind raw.statuses middle line are_statuses after_equals in
+    after_order_line raw.order v (subst AllGood is_line after_statuses)
 
 pub raw_names_stand : (bytes : List ℕ) (raw : RawSpec) → TextDerives IsSpecText bytes raw → RawNamesStand raw
 raw_names_stand bytes raw (
   tokens,
   are_tokens,
-  (sorts_text, order_text, goals_text, is, are_sorts, is_order, are_goals, known),
+  (sorts_text, lines_text, goals_text, is, are_sorts, is_order, are_goals, known),
 ) =
     let version = raw.version in
     let rules = rules_text version 0 raw.rules goals_text in
     let good = subst AllGood is (tokens_good bytes tokens (spans_hold bytes tokens are_tokens).spelled) in
-    let sorts = sorts_words version 0 0 raw.sorts sorts_text (funs_text version 0 raw.funs order_text)
+    let sorts = sorts_words version 0 0 raw.sorts sorts_text (funs_text version 0 raw.funs lines_text)
     are_sorts good.2.2 in
-    let funs = funs_words version 0 raw.funs order_text sorts.1 in
-    let after_order = order_behind raw order_text rules is_order funs.1 in
+    let funs = funs_words version 0 raw.funs lines_text sorts.1 in
+    let after_order = order_behind raw lines_text rules is_order funs.1 in
     record {
       constructors = sorts.0;
       functions = funs.0;

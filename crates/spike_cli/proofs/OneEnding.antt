@@ -21,7 +21,7 @@ use Rattle.sort_check.proofs.OneSpec.{one_spec}
 use Rattle.sort_check.proofs.WellSortedSpecs.{stands_well_sorted}
 use Rattle.sort_check.proofs.Names.{symbols_distinct}
 use Rattle.sort_check.proofs.OneTerm.{one_term}
-use Rattle.clause_core.specs.Orders.{above_of}
+use Rattle.spec_order.specs.Orders.{above_of}
 use Rattle.spec_admit.specs.FirstFault.{Tells as IsFirstFault}
 use Rattle.spec_admit.specs.Laws.{NoFaultWhereAdmitted, OneFault}
 use Rattle.spec_admit.specs.declared.faults.AdmitFault.{AdmitFault}

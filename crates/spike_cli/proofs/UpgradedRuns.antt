@@ -1,5 +1,5 @@
 -- A report gets one reply on a file and on its upgraded form: both stand for one specification.
-use Rattle.std.proofs.Common.{◌≡◌, ◌<◌, ◌≤◌, ℕ, List, ◌++◌, Option, Some, Bool, true, false, cond, refl, sym, subst, arith, length}
+use Rattle.std.proofs.Common.{◌≡◌, ◌≤◌, ℕ, List, ◌++◌, Some, Bool, true, false, cond, refl, sym, subst, arith, length}
 use Rattle.std.specs.Prelude.{codes, take}
 use Rattle.std.specs.Fmt.{digits}
 use Rattle.std.specs.Str.{bytes_eq}

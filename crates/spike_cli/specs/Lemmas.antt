@@ -2,7 +2,7 @@
 use Rattle.std.specs.Prelude.{ℕ, List, [], Contains}
 use Rattle.spec_core.specs.declared.records.Goal.{Goal}
 use Rattle.spec_core.specs.declared.records.Spec.{Spec}
-use Rattle.clause_core.specs.Orders.{above_of}
+use Rattle.spec_order.specs.Orders.{above_of}
 use Rattle.clause_core.specs.declared.reports.Claim.{Claim}
 use Rattle.acceptance.specs.Accepting.{ClaimsAreAccepted}
 use Rattle.acceptance.specs.Claims.{IsClaimed, ProvedBefore}

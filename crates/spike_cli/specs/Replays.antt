@@ -1,7 +1,7 @@
 -- What `replay` writes for a report on an admitted specification.
 use Rattle.std.specs.Prelude.{ℕ, List, Option, codes}
 use Rattle.spec_core.specs.declared.records.Spec.{Spec}
-use Rattle.clause_core.specs.Orders.{above_of}
+use Rattle.spec_order.specs.Orders.{above_of}
 use Rattle.clause_core.specs.declared.reports.ReplayWhy.{ReplayWhy}
 use Rattle.clause_core.specs.declared.reports.Report.{Report}
 use Rattle.proof_script.specs.Texts.{IsReportText}

@@ -1,17 +1,17 @@
 ghost use Rattle.std.specs.Prelude.{◌≡◌, ◌≤◌, Some, IfOk, slice_get};
-ghost use Rattle.clause_core.specs.Orders.{order_of};
+ghost use Rattle.spec_order.specs.Orders.{order_of};
 ghost use Rattle.spike_cli.specs.Claims.{IsClaimOn, IsUnrefuted, budget_of};
 ghost use Rattle.spike_cli.specs.Lemmas.{AreLemmas};
 
 use clause_core::{Budget, Claim, Outcome};
 use command_line::ProofBounds;
-use path_order::Lpo;
 use plain_blocks::plain;
 use proof_search::{Guided, guided};
 use routine_proof::proves_behind_claims;
 use soundness::accepted_are_true;
 use spec_admit::Admitted;
 use spec_core::Goal;
+use spec_order::AnyOrder;
 use std::alloc::Global;
 use term_core::OutOfMemory;
 
@@ -26,7 +26,7 @@ pub struct NumberedGoal<'a> {
 /// search gives, or a plain or a routine proof where it finds no counterexample.
 pub fn claim_on(
     alloc: Global,
-    admitted: &Admitted<Lpo>,
+    admitted: &Admitted<AnyOrder>,
     goal: NumberedGoal<'_>,
     bounds: ProofBounds,
     lemmas: &[u32],
@@ -56,7 +56,7 @@ pub fn claim_on(
 /// What is claimed of a goal for which a search of these numbers found no counterexample.
 fn unrefuted(
     alloc: Global,
-    admitted: &Admitted<Lpo>,
+    admitted: &Admitted<AnyOrder>,
     goal: NumberedGoal<'_>,
     bounds: ProofBounds,
     lemmas: &[u32],

@@ -2,7 +2,7 @@ ghost use Rattle.std.specs.Prelude.{◌≡◌, ◌≤◌, [], IfOk, codes};
 ghost use Rattle.spec_core.specs.TermText.{SymbolsAreInRange};
 ghost use Rattle.spec_core.specs.WellSorted.{IsWellSorted};
 ghost use Rattle.clause_core.specs.Admitted.{IsAdmitted};
-ghost use Rattle.clause_core.specs.Orders.{above_of};
+ghost use Rattle.spec_order.specs.Orders.{above_of};
 ghost use Rattle.spec_core.specs.TermText.{term_text};
 ghost use Rattle.spike_cli.specs.Evaluations.{IsEvaluation, IsEvaluationText, lines_with};
 ghost use Rattle.spike_cli.specs.Evaluations.{spent_line as line_of_spent};

@@ -9,20 +9,20 @@ ghost use Rattle.spike_cli.specs.Upgrades.{UpgradesKeepMeaning};
 
 use acceptance::one_verdict;
 use command_line::one_request;
-use path_order::Lpo;
 use plain_blocks::one_block;
 use proof_script::{one_fault as one_faulty_line, one_report};
 use routine_proof::one_proof;
 use spec_admit::{no_fault_where_admitted, one_fault};
 use spec_meaning::{places_mean_nothing, upgrades_stand_for_the_same};
+use spec_order::AnyOrder;
 use spec_printing::upgrade_reads_back;
 
 /// What the text of a file leads to is one thing: an accepted specification, or a line of refusal.
 pub fn one_ending()
     ensures { OneEnding }
 {
-    no_fault_where_admitted::<Lpo>();
-    one_fault::<Lpo>();
+    no_fault_where_admitted::<AnyOrder>();
+    one_fault::<AnyOrder>();
 }
 
 /// What the bytes of a report lead to on a specification is one thing: that it is accepted, or the
@@ -32,7 +32,7 @@ pub fn one_replay()
 {
     one_report();
     one_faulty_line();
-    one_verdict::<Lpo>();
+    one_verdict::<AnyOrder>();
 }
 
 /// A search for counterexamples alone proves nothing: its claims are those of the search, and it
@@ -68,8 +68,8 @@ pub fn finished_runs_are_replayed()
 pub fn one_right_report()
     ensures { OneRightReport }
 {
-    one_block::<Lpo>();
-    one_proof::<Lpo>();
+    one_block::<AnyOrder>();
+    one_proof::<AnyOrder>();
 }
 
 /// What `upgrade` writes of an accepted text is accepted as the same specification, has at most three

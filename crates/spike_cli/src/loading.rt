@@ -4,7 +4,7 @@ ghost use Rattle.load_text.specs.LoadSpec.{load_spec};
 ghost use Rattle.proof_script.specs.Texts.{IsReportText};
 ghost use Rattle.acceptance.specs.Accepting.{IsAccepted};
 ghost use Rattle.clause_core.specs.declared.reports.Report.{Report as ReportOf};
-ghost use Rattle.clause_core.specs.Orders.{above_of, order_of};
+ghost use Rattle.spec_order.specs.Orders.{above_of, order_of};
 ghost use Rattle.spike_cli.specs.Loads.{IsLoad, SomeReport};
 ghost use Rattle.spike_cli.specs.Stops.{Finishes};
 ghost use Rattle.spike_cli.specs.Within.{HasReports};
@@ -19,12 +19,12 @@ use clause_core::Report;
 use command_line::ProofBounds;
 use io_core::{Sink, SureSink, write_all};
 use load_text::load_text;
-use path_order::Lpo;
 use proof_script::one_report;
 use replay_check::{Answer, replay};
 use reply_lines::load_lines;
 use report_reader::{ReportError, read_report};
 use spec_admit::Admitted;
+use spec_order::AnyOrder;
 use std::alloc::Global;
 use term_core::OutOfMemory;
 
@@ -75,7 +75,7 @@ fn generated(alloc: Global, goals: u32) -> Result<Accepted, OutOfMemory>
 }
 
 /// The report of the specification with the usual bounds, in memory.
-fn reported(alloc: Global, admitted: &Admitted<Lpo>) -> Result<SureSink, OutOfMemory>
+fn reported(alloc: Global, admitted: &Admitted<AnyOrder>) -> Result<SureSink, OutOfMemory>
     requires ordered { admitted.now.order ≡ order_of admitted.now.spec }
     requires reported { HasReports admitted.now.spec }
     ensures { IfOk result (SomeReport admitted.now.spec) }
@@ -89,7 +89,11 @@ fn reported(alloc: Global, admitted: &Admitted<Lpo>) -> Result<SureSink, OutOfMe
 }
 
 /// The report of these bytes, which is read and replayed: it is one that is accepted.
-fn replayed(alloc: Global, admitted: &Admitted<Lpo>, bytes: &[u8]) -> Result<Report, OutOfMemory>
+fn replayed(
+    alloc: Global,
+    admitted: &Admitted<AnyOrder>,
+    bytes: &[u8],
+) -> Result<Report, OutOfMemory>
     requires ordered { admitted.now.order ≡ order_of admitted.now.spec }
     requires finished { (report : ReportOf) × IsReportText admitted.now.spec.sig bytes.now report
         × IsAccepted (above_of admitted.now.spec) admitted.now.spec report }

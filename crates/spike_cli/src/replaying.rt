@@ -1,16 +1,16 @@
 ghost use Rattle.std.specs.Prelude.{◌≡◌, ◌≤◌, ℕ, List, [], ◌∷◌, IfOk};
-ghost use Rattle.clause_core.specs.Orders.{order_of};
+ghost use Rattle.spec_order.specs.Orders.{order_of};
 ghost use Rattle.spike_cli.specs.Replays.{IsFileReplay, IsFileReplayText, IsReplay, IsReplayText};
 ghost use Rattle.spike_cli.specs.Stops.{AsksFor, Finishes, FinishesReading};
 
 use crate::statuses::{Ending, Status};
 use crate::stops::Stop;
 use io_core::{Files, ReadError, Sink, write_all};
-use path_order::Lpo;
 use replay_check::{Answer, replay};
 use reply_lines::{no_line, reason, yes_line};
 use report_reader::{ReportError, read_report};
 use spec_admit::Admitted;
+use spec_order::AnyOrder;
 use std::alloc::Global;
 use term_core::OutOfMemory;
 
@@ -20,7 +20,7 @@ pub const MAX_REPORT_BYTES: usize = 67_108_864;
 /// Reads the report of a file, and writes whether it is accepted on a specification.
 pub fn replay_file<F: Files, S: Sink>(
     alloc: Global,
-    admitted: &Admitted<Lpo>,
+    admitted: &Admitted<AnyOrder>,
     report: &str,
     files: &mut F,
     out: &mut S,
@@ -49,7 +49,7 @@ pub fn replay_file<F: Files, S: Sink>(
 /// Writes whether the bytes are a report that is accepted.
 fn replay_bytes<S: Sink>(
     alloc: Global,
-    admitted: &Admitted<Lpo>,
+    admitted: &Admitted<AnyOrder>,
     bytes: &[u8],
     out: &mut S,
 ) -> Result<Status, Stop>
@@ -65,7 +65,11 @@ fn replay_bytes<S: Sink>(
 }
 
 /// What is written for the bytes of a report.
-fn reply_to(alloc: Global, admitted: &Admitted<Lpo>, bytes: &[u8]) -> Result<Ending, OutOfMemory>
+fn reply_to(
+    alloc: Global,
+    admitted: &Admitted<AnyOrder>,
+    bytes: &[u8],
+) -> Result<Ending, OutOfMemory>
     requires { admitted.now.order ≡ order_of admitted.now.spec }
     ensures { IfOk result
         (λ reply. IsReplay admitted.now.spec bytes.now reply.text.items reply.status) }

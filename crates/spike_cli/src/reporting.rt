@@ -1,5 +1,5 @@
 ghost use Rattle.std.specs.Prelude.{◌≡◌, ◌≤◌, ◌++◌, Some, OnOk, slice_get};
-ghost use Rattle.clause_core.specs.Orders.{order_of};
+ghost use Rattle.spec_order.specs.Orders.{order_of};
 ghost use Rattle.spike_cli.specs.Claims.{number_proved};
 ghost use Rattle.spike_cli.specs.Lemmas.{AreLemmas};
 ghost use Rattle.spike_cli.specs.Reports.{BeginsReport, IsReport, search_alone as search_alone_of};
@@ -12,13 +12,13 @@ use crate::stops::Stop;
 use clause_core::{Claim, Outcome};
 use command_line::{ProofBounds, SearchBounds};
 use io_core::{Sink, write_all};
-use path_order::Lpo;
 use plain_blocks::plain_blocks_stand;
 use proof_script::{print_claim, print_header};
 use routine_proof::{proves_behind_claims, routine_blocks_stand};
 use soundness::accepted_are_true;
 use spec_admit::Admitted;
 use spec_core::Signature;
+use spec_order::AnyOrder;
 use std::alloc::Global;
 use term_core::OutOfMemory;
 
@@ -36,7 +36,7 @@ pub fn search_alone(search: SearchBounds) -> ProofBounds
 /// Writes the report of the goals, each claim as soon as it is there.
 pub fn write_report<S: Sink>(
     alloc: Global,
-    admitted: &Admitted<Lpo>,
+    admitted: &Admitted<AnyOrder>,
     bounds: ProofBounds,
     out: &mut S,
 ) -> Result<Status, Stop>
@@ -86,7 +86,7 @@ fn write_header<S: Sink>(
 /// Writes the claim on a goal of the specification, with the goals of these numbers as lemmas.
 fn write_claim<S: Sink>(
     alloc: Global,
-    admitted: &Admitted<Lpo>,
+    admitted: &Admitted<AnyOrder>,
     goal: NumberedGoal<'_>,
     bounds: ProofBounds,
     lemmas: &[u32],

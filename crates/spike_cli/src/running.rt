@@ -4,7 +4,7 @@ ghost use Rattle.io_core.specs.Count.{Rose};
 ghost use Rattle.io_core.specs.declared.faults.ReadError.TheVariants as ReadError;
 ghost use Rattle.spec_grammar.specs.Limits.{file_limit as most_bytes};
 ghost use Rattle.spec_grammar.specs.KeepsLimits.{KeepsLimits};
-ghost use Rattle.clause_core.specs.Orders.{order_of};
+ghost use Rattle.spec_order.specs.Orders.{order_of};
 ghost use Rattle.command_line.specs.Commands.{file_of, task_of};
 ghost use Rattle.command_line.specs.Tasks.{Asks};
 ghost use Rattle.spike_cli.specs.Reads.{PassesItsLimit};

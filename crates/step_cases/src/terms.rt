@@ -11,7 +11,7 @@ use term_core::{Seq, SortId, Term, Terms, VarId, front};
 pub fn term(alloc: Global, sig: &Signature, text: &str) -> Result<Term> {
     match read_term(alloc, text.as_bytes()) {
         Ok(raw) => numbered(alloc, sig, &raw),
-        Err(_) => bail!("a term isn't read"),
+        Err(fault) => bail!("a term isn't read: {fault}"),
     }
 }
 

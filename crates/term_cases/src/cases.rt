@@ -2,10 +2,11 @@ use crate::levels::order_by_levels;
 use crate::signs::{is, number, term};
 use crate::{clause_cases, families};
 use anyhow::{Result, bail};
-use path_order::{Lpo, TermOrder};
+use path_order::Lpo;
 use std::alloc::Global;
 use substitutions::Subst;
 use term_core::{ReplaceError, SymId, Term, Terms, VarId};
+use term_order::TermOrder;
 use unifier::{ShiftError, matches, shift, unify};
 
 /// Whether the case comes out as it is written. In place of an answer `none` says that there is

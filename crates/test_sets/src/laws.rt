@@ -1,7 +1,7 @@
 ghost use Rattle.test_sets.specs.Examples.{WorkedExamples};
 ghost use Rattle.test_sets.specs.Laws.{CoverIsItsRow, TestSetsCover};
 
-use path_order::TermOrder;
+use term_order::TermOrder;
 
 /// The test set of a sort is of patterns of the sort and covers it.
 pub fn test_sets_cover()

@@ -1,6 +1,5 @@
-use Rattle.std.proofs.Common.{subst}
-use Rattle.path_order.specs.Above.{Above}
-use Rattle.clause_core.specs.ClauseLaws.{OneRelation}
+use Rattle.sample_specs.specs.SumOrder.{AboveInSums}
+use Rattle.clause_core.proofs.OneRelation.{one_relation}
 use Rattle.acceptance.proofs.RefusedReports.{accepted, behind_open, circular, step_too_many, unfinished, claimed_twice, case_left_out, by_itself, by_open, refuted, not_refuted, exchanged_names, unknown_goal}
 use Rattle.acceptance.proofs.UnitProof.{by_proved}
 use Rattle.acceptance.proofs.laws.worked_examples.Goals as goal
@@ -9,7 +8,7 @@ pub returns : goal.returns
 returns c =
     let numbers = c.worked_examples-2.ensures in
     let whole = c.worked_examples.ensures.naturals_are_admitted.whole in
-    let relation = subst (λ o. OneRelation (Above o)) c.by_number-order.ensures c.one_relation.ensures in
+    let relation = one_relation AboveInSums in
     let fine = numbers.well_sorted in
     record {
       accepted = accepted;

@@ -6,8 +6,8 @@ use Rattle.sort_check.specs.FirstFault.{HasFirstFault}
 use Rattle.accepted_spec.specs.declared.refusals.Subject.TheVariants.{File}
 use Rattle.sort_check.proofs.FewDeclarations.{few_declarations}
 use Rattle.clause_core.specs.Admitted.{IsAdmitted}
-use Rattle.clause_core.specs.Orders.{order_of}
-use Rattle.clause_core.proofs.OwnOrders.{by_own_order}
+use Rattle.spec_order.specs.Orders.{order_of}
+use Rattle.spec_order.proofs.OwnOrders.{by_own_order}
 use Rattle.spec_admit.specs.FirstFault.{Tells as IsFirstFault}
 use Rattle.accepted_spec.proofs.Told.{syntax_told, sort_told}
 use Rattle.accepted_spec.proofs.Accepting.{spec_within, text_told, accepted_as, refused_as, back_printable}
@@ -22,9 +22,9 @@ returns-in-Err-clause-refused c = text_told c.args.bytes.now c.syntax_refusal.re
 pub returns-in-Err-elaborate-clause-refused : goal.returns-in-Err-elaborate-clause-refused
 returns-in-Err-elaborate-clause-refused c = text_told c.args.bytes.now c.sort_refusal.result (sort_told File IsSpecText HasFirstFault c.args.bytes.now c.in-Ok.raw c.in-Ok.ensures.derived c.in-Err-elaborate.fault (λ at kind e. c.in-Err-elaborate.ensures.fault at kind (ap (λ f. Err f) e)) c.sort_refusal.result c.sort_refusal.ensures)
 
-pub order_of-requires : goal.order_of-requires
-order_of-requires c =
-    c.in-Ok-elaborate.ensures.sorted (keeps_limits c.args.bytes.now c.in-Ok.raw c.in-Ok.ensures.derived)
+pub of-requires : goal.of-requires
+of-requires c =
+    (c.in-Ok-elaborate.ensures.sorted (keeps_limits c.args.bytes.now c.in-Ok.raw c.in-Ok.ensures.derived)).order
 
 pub admit-requires-clause-sorted : goal.admit-requires-clause-sorted
 admit-requires-clause-sorted c = c.in-Ok-elaborate.ensures.sorted (keeps_limits c.args.bytes.now c.in-Ok.raw c.in-Ok.ensures.derived)

@@ -1,11 +1,11 @@
-use Rattle.std.proofs.Common.{◌≡◌, ℕ, [], ◌∷◌, inl, refl, subst, arith}
+use Rattle.std.proofs.Common.{◌≡◌, ℕ, [], ◌∷◌, inl, refl, arith}
 use Rattle.std.proofs.lemmas.List.Sorted.{IsPermutation-append_comm}
 use Rattle.term_core.specs.Tree.{Tree}
 use Rattle.spec_core.specs.Sorts.{Sorted}
 use Rattle.spec_core.specs.Naturals.{nat, naturals, naturals_sig, zero_term, succ_term, plus_term}
-use Rattle.path_order.specs.Above.{Above}
-use Rattle.path_order.specs.Rank.{IsRank}
-use Rattle.descent.specs.OneValue.{ValuesRankLower}
+use Rattle.sample_specs.specs.SumOrder.{AboveInSums, RankInSums}
+use Rattle.sample_specs.proofs.Sums.{sum_order_ranks}
+use Rattle.descent.proofs.HasValues.{one_value}
 use Rattle.descent.proofs.SmallWeights.{heavier, not_itself}
 use Rattle.descent.proofs.laws.worked_examples.Goals as goal
 
@@ -18,9 +18,8 @@ sum_is_sorted = (_, refl, refl, ((_, refl, refl, ((_, refl, refl, tt), tt)), ((_
 pub returns : goal.returns
 returns c =
     let numbers = c.worked_examples-2.ensures in
-    let lower = subst (λ o. ValuesRankLower (Above o) (IsRank o)) c.by_number-order.ensures
-    c.values_rank_lower.ensures in
-    let one = lower naturals numbers.well_sorted c.worked_examples.ensures.naturals_are_admitted sum nat
+    let admitted = c.worked_examples.ensures.naturals_are_admitted in
+    let one = one_value AboveInSums naturals numbers.well_sorted admitted RankInSums sum_order_ranks sum nat
     sum_is_sorted in
     let same = one.alone (succ_term zero_term) 2 numbers.one_plus_zero in
     record {

@@ -6,7 +6,7 @@ use Rattle.longest_chains.specs.Chains.{Descends, IsLongest}
 use Rattle.path_order.specs.Above.{Above, by_argument, by_head, this_is, all_none, all_some}
 use Rattle.path_order.specs.Bounded.{AboveWithin, SomeReachesWithin, AboveAllWithin, FallsWithin, within_argument, within_head, within_arguments, within_this_is, within_this_above, within_later, within_none, within_some, within_here, within_further}
 use Rattle.path_order.specs.Rank.{GroundAbove}
-use Rattle.path_order.specs.Each.{Each, each-map}
+use Rattle.longest_chains.proofs.Each.{Each, each-map}
 use Rattle.path_order.specs.Irreflexive.{same-arguments, same-symbol}
 use Rattle.path_order.specs.BoundedArguments.{within-each}
 use Rattle.path_order.specs.RankExamples.{alone, over, zero_term, succ_zero, GroundAboveUnbounded}

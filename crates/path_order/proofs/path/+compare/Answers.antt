@@ -5,10 +5,12 @@ use Rattle.term_core.specs.Measure.{weight, list_weight}
 use Rattle.term_core.specs.References.{terms_of}
 use Rattle.term_core.specs.Tree.{Tree, app, trees_of}
 use Rattle.term_core.specs.View.{tree_of}
-use Rattle.path_order.specs.Operands.{read, meaning, meanings}
+use Rattle.term_order.specs.Operands.{read, meaning}
+use Rattle.path_order.specs.Operands.{meanings}
 use Rattle.path_order.specs.declared.path.Standing.TheVariants.{Greater, Neither}
 use Rattle.path_order.proofs.Deciding.{greater_test, neither_test, all-then, all-else, some-then, some-else, all-empty, variable, smaller-head, other-head, at_greater, at_neither, all-same, none-differs, list-falls, level-weight, arranged-weight, positive, stands-as, same_more}
-use Rattle.path_order.proofs.Patterns.{operand_app, app_weight}
+use Rattle.term_order.proofs.Readings.{operand_app}
+use Rattle.path_order.proofs.Patterns.{app_weight}
 use Rattle.path_order.proofs.path.+compare.Goals as goal
 use Rattle.path_order.proofs.path.+compare.Goals.{compare-else-other_level-level-2-via-then-other_level-level-2+else-ts-ss, compare-else-other_level-level-2-via-else-other_level-level-2}
 

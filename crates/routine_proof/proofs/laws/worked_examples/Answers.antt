@@ -1,10 +1,7 @@
-use Rattle.std.proofs.Common.{subst}
-use Rattle.path_order.specs.Above.{Above}
-use Rattle.clause_core.specs.StepLaws.{OneAnswer}
+use Rattle.sample_specs.specs.SumOrder.{AboveInSums}
+use Rattle.clause_core.proofs.OneStep.{one_answer}
 use Rattle.routine_proof.proofs.WorkedExamples.{worked_examples}
 use Rattle.routine_proof.proofs.laws.worked_examples.Goals as goal
 
 pub returns : goal.returns
-returns c =
-    worked_examples (subst (λ o. OneAnswer (Above o)) c.by_number-order.ensures c.one_answer.ensures)
-    c.worked_examples.ensures.well_sorted
+returns c = worked_examples (one_answer AboveInSums) c.worked_examples.ensures.well_sorted

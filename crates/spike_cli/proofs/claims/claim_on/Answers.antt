@@ -1,7 +1,7 @@
 use Rattle.std.proofs.Common.{◌≡◌, sym, subst}
 use Rattle.clause_core.specs.Admitted.{IsAdmitted}
-use Rattle.clause_core.specs.Orders.{order_of}
-use Rattle.clause_core.proofs.OwnOrders.{by_own_order}
+use Rattle.spec_order.specs.Orders.{order_of}
+use Rattle.spec_order.proofs.OwnOrders.{by_own_order}
 use Rattle.routine_proof.specs.Laws.{ProvesBehindClaims}
 use Rattle.soundness.specs.AcceptedAreTrue.{AcceptedAreTrue}
 use Rattle.spike_cli.proofs.TrueClaims.{claim_made, looked_for, not_open}

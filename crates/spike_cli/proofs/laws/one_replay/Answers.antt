@@ -1,5 +1,5 @@
 use Rattle.spec_core.specs.declared.records.Spec.{Spec}
-use Rattle.clause_core.specs.Orders.{order_of}
+use Rattle.spec_order.specs.Orders.{order_of}
 use Rattle.spike_cli.proofs.OneReplay.{one, done}
 use Rattle.spike_cli.proofs.laws.one_replay.Goals as goal
 

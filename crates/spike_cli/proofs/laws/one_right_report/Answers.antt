@@ -1,4 +1,4 @@
-use Rattle.clause_core.specs.Orders.{order_of}
+use Rattle.spec_order.specs.Orders.{order_of}
 use Rattle.spike_cli.proofs.OneReport.{one_right_report}
 use Rattle.spike_cli.proofs.laws.one_right_report.Goals as goal
 

@@ -1,6 +1,6 @@
 use Rattle.std.proofs.Common.{◌∙◌, ap, subst}
-use Rattle.clause_core.specs.Orders.{above_by}
-use Rattle.clause_core.proofs.OwnOrders.{by_own_order}
+use Rattle.spec_order.specs.Orders.{above_by}
+use Rattle.spec_order.proofs.OwnOrders.{by_own_order}
 use Rattle.proof_script.specs.Texts.{IsReportText}
 use Rattle.replay_check.specs.declared.answers.Answer.{Answer}
 use Rattle.replay_check.specs.declared.answers.Answer.TheVariants.{Yes, No}

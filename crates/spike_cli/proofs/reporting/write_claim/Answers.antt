@@ -2,8 +2,8 @@ use Rattle.std.proofs.Common.{◌≡◌, ◌∙◌, List, ℕ, sym, subst}
 use Rattle.io_core.specs.Piece.{Appended}
 use Rattle.term_core.proofs.Items.{all_at}
 use Rattle.clause_core.specs.declared.reports.Claim.{Claim}
-use Rattle.clause_core.specs.Orders.{order_of}
-use Rattle.clause_core.proofs.OwnOrders.{by_own_order}
+use Rattle.spec_order.specs.Orders.{order_of}
+use Rattle.spec_order.proofs.OwnOrders.{by_own_order}
 use Rattle.plain_blocks.specs.StandingBlocks.{PlainBlocksStand}
 use Rattle.routine_proof.specs.Standing.{RoutineBlocksStand}
 use Rattle.search_claims.specs.Names.{GoalNamesStand}

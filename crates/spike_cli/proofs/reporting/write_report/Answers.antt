@@ -5,8 +5,8 @@ use Rattle.std.proofs.lemmas.Option.{slice_get_read}
 use Rattle.io_core.specs.Piece.{Appended}
 use Rattle.spec_core.specs.declared.records.Goal.{Goal}
 use Rattle.clause_core.specs.declared.reports.Claim.{Claim}
-use Rattle.clause_core.specs.Orders.{order_of}
-use Rattle.clause_core.proofs.OwnOrders.{by_own_order}
+use Rattle.spec_order.specs.Orders.{order_of}
+use Rattle.spec_order.proofs.OwnOrders.{by_own_order}
 use Rattle.plain_blocks.specs.StandingBlocks.{PlainBlocksStand}
 use Rattle.routine_proof.specs.Standing.{RoutineBlocksStand}
 use Rattle.routine_proof.specs.Laws.{ProvesBehindClaims}

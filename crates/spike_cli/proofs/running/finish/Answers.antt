@@ -5,7 +5,7 @@ use Rattle.command_line.specs.declared.bounds.ProofBounds.{ProofBounds}
 use Rattle.command_line.specs.declared.commands.Command.{Command}
 use Rattle.spec_core.specs.declared.records.Spec.{Spec}
 use Rattle.clause_core.specs.Admitted.{IsAdmitted}
-use Rattle.clause_core.specs.Orders.{above_of}
+use Rattle.spec_order.specs.Orders.{above_of}
 use Rattle.spike_cli.specs.Evaluations.{IsEvaluation, IsEvaluationText}
 use Rattle.spike_cli.specs.Reports.{BeginsReport, IsReport, search_alone}
 use Rattle.spike_cli.specs.Runs.{IsEnd, MayWriteOn}

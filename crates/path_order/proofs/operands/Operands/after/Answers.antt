@@ -1,7 +1,7 @@
 use Rattle.std.proofs.Common.{◌∙◌, ap, sym, map, ◌+◌}
 use Rattle.std.proofs.lemmas.List.{drop-map}
 use Rattle.path_order.specs.Listed.{listed}
-use Rattle.path_order.specs.Operands.{read}
+use Rattle.term_order.specs.Operands.{read}
 use Rattle.path_order.proofs.operands.Operands.after.Goals as goal
 
 pub returns : goal.returns

@@ -1,7 +1,7 @@
 use Rattle.std.proofs.Common.{◌∙◌, [], ap, sym, arith}
 use Rattle.std.proofs.lemmas.List.{get_or-map, length-map}
 use Rattle.path_order.specs.Listed.{listed}
-use Rattle.path_order.specs.Operands.{read}
+use Rattle.term_order.specs.Operands.{read}
 use Rattle.path_order.proofs.operands.Operands.at.Goals as goal
 
 pub returns : goal.returns

@@ -9,7 +9,7 @@ returns-then-version-ne2 c =
     let all = clean (items_of c.args.self.now.bytes.now c.args.tokens.now) in
     let first = ne_eqb c.args.version 2 c.if-version-ne2.true in
     rw (c.new-equals.ensures, c.new-statuses.ensures, first) (
-      ((all, refl, refl), inr (refl, refl)),
+      ((all, all, refl, refl, refl), inr (refl, refl, refl)),
       λ st. refl,
       omega arith,
     )

@@ -1,0 +1,10 @@
+use Rattle.std.proofs.Common.{◌∙◌, subst}
+use Rattle.term_core.specs.Weights.{AreWeights}
+use Rattle.kbo_order.proofs.Small.{small-told}
+use Rattle.kbo_order.proofs.order.KboTermOrder.greater.Goals as goal
+
+pub returns-clause-complete : goal.returns-clause-complete
+returns-clause-complete c =
+    λ l m p.
+    small-told c.args.t.now c.args.s.now c.above.result (c.as_slice.ensures ∙ c.self.view_is)
+    (subst AreWeights c.self.view_is c.self.invariant) l c.above.ensures p

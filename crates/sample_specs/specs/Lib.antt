@@ -1,0 +1,3 @@
+-- Sample orders of specifications, which worked examples of the crates above take.
+pub mod SumOrder
+pub mod Examples

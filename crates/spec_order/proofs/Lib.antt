@@ -1,0 +1,2 @@
+pub mod OwnOrders
+mod Tests

@@ -1,0 +1,9 @@
+use Rattle.std.proofs.Common.{◌≡◌, ◌++◌, take}
+use Rattle.std.specs.Prelude.{codes}
+use Rattle.std.specs.List.{flat_map}
+use Rattle.spec_printing.specs.Printed.{weight_printed}
+use Rattle.spec_printing.proofs.printing.append_weights.Given as goal
+
+abbrev pub invariant-loop-other : goal.invariant-loop-other
+invariant-loop-other l =
+    l.text.items ≡ l.initial.text.items ++ flat_map (λ w. codes ", " ++ weight_printed w) (take l.other-index l.others)
