@@ -1,6 +1,6 @@
 -- One block, and one verdict.
 pub mod OneBlock
-mod Reasons
+pub mod Reasons
 pub mod NoRefusal
 pub mod FirstRefusal
 pub mod Longer
@@ -10,5 +10,5 @@ pub mod WholeBlocks
 mod Flags
 mod StrictFlags
 -- What the definitions say of small reports.
-mod UnitProof
+pub mod UnitProof
 mod RefusedReports

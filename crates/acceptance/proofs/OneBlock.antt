@@ -19,7 +19,7 @@ use Rattle.acceptance.specs.Blocks.{clauses_of, nodes_of, StepMakes, StepsMake}
 use Rattle.acceptance.specs.StepRefusals.{IsRefused, StepIsRefused}
 
 module _ (above : Tree → Tree → Type 0) (one : OneRelation above) (spec : Spec) (fine : IsWellSorted spec) (usable : ℕ → Type 0) where
-  made_one : (nodes : List Clause) (k : ℕ) (step : Step) (m n : Children) → StepMakes above spec usable nodes k step m → StepMakes above spec usable nodes k step n → m ≡ n
+  pub made_one : (nodes : List Clause) (k : ℕ) (step : Step) (m n : Children) → StepMakes above spec usable nodes k step m → StepMakes above spec usable nodes k step n → m ≡ n
   made_one nodes k step m n p q =
       let e : p.clause ≡ q.clause = one_get nodes k k p.clause q.clause p.is q.is refl in
       let s : Says above p.clause nodes (row_of spec usable nodes p.clause step) (Ok n) = subst (λ c. Says above c nodes (row_of spec usable nodes c step) (Ok n)) (sym e) q.says in
@@ -57,7 +57,7 @@ module _ (above : Tree → Tree → Type 0) (one : OneRelation above) (spec : Sp
       let z : suc k + j ≡ k + suc j = omega arith in
       (r.0, subst (λ x. StepMakes above spec usable x (k + suc j) step r.0) a (subst (λ x. StepMakes above spec usable ((nodes ++ clauses_of n) ++ flat_map clauses_of ns) x step r.0) z r.1))
 
-  not_refused : (nodes : List Clause) (k : ℕ) (step : Step) (m : Children) (why : Why) → StepMakes above spec usable nodes k step m → IsRefused above spec usable nodes k step why → ⊥
+  pub not_refused : (nodes : List Clause) (k : ℕ) (step : Step) (m : Children) (why : Why) → StepMakes above spec usable nodes k step m → IsRefused above spec usable nodes k step why → ⊥
   not_refused nodes k step m why p (inl q) = let e : Some p.clause ≡ None = sym p.is ∙ q.0 in cc
   not_refused nodes k step m why p (inr (c, at, says)) =
       let e : p.clause ≡ c = one_get nodes k k p.clause c p.is at refl in
@@ -72,7 +72,7 @@ module _ (above : Tree → Tree → Type 0) (one : OneRelation above) (spec : Sp
       let z : 0 + k ≡ k = omega arith in
       not_refused (nodes_of start ns) k step m.0 why (subst (λ x. StepMakes above spec usable (nodes_of start ns) x step m.0) z m.1) r
 
-  one_reason : (nodes : List Clause) (k : ℕ) (step : Step) (why reason : Why) → IsRefused above spec usable nodes k step why → IsRefused above spec usable nodes k step reason → why ≡ reason
+  pub one_reason : (nodes : List Clause) (k : ℕ) (step : Step) (why reason : Why) → IsRefused above spec usable nodes k step why → IsRefused above spec usable nodes k step reason → why ≡ reason
   one_reason nodes k step why reason (inl a) (inl b) = a.1 ∙ sym b.1
   one_reason nodes k step why reason (inl a) (inr b) = absurd (let q : Some b.0 ≡ None = sym b.1 ∙ a.0 in cc)
   one_reason nodes k step why reason (inr a) (inl b) = absurd (let q : Some a.0 ≡ None = sym a.1 ∙ b.0 in cc)

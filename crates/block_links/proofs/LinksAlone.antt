@@ -43,7 +43,7 @@ abbrev link_of : Child → Child
 link_of d = record { clause = without_sides; relation = d.relation }
 
 -- an item of a list stands at its place in the list of what is made of each
-there_mapped :
+pub there_mapped :
     {A B : Type 0} (f : A → B) (xs : List A) (k : ℕ) (x : A) → slice_get xs k ≡ Some x →
     slice_get (map f xs) k ≡ Some (f x)
 there_mapped f [] k x at = absurd (let q : None ≡ Some x = at in cc)
@@ -51,7 +51,7 @@ there_mapped f (y ∷ xs) zero x at = let q : Some y ≡ Some x = at in ap (λ z
 there_mapped f (y ∷ xs) (suc k) x at = there_mapped f xs k x at
 
 -- and what stands there is made of one
-made_of :
+pub made_of :
     {A B : Type 0} (f : A → B) (xs : List A) (k : ℕ) (y : B) → slice_get (map f xs) k ≡ Some y →
     (x : A) × (slice_get xs k ≡ Some x) × (f x ≡ y)
 made_of f [] k y at = absurd (let q : None ≡ Some y = at in cc)

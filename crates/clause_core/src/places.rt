@@ -36,7 +36,7 @@ impl Clause {
 }
 
 /// The left side where true, the right one where false.
-fn side(equation: &Equation, left: bool) -> &Term
+pub fn side(equation: &Equation, left: bool) -> &Term
     ensures { result.now ≡ side_of left equation.now }
 {
     if left {

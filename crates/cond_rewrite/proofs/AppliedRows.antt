@@ -11,7 +11,7 @@ use Rattle.spec_core.specs.declared.records.Spec.{Spec}
 use Rattle.spec_core.specs.WellSorted.{IsWellSorted, RuleIsSorted}
 use Rattle.substitutions.specs.Substitution.{apply}
 use Rattle.substitutions.proofs.Instances.{apply_values}
-use Rattle.unifier.specs.Matching.{HasNoMatch}
+use Rattle.matching.specs.Matching.{HasNoMatch}
 use Rattle.clause_core.specs.declared.clauses.Clause.{Clause}
 use Rattle.clause_core.specs.declared.steps.Place.{Place}
 use Rattle.clause_core.specs.declared.answers.Why.{Why}

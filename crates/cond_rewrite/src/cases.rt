@@ -9,11 +9,11 @@ ghost use Rattle.cond_rewrite.specs.Applied.{AreCasesWithin};
 use crate::children::case_child;
 use crate::rules::rule_at;
 use clause_core::{Clause, Place, RewriteError};
+use matching::matches;
 use spec_core::{Rule, Spec};
 use std::alloc::Global;
 use substitutions::Subst;
 use term_core::{OutOfMemory, Term};
-use unifier::matches;
 
 /// The clauses with the term at the place rewritten by each rule whose left side is that of the
 /// rule of this number, in the order of the rules, tidied. Numbers count from 1. Each clause has

@@ -6,10 +6,9 @@ ghost use Rattle.clause_core.specs.Places.{TermAt, holding};
 ghost use Rattle.clause_core.specs.Tidied.{IsTidiedWithin};
 ghost use Rattle.cond_rewrite.specs.Applied.{applied_guard, applied_case};
 
-use crate::guards::boolean;
 use crate::instances::small_instance;
 use clause_core::{Clause, Place, tidied_within};
-use spec_core::{Equation, Guard, Rule};
+use spec_core::{Equation, Guard, Rule, boolean};
 use std::alloc::Global;
 use substitutions::Subst;
 use term_core::{OutOfMemory, Seq, Term};

@@ -1,24 +1,16 @@
 ghost use Rattle.std.specs.Prelude.{◌≡◌, ◌↔◌, IsTrue};
 ghost use Rattle.std.specs.List.{AllByRecursion};
 ghost use Rattle.spec_core.specs.declared.records.Guard.{Guard as GuardRecord};
-ghost use Rattle.spec_core.specs.Gives.{boolean as boolean_tree};
 ghost use Rattle.substitutions.specs.Substitution.{apply};
+ghost use Rattle.spec_core.specs.Gives.{boolean as boolean_tree};
 ghost use Rattle.clause_core.specs.Equations.{Among};
 ghost use Rattle.cond_rewrite.specs.Applied.{applied_guard};
 
 use crate::instances::is_instance;
-use spec_core::{Equation, Guard};
+use spec_core::{Equation, Guard, boolean};
 use std::alloc::Global;
 use substitutions::Subst;
-use term_core::{SymId, Term, Terms};
-
-/// The constant `true` or `false`. It takes no memory.
-pub(crate) fn boolean(alloc: Global, value: bool) -> Term
-    ensures { result ≡ boolean_tree value }
-{
-    let number = if value { 0 } else { 1 };
-    Term::app(SymId(number), Terms::new(alloc))
-}
+use term_core::Term;
 
 /// Whether each guard's instance, equated to the constant that it wants, is among the premises.
 pub(crate) fn guards_are_among(

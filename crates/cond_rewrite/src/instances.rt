@@ -2,13 +2,10 @@ ghost use Rattle.std.specs.Prelude.{◌≡◌, ◌<◌, ◌↔◌, IsTrue, IfOk,
 ghost use Rattle.term_core.specs.Tree.{tree_size};
 ghost use Rattle.substitutions.specs.Substitution.{apply};
 
-use clause_core::instance_size;
+use clause_core::{MOST_SYMBOLS, instance_size};
 use std::alloc::Global;
 use substitutions::Subst;
 use term_core::{Node, OutOfMemory, Term};
-
-/// The greatest size of a clause in a proof, and so of a term in one.
-const MOST_SYMBOLS: u32 = 4000;
 
 /// The instance of the term, or None where it alone has more symbols than a clause in a proof. It
 /// isn't built then: a variable may occur often and stand for a large term.

@@ -1,7 +1,7 @@
 //! Conditional rewriting and case rewriting of a clause at a place, after Bouhoula, Kounalis and
 //! Rusinowitch (1992) and Bouhoula and Rusinowitch (1995).
 //!
-//! It stands on unifier and clause_core. [`rewrite_at`] uses one rule whose guards are among the
+//! It stands on matching and clause_core. [`rewrite_at`] uses one rule whose guards are among the
 //! premises of the clause; [`case_rewrite`] uses each rule of one left side, and makes a clause for
 //! each with the rule's guards as further premises. Each answer is that of the step's row in the
 //! table of steps (`specs/RowAnswers.antt`), of which a row has one ([`one_row_answer`]). The layers

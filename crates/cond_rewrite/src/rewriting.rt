@@ -8,9 +8,9 @@ use crate::children::rewritten;
 use crate::guards::guards_are_among;
 use crate::rules::rule_at;
 use clause_core::{Clause, Place, RewriteError, tidied_within};
+use matching::matches;
 use spec_core::Spec;
 use std::alloc::Global;
-use unifier::matches;
 
 /// The clause with the term at the place rewritten by the rule of this number, which counts from 1,
 /// tidied. Each guard's instance, equated to the constant that it wants, has to be among the

@@ -1,82 +1,64 @@
--- Entries of variables, as they are before a match, as a match sets them, and where all are there.
-use Rattle.std.proofs.Common.{◌≡◌, ℕ, zero, suc, ◌+◌, ◌<◌, List, [], ◌∷◌, Option, Some, None, inl, inr, map, length, refl, ap, sym, ◌∙◌, subst, arith, set}
-use Rattle.std.specs.Prelude.{replicate}
-use Rattle.std.specs.Borrow.{Bor}
-use Rattle.std.specs.Option.{IsSome, option_copied}
-use Rattle.std.proofs.lemmas.List.{map-set, length-map}
-use Rattle.term_core.specs.Tree.{Tree, app, var, trees_of}
-use Rattle.term_core.specs.Measure.{weight, list_weight, list_weight_is}
-use Rattle.term_core.specs.Variables.{Occurs, OccursAny}
+-- Entries of variables where the first ones, and no others, have theirs.
+use Rattle.std.proofs.Common.{◌≡◌, ◌↔◌, ℕ, zero, suc, ◌<◌, List, [], ◌∷◌, Option, Some, None, true, false, map, length, refl, ap, sym, ◌∙◌, arith}
+use Rattle.std.specs.Option.{IsSome}
+use Rattle.term_core.specs.Tree.{Tree}
 use Rattle.substitutions.specs.Substitution.{entry}
-use Rattle.substitutions.specs.Updates.{IsSetTo}
-use Rattle.substitutions.proofs.Entries.{set_to}
-use Rattle.fitting_lists.specs.Bindings.{entries_of, present, IsWithin, AreWithin}
-
--- a reference that is written at a place is the entry there
-pub set_entry :
-    (items : List (Option (Bor Tree))) (old : List (Option Tree)) (n : ℕ) (t : Bor Tree) →
-    entries_of items ≡ old → n < length old →
-    IsSetTo old n t.now (entries_of (set items n (Some t)))
-set_entry items old n t is lt =
-    subst (λ new. IsSetTo old n t.now new)
-    (ap (λ es. set es n (Some t.now)) (sym is) ∙ sym (map-set option_copied items n (Some t)))
-    (set_to old old n t.now lt (λ m. refl))
-
--- no variable has an entry before a match
-pub none_yet : (count : ℕ) → entries_of (replicate count None) ≡ replicate count None
-none_yet zero = refl
-none_yet (suc count) = ap (λ (es : List (Option Tree)). None ∷ es) (none_yet count)
-
-pub no_entry : (count n : ℕ) → entry (replicate count None) n ≡ None
-no_entry zero n = refl
-no_entry (suc count) zero = refl
-no_entry (suc count) (suc n) = no_entry count n
+use Rattle.matching.specs.Bindings.{present}
 
 -- the terms as entries of the first variables
 abbrev pub filled : List Tree → List (Option Tree)
 filled terms = map (λ (t : Tree). Some t) terms
 
--- where each variable has its entry, the entries are the terms that are there
+no_terms : (ts : List Tree) → length ts ≡ 0 → (n : ℕ) → entry (filled ts) n ≡ None
+no_terms [] e n = refl
+no_terms (t ∷ ts) e n = absurd (omega arith)
+
+none_there : (o : Option Tree) → (IsSome o → ⊥) → o ≡ None
+none_there None h = refl
+none_there (Some t) h = absurd (h refl)
+
+-- the variables below this number, and no others, have entries
+abbrev pub AreBound : List (Option Tree) → ℕ → Type 0
+AreBound entries count = (n : ℕ) → IsSome (entry entries n) ↔ (n < count)
+
+-- the entries are as many terms
+abbrev pub AreTerms : List (Option Tree) → ℕ → Type 0
+AreTerms entries count =
+    (length (present entries) ≡ count)
+    × ((n : ℕ) → entry entries n ≡ entry (filled (present entries)) n)
+
+one_more :
+    (t : Tree) (entries : List (Option Tree)) (count : ℕ) → AreTerms entries count →
+    AreTerms (Some t ∷ entries) (suc count)
+one_more t entries count rest = (ap (λ k. suc k) rest.0, same)
+  where
+    same : (n : ℕ) → entry (Some t ∷ entries) n ≡ entry (filled (t ∷ present entries)) n
+    same zero = refl
+    same (suc n) = rest.1 n
+
+no_more :
+    (entries : List (Option Tree)) → AreBound (None ∷ entries) 0 → AreTerms entries 0 →
+    AreTerms (None ∷ entries) 0
+no_more entries h rest =
+    (rest.0, λ n. none n ∙ sym (no_terms (present entries) rest.0 n))
+  where
+    none : (n : ℕ) → entry (None ∷ entries) n ≡ None
+    none n = none_there (entry (None ∷ entries) n) (λ i. omega (arith, (h n).0 i))
+
 pub all_there :
-    (entries : List (Option Tree)) →
-    ((n : ℕ) → n < length entries → IsSome (entry entries n)) →
-    entries ≡ filled (present entries)
-all_there [] h = refl
-all_there (Some t ∷ entries) h =
-    ap (λ es. Some t ∷ es) (all_there entries (λ n lt. h (suc n) (omega arith)))
-all_there (None ∷ entries) h =
-    absurd (let e : IsSome (entry (None ∷ entries) 0) = h 0 (omega arith) in cc)
-
-pub filled_length :
-    (entries : List (Option Tree)) (ts : List Tree) → entries ≡ filled ts →
-    length ts ≡ length entries
-filled_length entries ts e =
-    sym (ap (λ es. length es) e ∙ length-map ts (λ (t : Tree). Some t))
-
--- the arguments of a term weigh less than the term
-pub lighter :
-    (t : Tree) (f : ℕ) (ts us : List Tree) → app f (trees_of ts) ≡ t → us ≡ ts →
-    list_weight us + 1 ≡ weight t
-lighter t f ts us e same =
-    ap (λ vs. list_weight vs + 1) same ∙ ap (λ k. k + 1) (list_weight_is ts) ∙ ap weight e
-
--- the variables of the parts of a term, and of a list, are those of the whole
-module _ (count : ℕ) where
-  pub variable_within : (t : Tree) (n : ℕ) → var n ≡ t → IsWithin count t → n < count
-  variable_within t n e h = h n (subst (λ u. Occurs n u) e refl)
-
-  pub arguments_within :
-      (t : Tree) (f : ℕ) (ts us : List Tree) → app f (trees_of ts) ≡ t → us ≡ ts →
-      IsWithin count t → AreWithin count us
-  arguments_within t f ts us e same h n o =
-      h n (subst (λ u. Occurs n u) e (subst (λ vs. OccursAny n (trees_of vs)) same o))
-
-  pub first_within :
-      (all : List Tree) (t : Tree) (ts : List Tree) → all ≡ t ∷ ts → AreWithin count all →
-      IsWithin count t
-  first_within all t ts e h n o = h n (subst (λ us. OccursAny n (trees_of us)) (sym e) (inl o))
-
-  pub rest_within :
-      (all : List Tree) (t : Tree) (ts : List Tree) → all ≡ t ∷ ts → AreWithin count all →
-      AreWithin count ts
-  rest_within all t ts e h n o = h n (subst (λ us. OccursAny n (trees_of us)) (sym e) (inr o))
+    (entries : List (Option Tree)) (count : ℕ) → AreBound entries count → AreTerms entries count
+all_there [] zero h = (refl, λ n. refl)
+all_there [] (suc count) h =
+    absurd (let e : IsSome (entry [] 0) = (h 0).1 (omega arith) in let q : false ≡ true = e in cc)
+all_there (Some t ∷ entries) zero h = absurd (omega (arith, (h 0).0 refl))
+all_there (Some t ∷ entries) (suc count) h =
+    one_more t entries count (all_there entries count (λ n.
+    (λ i. omega (arith, (h (suc n)).0 i), λ lt. (h (suc n)).1 (omega arith))))
+all_there (None ∷ entries) (suc count) h =
+    absurd (
+    let e : IsSome (entry (None ∷ entries) 0) = (h 0).1 (omega arith) in
+    let q : false ≡ true = e in
+    cc)
+all_there (None ∷ entries) zero h =
+    no_more entries h (all_there entries zero (λ n.
+    (λ i. absurd (omega (arith, (h (suc n)).0 i)), λ lt. absurd (omega arith))))

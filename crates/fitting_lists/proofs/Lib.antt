@@ -5,6 +5,7 @@ pub mod VariableTests
 pub mod Determined
 pub mod Variables
 mod BoundEntries
+mod Weights
 mod TermLists
 mod LeadingEquations
 mod MarkedVariables

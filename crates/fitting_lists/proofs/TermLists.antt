@@ -1,19 +1,20 @@
 -- What a match finds from no entries on answers the question for its patterns, and nothing else
 -- does.
-use Rattle.std.proofs.Common.{◌≡◌, ℕ, ◌<◌, List, [], ◌∷◌, Option, Some, None, Bool, true, false, inl, inr, map, length, refl, ap, sym, ◌∙◌, arith}
+use Rattle.std.proofs.Common.{◌≡◌, ℕ, List, [], ◌∷◌, Option, Some, None, Bool, true, false, inl, inr, map, length, refl, ap, sym, ◌∙◌, subst, unwrap_or}
 use Rattle.std.specs.Prelude.{◌⊎◌, Ok, replicate}
 use Rattle.std.specs.Option.{IsSome}
-use Rattle.term_core.specs.Tree.{Tree, some, none, trees_of, instance}
+use Rattle.term_core.specs.Tree.{Tree, var, some, none, trees_of, instance}
 use Rattle.term_core.specs.Variables.{Occurs, OccursAny}
 use Rattle.term_core.proofs.Trees.{trees_of-inj}
 use Rattle.substitutions.specs.Substitution.{entry, apply, apply_all}
-use Rattle.substitutions.proofs.Instances.{apply_all_values}
-use Rattle.unifier.specs.Extending.{Agrees, Binds, BindsAll}
-use Rattle.unifier.proofs.Bindings.{binds_rest}
+use Rattle.substitutions.proofs.Instances.{apply_all_same, apply_all_values}
+use Rattle.matching.specs.Bindings.{present}
+use Rattle.matching.specs.Extending.{Agrees, Binds, BindsAll}
+use Rattle.matching.proofs.BoundEntries.{no_entry}
+use Rattle.matching.proofs.Extending.{binds_rest}
 use Rattle.fitting_lists.specs.Questions.{Question, Answers}
 use Rattle.fitting_lists.specs.Answering.{AreVariables, IsOnlyAnswer}
-use Rattle.fitting_lists.specs.Bindings.{present}
-use Rattle.fitting_lists.proofs.BoundEntries.{no_entry, filled, all_there, filled_length}
+use Rattle.fitting_lists.proofs.BoundEntries.{filled, AreBound, all_there}
 use Rattle.fitting_lists.proofs.Determined.{IsDetermined, one_list, instances-trees_of}
 
 -- a first pattern that fails fails the list, and one pattern is a list
@@ -94,27 +95,37 @@ module _ (count : ℕ) (patterns terms : List Tree) where
     determined n lt = (are n).1 lt
 
     answers :
-        (new : List (Option Tree)) (list : List Tree) → length new ≡ count → new ≡ filled list →
+        (new : List (Option Tree)) (list : List Tree) → length list ≡ count →
+        ((n : ℕ) → entry new n ≡ entry (filled list) n) →
         apply_all new (trees_of patterns) ≡ trees_of terms → Answers asked list
-    answers new list long is made = (
-      filled_length new list is ∙ long,
-      trees_of-inj (map (instance list) patterns) terms
-          (sym (made_by list) ∙ ap (λ s. apply_all s (trees_of patterns)) (sym is) ∙ made),
+    answers new list long same made = (
+      long,
+      trees_of-inj (map (instance list) patterns) terms (
+          sym (made_by list)
+          ∙ apply_all_same (trees_of patterns) (filled list) new
+          (λ n o. ap (λ e. unwrap_or e (var n)) (sym (same n)))
+          ∙ made),
     )
 
     all_bound :
-        (old new : List (Option Tree)) → length new ≡ count → BindsAll old patterns terms new true →
-        (n : ℕ) → n < length new → IsSome (entry new n)
-    all_bound old new long found n lt =
-        (found.bound n).1 (inr ((are n).1 (omega (arith, lt, long))))
+        (old new : List (Option Tree)) → IsEmpty old → BindsAll old patterns terms new true →
+        AreBound new count
+    all_bound old new is found n = (
+      λ i. elim ((found.bound n).0 i) [
+        | inl k ↦
+            absurd (let q : false ≡ true = subst (λ o. IsSome o) (empty old is n) k in cc)
+        | inr o ↦ (are n).0 o
+      ],
+      λ lt. (found.bound n).1 (inr ((are n).1 lt)),
+    )
 
     pub only_list :
-        (old new : List (Option Tree)) (r : Bool) (list : List Tree) → length new ≡ count →
-        r ≡ true → BindsAll old patterns terms new r → list ≡ present new →
-        IsOnlyAnswer asked (Some list)
-    only_list old new r list long matches binds is =
+        (old new : List (Option Tree)) (r : Bool) (list : List Tree) → IsEmpty old → r ≡ true →
+        BindsAll old patterns terms new r → list ≡ present new → IsOnlyAnswer asked (Some list)
+    only_list old new r list is matches binds listed =
         let found : BindsAll old patterns terms new true = rw matches at binds in
-        let bound = all_bound old new long found in
-        let full : new ≡ filled list = all_there new bound ∙ ap filled (sym is) in
-        let a : Answers asked list = answers new list long full found.made in
-        (a, λ other b. one_list asked other list determined b a)
+        let there = all_there new count (all_bound old new is found) in
+        let a : Answers asked (present new) =
+        answers new (present new) there.0 there.1 found.made in
+        subst (λ ts. IsOnlyAnswer asked (Some ts)) (sym listed)
+        (a, λ other b. one_list asked other (present new) determined b a)

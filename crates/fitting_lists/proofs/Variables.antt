@@ -1,9 +1,10 @@
 -- The variables of a sorted clause are those of its leading equation, and those of each side of its
 -- only conclusion that has them all.
-use Rattle.std.proofs.Common.{◌≡◌, suc, List, [], ◌∷◌, ◌++◌, Bool, true, false, inl, inr, refl, ap, subst, length}
+use Rattle.std.proofs.Common.{◌≡◌, ℕ, suc, ◌<◌, List, [], ◌∷◌, ◌++◌, Bool, true, false, inl, inr, refl, ap, subst, length}
 use Rattle.std.specs.Prelude.{slice_get}
 use Rattle.std.specs.List.{AllByRecursion}
-use Rattle.term_core.specs.Tree.{Tree}
+use Rattle.term_core.specs.Tree.{Tree, trees_of}
+use Rattle.term_core.specs.Variables.{OccursAny}
 use Rattle.term_core.specs.declared.ids.SortId.{SortId}
 use Rattle.term_core.proofs.Items.{all_append}
 use Rattle.spec_core.specs.declared.records.Equation.{Equation}
@@ -16,9 +17,12 @@ use Rattle.clause_core.specs.Clauses.{ClauseIsSorted}
 use Rattle.clause_core.specs.Places.{side}
 use Rattle.fitting_lists.specs.Fitting.{Located, both_sides, has_all, located, leading}
 use Rattle.fitting_lists.specs.Answering.{AreVariables}
-use Rattle.fitting_lists.specs.Bindings.{AreWithin}
 use Rattle.fitting_lists.proofs.AllItems.{all_taken, all_kept}
 use Rattle.fitting_lists.proofs.VariableTests.{all_occur}
+
+-- the variables of the terms are below this number
+abbrev AreWithin : ℕ → List Tree → Type 0
+AreWithin count ts = (n : ℕ) → OccursAny n (trees_of ts) → n < count
 
 module _ (sig : Sig) (ctx : List SortId) where
   -- both sides have one sort

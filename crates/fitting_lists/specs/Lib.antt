@@ -7,6 +7,5 @@ pub mod Along
 pub mod Leading
 pub mod Answering
 pub mod Examples
-pub mod Bindings
 pub mod Marks
 pub mod Found

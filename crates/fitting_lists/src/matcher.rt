@@ -6,8 +6,7 @@ ghost use Rattle.fitting_lists.specs.Found.{found_in, answer_of};
 
 use crate::along::sides_agree;
 use crate::becoming::heads_agree;
-use crate::bindings::Bindings;
-use crate::matching::bind;
+use matching::{Bindings, bind};
 use spec_core::Equation;
 use std::alloc::Global;
 use term_core::{OutOfMemory, Term};
@@ -51,10 +50,10 @@ impl<'a> Matcher<'a> {
             return Ok(false);
         }
         self.bindings.reset(count)?;
-        if !bind(&equation.left, left, &mut self.bindings) {
+        if !bind(&equation.left, left, &mut self.bindings)? {
             return Ok(false);
         }
-        if !bind(&equation.right, right, &mut self.bindings) {
+        if !bind(&equation.right, right, &mut self.bindings)? {
             return Ok(false);
         }
         self.bindings.list(&mut self.found)?;
@@ -80,7 +79,7 @@ impl<'a> Matcher<'a> {
             return Ok(false);
         }
         self.bindings.reset(count)?;
-        if !bind(side, term, &mut self.bindings) {
+        if !bind(side, term, &mut self.bindings)? {
             return Ok(false);
         }
         self.bindings.list(&mut self.found)?;

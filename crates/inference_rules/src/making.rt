@@ -14,16 +14,13 @@ ghost use Rattle.inference_rules.specs.Nodes.{children_with};
 
 use crate::nodes::StepError;
 use clause_core::{
-    Child, Children, Clause, Place, Reference, Relation, Why, compare, into_tidied, tidied_within,
-    within,
+    Child, Children, Clause, MOST_NODES, Place, Reference, Relation, Why, compare, into_tidied,
+    tidied_within, within,
 };
 use place_comparison::{relation_at, within_at};
 use std::alloc::Global;
 use term_core::{OutOfMemory, Seq, Term};
 use term_order::TermOrder;
-
-/// The most nodes of a block.
-const MOST_NODES: usize = 10_000;
 
 /// What closes a node: neither children nor references.
 pub(crate) fn closed(alloc: Global) -> Children

@@ -48,16 +48,10 @@ fn named_goal<'a>(spec: &'a Spec, number: u32, name: &Name) -> Option<&'a Goal>
         (λ goal. (slice_get spec.now.goals number ≡ Some goal.now) × (goal.now.name ≡ name.now)) }
 {
     let goal = spec.goals.as_slice().get(number as usize)?;
-    if has_name(goal, name) {
+    if goal.has_name(name) {
         return Some(goal);
     }
     None
-}
-
-fn has_name(goal: &Goal, name: &Name) -> bool
-    ensures { IsTrue result ↔ (goal.now.name ≡ name.now) }
-{
-    goal.name.as_bytes() == name.as_bytes()
 }
 
 /// The substitution of the terms for the variables of the clause, if they have their sorts over the

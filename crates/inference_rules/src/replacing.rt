@@ -12,7 +12,7 @@ ghost use Rattle.inference_rules.specs.Nodes.{referred_to};
 use crate::making::{child_holding, reference};
 use crate::nodes::{Node, StepError};
 use crate::referring::{entries_here, instances_are_there, node_at, usable_goal};
-use clause_core::{Children, Clause, Place, Reference, Why, instance, of_goal};
+use clause_core::{Children, Clause, Place, Reference, Why, instance, of_goal, side};
 use cond_rewrite::is_instance;
 use spec_core::{Equation, Spec};
 use std::alloc::Global;
@@ -174,15 +174,4 @@ fn usable_conclusion<'a>(
         return Ok(None);
     }
     Ok(Some(equation))
-}
-
-/// The left side where true, the right one where false.
-fn side(equation: &Equation, left: bool) -> &Term
-    ensures { result.now ≡ side_of left equation.now }
-{
-    if left {
-        &equation.left
-    } else {
-        &equation.right
-    }
 }

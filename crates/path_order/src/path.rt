@@ -11,8 +11,8 @@ ghost use Rattle.term_core.specs.Precedence.{Precedence, IsPrecedence, by_number
 
 use crate::operands::Operands;
 use std::marker::Model;
-use term_core::{Node, Seq, SymId, Term};
-use term_order::{Operand, TermOrder, occurs};
+use term_core::{Node, Seq, SymId, Term, occurs};
+use term_order::{Operand, TermOrder};
 
 /// The lexicographic path ordering. A symbol of greater level has the greater precedence, and each
 /// symbol's status says in which order its arguments are compared.
@@ -194,8 +194,8 @@ fn told_by_patterns(t: Operand, s: Operand) -> Option<Standing>
     let (term, other) = (t.term, s.term);
     match (&term.node, &other.node) {
         (Node::Var(x), Node::Var(y)) if x == y => Some(Standing::Same),
-        (Node::Var(x), Node::App(_, _)) if occurs(x.0 as usize, other) => Some(Standing::Neither),
-        (Node::App(_, _), Node::Var(y)) if occurs(y.0 as usize, term) => Some(Standing::Greater),
+        (Node::Var(x), Node::App(_, _)) if occurs(*x, other) => Some(Standing::Neither),
+        (Node::App(_, _), Node::Var(y)) if occurs(*y, term) => Some(Standing::Greater),
         _ => None,
     }
 }

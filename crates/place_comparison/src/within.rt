@@ -4,15 +4,9 @@ ghost use Rattle.clause_core.specs.Clauses.{sides_of};
 ghost use Rattle.clause_core.specs.Limits.{IsWithin, clause_size};
 ghost use Rattle.clause_core.specs.Places.{TermAt, holding};
 
-use clause_core::{Clause, Place};
+use clause_core::{Clause, MOST_LEVELS, MOST_SYMBOLS, Place};
 use spec_core::Equation;
 use term_core::Term;
-
-/// The greatest depth of a clause in a proof.
-const MOST_LEVELS: u32 = 100;
-
-/// The greatest size of a clause in a proof.
-const MOST_SYMBOLS: u32 = 4000;
 
 /// Whether the clause stays within the limits of a clause in a proof where the place holds the new
 /// term instead of the old one. The clause that holds it isn't built, and of the new term no more

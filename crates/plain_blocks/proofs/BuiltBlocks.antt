@@ -17,6 +17,7 @@ use Rattle.clause_core.specs.Tidied.{goal_clause}
 use Rattle.descent.specs.SortedChildren.{IsNode}
 use Rattle.inference_rules.specs.Nodes.{AreNodes, clauses_made}
 use Rattle.acceptance.specs.Blocks.{clauses_of}
+use Rattle.block_steps.proofs.Taking.{nodes_joined, one_node}
 use Rattle.plain_blocks.specs.declared.candidates.Taken.{Taken}
 use Rattle.plain_blocks.specs.Blocks.{IsSplit, IsPlainBlock}
 use Rattle.plain_proof.specs.FirstPlain.{HasPlain}
@@ -24,15 +25,6 @@ use Rattle.plain_blocks.specs.Candidates.{IsStart, IsMade, IsNext}
 use Rattle.plain_blocks.specs.Laws.{OneChoice, HasBlock, PlainBlocks}
 use Rattle.plain_blocks.proofs.FirstNodes.{first_is_node, first_premises, first_is_start}
 use Rattle.plain_blocks.proofs.Following.{IsPart, whole, splits_here, begun, some_chosen, followed}
-
-pub nodes_append : (sig : Sig) (xs ys : List Clause) → AreNodes sig xs → AreNodes sig ys → AreNodes sig (xs ++ ys)
-nodes_append sig [] ys h k j d at = k j d at
-nodes_append sig (x ∷ xs) ys h k zero d at = h 0 d at
-nodes_append sig (x ∷ xs) ys h k (suc j) d at = nodes_append sig xs ys (λ i e p. h (suc i) e p) k j d at
-
-one_node : (sig : Sig) (c : Clause) → IsNode sig c → AreNodes sig (c ∷ [])
-one_node sig c h zero d at = let q : Some c ≡ Some d = at in let e : c ≡ d = cc in subst (λ x. IsNode sig x) e h
-one_node sig c h (suc j) d at = absurd (cc)
 
 -- what the split makes, over nodes that are the goal's alone
 pub made_first : (above : Tree → Tree → Type 0) (spec : Spec) (start : Clause) (nodes : List Clause) → nodes ≡ start ∷ [] → (step : Step) (found answer : Option Children) → found ≡ answer → ((c : Clause) → slice_get nodes 0 ≡ Some c → IsMade above spec nodes c step found) → IsMade above spec (start ∷ []) start step answer
@@ -74,7 +66,7 @@ module _ (above : Tree → Tree → Type 0) (spec : Spec) (goal : Goal) (x : ℕ
         few = few;
         part = begun above spec goal x steps block one_choice one_answer fine node.is_tidied premises split splits made says;
         begun_with = omega arith;
-        nodes_stand = nodes_append spec.sig (goal_clause goal ∷ []) (clauses_of made) (one_node spec.sig (goal_clause goal) node) stand;
+        nodes_stand = nodes_joined spec.sig (goal_clause goal ∷ []) (clauses_of made) (one_node spec.sig (goal_clause goal) node) stand;
       }
 
     module _ (first : List Step) (nodes : List Clause) (b : IsBuilt first nodes) (lt : length first < length nodes) where
@@ -100,7 +92,7 @@ module _ (above : Tree → Tree → Type 0) (spec : Spec) (goal : Goal) (x : ℕ
             few = b.few;
             part = followed above spec goal x b.steps b.block one_choice one_answer fine node.is_tidied premises first nodes b.part (length first - 1) later here there taken.step taken.made n.0 n.1;
             begun_with = omega (arith, length-append first (taken.step ∷ []));
-            nodes_stand = nodes_append spec.sig nodes (clauses_of taken.made) b.nodes_stand stand;
+            nodes_stand = nodes_joined spec.sig nodes (clauses_of taken.made) b.nodes_stand stand;
           }
 
 -- what is next, over the same nodes and at the same number

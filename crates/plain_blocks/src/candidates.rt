@@ -6,7 +6,7 @@ ghost use Rattle.clause_core.specs.Places.{side as side_of};
 ghost use Rattle.plain_blocks.specs.Choices.{IsUse};
 ghost use Rattle.plain_blocks.specs.Candidates.{IsStart, IsOnly, IsFullReference, IsCandidate, wanted};
 
-use clause_core::{Children, Clause, Place, Step};
+use clause_core::{Children, Clause, Place, Step, side};
 use fitting_lists::fitting_terms;
 use rewriting::Rewriter;
 use spec_core::Equation;
@@ -97,17 +97,6 @@ fn use_on(
             };
             Ok(Some(Step::Rule(place, number)))
         }
-    }
-}
-
-/// The left side where true, the right one where false.
-fn side(equation: &Equation, left: bool) -> &Term
-    ensures { result.now ≡ side_of left equation.now }
-{
-    if left {
-        &equation.left
-    } else {
-        &equation.right
     }
 }
 

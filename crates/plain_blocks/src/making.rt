@@ -1,8 +1,5 @@
-ghost use Rattle.std.specs.Prelude.{◌≡◌, ◌++◌, [], ◌∷◌, IfOk, OnOk};
+ghost use Rattle.std.specs.Prelude.{IfOk};
 ghost use Rattle.spec_core.specs.WellSorted.{IsWellSorted, GoalIsSorted};
-ghost use Rattle.clause_core.specs.Tidied.{goal_clause};
-ghost use Rattle.inference_rules.specs.Answers.{clauses_of};
-ghost use Rattle.inference_rules.specs.Nodes.{clauses_made};
 ghost use Rattle.plain_proof.specs.FirstPlain.{HasPlain};
 ghost use Rattle.plain_blocks.specs.Blocks.{IsPlainBlock};
 
@@ -10,8 +7,8 @@ use crate::candidates::Taken;
 use crate::choosing::{made_by, next_step};
 use crate::laws::{one_choice, plain_blocks};
 use crate::splitting::split_on;
-use clause_core::{Block, Children, of_goal, one_answer, tidying_laws};
-use inference_rules::Node;
+use block_steps::TakenSteps;
+use clause_core::{Block, of_goal, one_answer, tidying_laws};
 use rewriting::Rewriter;
 use spec_core::{Goal, Spec};
 use std::alloc::Global;
@@ -37,48 +34,26 @@ pub(crate) fn block_on<O: TermOrder>(
     one_answer(order);
     tidying_laws();
     let rewriter = Rewriter::new(alloc, spec)?;
-    let mut nodes = first_node(alloc, goal)?;
+    let start = of_goal(alloc, goal)?;
+    let mut block = TakenSteps::new(alloc, start)?;
     let split = split_on(alloc, spec, goal, var)?;
-    let Some(made) = made_by(alloc, spec, order, &nodes, 0, &split)? else {
+    let Some(made) = made_by(alloc, spec, order, &block.nodes, 0, &split)? else {
         unreachable!();
     };
-    push_nodes(&mut nodes, made)?;
+    block.add(alloc, made)?;
     let mut steps = Vec::new(alloc);
     steps.push(split)?;
-    while steps.len() < nodes.len() {
+    while steps.len() < block.nodes.len() {
         let node = steps.len() as u32;
-        let Some(Taken { step, made }) = next_step(alloc, spec, order, &rewriter, &nodes, node)?
+        let nodes = &block.nodes;
+        let Some(Taken { step, made }) = next_step(alloc, spec, order, &rewriter, nodes, node)?
         else {
             unreachable!();
         };
-        push_nodes(&mut nodes, made)?;
+        block.add(alloc, made)?;
         steps.push(step)?;
     }
     Ok(Block {
         steps: Seq::from_vec(steps),
     })
-}
-
-/// The node of the goal's clause.
-fn first_node(alloc: Global, goal: &Goal) -> Result<Vec<Node>, OutOfMemory>
-    ensures { IfOk result (λ made. clauses_of made.items ≡ goal_clause goal.now ∷ []) }
-{
-    let mut made = Vec::with_capacity(alloc, 1)?;
-    made.push(Node {
-        clause: of_goal(alloc, goal)?,
-    })?;
-    Ok(made)
-}
-
-/// Adds the children that a step makes behind the other nodes.
-fn push_nodes(nodes: &mut Vec<Node>, made: Children) -> Result<(), OutOfMemory>
-    ensures { OnOk result (clauses_of nodes.new.items ≡
-        clauses_of nodes.old.items ++ clauses_made made) }
-{
-    for child in made.clauses.into_vec() {
-        nodes.push(Node {
-            clause: child.clause,
-        })?;
-    }
-    Ok(())
 }

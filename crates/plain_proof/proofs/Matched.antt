@@ -12,7 +12,7 @@ use Rattle.term_core.specs.Variables.{Occurs}
 use Rattle.substitutions.specs.Substitution.{entry, image, apply}
 use Rattle.substitutions.specs.Fitting.{Fits}
 use Rattle.substitutions.proofs.Instances.{apply_same, images_agree, image_entry, image_none}
-use Rattle.unifier.specs.Matching.{IsMatch, HasNoMatch}
+use Rattle.matching.specs.Matching.{IsMatch, HasNoMatch}
 use Rattle.plain_proof.specs.Closings.{IsInstance}
 use Rattle.plain_proof.specs.Filling.{IsFilled}
 

@@ -4,11 +4,11 @@ ghost use Rattle.term_core.specs.declared.ids.SortId.{SortId};
 ghost use Rattle.plain_proof.specs.Closings.{IsInstance};
 ghost use Rattle.plain_proof.specs.Filling.{IsFilled};
 
+use matching::matches;
 use spec_core::{Equation, Signature};
 use std::alloc::Global;
 use substitutions::Subst;
 use term_core::{OutOfMemory, SortId, SymId, Term, Terms, VarId};
-use unifier::matches;
 
 /// Whether the terms, over the variables of these sorts, are the sides of an instance of the
 /// equation, whose variables have the sorts of `ctx` and keep them.

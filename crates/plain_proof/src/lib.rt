@@ -2,7 +2,7 @@
 //! and instances of the goal itself.
 //!
 //! It stands on rewriting, whose leftmost-innermost uses bring the sides to their normal forms, on
-//! clause_core, whose limits each clause on the way keeps, and on unifier and test_sets.
+//! clause_core, whose limits each clause on the way keeps, and on matching and test_sets.
 //! `specs/PlainProofs.antt` says what a plain proof of a goal on a variable is, and how long:
 //! there is one length at most ([`one_length`]). The layers above use that [`first_plain`] is
 //! exact: it names the first variable with a plain proof of at most a given length, and answers

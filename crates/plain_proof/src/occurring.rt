@@ -1,37 +1,12 @@
 ghost use Rattle.std.specs.Prelude.{◌↔◌, ◌⊎◌, IsTrue};
-ghost use Rattle.term_core.specs.Tree.{trees_of};
-ghost use Rattle.term_core.specs.Variables.{Occurs, OccursAny};
+ghost use Rattle.term_core.specs.Variables.{Occurs};
 
 use spec_core::Equation;
-use term_core::{Node, Term, VarId};
+use term_core::{VarId, occurs};
 
 /// Whether the variable occurs in a side of the equation.
 pub(crate) fn occurs_in(var: VarId, equation: &Equation) -> bool
     ensures { IsTrue result ↔ (Occurs var.0 equation.now.left ⊎ Occurs var.0 equation.now.right) }
 {
     occurs(var, &equation.left) || occurs(var, &equation.right)
-}
-
-/// Whether the variable occurs in the term.
-#[cycle(occurs)]
-fn occurs(var: VarId, term: &Term) -> bool
-    ensures { IsTrue result ↔ Occurs var.0 term.now }
-{
-    match &term.node {
-        Node::Var(other) => var == *other,
-        Node::App(_, args) => occurs_in_any(var, args.as_slice()),
-    }
-}
-
-/// Whether the variable occurs in one of the terms.
-#[cycle(occurs)]
-fn occurs_in_any(var: VarId, terms: &[Term]) -> bool
-    ensures { IsTrue result ↔ OccursAny var.0 (trees_of terms.now) }
-{
-    for term in terms {
-        if occurs(var, term) {
-            return true;
-        }
-    }
-    false
 }

@@ -6,11 +6,11 @@ ghost use Rattle.rewriting.specs.Narrow.{IsNarrow};
 ghost use Rattle.plain_proof.specs.Staying.{HasSide};
 
 use crate::limits::are_within;
+use matching::matches;
 use rewriting::Rewriter;
 use spec_core::Spec;
 use std::alloc::Global;
 use term_core::{OutOfMemory, ReplaceError, Term};
-use unifier::matches;
 
 /// The normal form of a side with the number of its uses, where it needs at most `budget` and each
 /// term on the way is within the limits beside the other side. It stops at the first term that

@@ -10,6 +10,7 @@
 
 mod equation_steps;
 mod laws;
+mod limits;
 mod line_words;
 mod names;
 mod numbers;
@@ -29,6 +30,7 @@ mod verbs;
 mod words;
 
 pub use laws::{fault_examples, one_fault, one_report, refused_steps, worked_examples};
+pub use limits::MOST_CLAIM_BYTES;
 pub use line_words::{next_name, next_number};
 pub use names::is_report_name;
 pub use printing::{print_claim, print_header, print_report};

@@ -1,53 +1,73 @@
--- The nodes that a step adds to a block that is built, child by child.
-use Rattle.std.proofs.Common.{◌≡◌, ℕ, List, [], ◌∷◌, ◌++◌, map, refl, ap, sym, ◌∙◌, append_assoc}
+-- What the children of a step add to a block that is built: their nodes, the number of their parent, and the places of
+-- their leading equations.
+use Rattle.std.proofs.Common.{◌≡◌, ℕ, ◌<◌, List, [], ◌∷◌, ◌++◌, ◌+◌, Option, map, take, length, get_or, refl, ap, sym, ◌∙◌, arith, append_assoc}
 use Rattle.std.proofs.lemmas.List.{map-append}
+use Rattle.term_core.proofs.Items.{taken_next}
 use Rattle.clause_core.specs.declared.answers.Child.{Child}
-use Rattle.clause_core.specs.declared.clauses.Clause.{Clause}
+use Rattle.fitting_lists.specs.declared.leading_equations.LeadingPlace.{LeadingPlace}
+use Rattle.fitting_lists.specs.Leading.{IsPlace}
 use Rattle.inference_rules.specs.declared.nodes.Node.{Node as ClauseNode}
+use Rattle.inference_rules.specs.Answers.{clauses_of}
 use Rattle.proof_search.specs.declared.building.Building.{Building}
 use Rattle.proof_search.specs.Building.{child_nodes, child_parents}
 use Rattle.proof_search.specs.Leading.{ArePlaces}
+use Rattle.proof_search.proofs.LeadingPlaces.{places_more}
 
--- the nodes of clauses, and for each of them the number of the parent
-abbrev pub nodes_for : List Clause → List ClauseNode
-nodes_for cs = map (λ (c : Clause). record { clause = c }) cs
+-- nodes are the same where their clauses are
+pub same_nodes : (nodes others : List ClauseNode) → clauses_of nodes ≡ clauses_of others → nodes ≡ others
+same_nodes [] [] e = refl
+same_nodes [] (n ∷ others) e = absurd (omega (arith, ap length e))
+same_nodes (n ∷ nodes) [] e = absurd (omega (arith, ap length e))
+same_nodes (n ∷ nodes) (m ∷ others) e =
+    let q : n.clause ∷ clauses_of nodes ≡ m.clause ∷ clauses_of others = e in
+    let h : n.clause ≡ m.clause = cc in
+    let t : clauses_of nodes ≡ clauses_of others = cc in
+    let rest = same_nodes nodes others t in
+    λ i. record { clause = h i } ∷ rest i
 
-abbrev pub parents_for : ℕ → List Clause → List ℕ
-parents_for k cs = map (λ (c : Clause). k) cs
+-- the clauses of children's nodes
+pub child_clauses :
+    (nodes : List ClauseNode) (children : List Child) →
+    clauses_of (nodes ++ child_nodes children) ≡ clauses_of nodes ++ map (λ (d : Child). d.clause) children
+child_clauses [] [] = refl
+child_clauses [] (d ∷ children) = ap (λ cs. d.clause ∷ cs) (child_clauses [] children)
+child_clauses (n ∷ nodes) children = ap (λ cs. n.clause ∷ cs) (child_clauses nodes children)
 
-pub nodes_for_children :
-    (ds : List Child) → nodes_for (map (λ (d : Child). d.clause) ds) ≡ child_nodes ds
-nodes_for_children [] = refl
-nodes_for_children (d ∷ ds) = ap (λ ns. record { clause = d.clause } ∷ ns) (nodes_for_children ds)
-
-pub parents_for_children :
-    (k : ℕ) (ds : List Child) →
-    parents_for k (map (λ (d : Child). d.clause) ds) ≡ child_parents k ds
-parents_for_children k [] = refl
-parents_for_children k (d ∷ ds) = ap (λ ns. k ∷ ns) (parents_for_children k ds)
-
--- one clause more
-pub nodes_more :
-    (ns : List ClauseNode) (cs : List Clause) (c : Clause) →
-    (ns ++ nodes_for cs) ++ record { clause = c } ∷ [] ≡ ns ++ nodes_for (cs ++ c ∷ [])
-nodes_more ns cs c =
-    append_assoc ns (nodes_for cs) (nodes_for (c ∷ []))
-    ∙ ap (λ (l : List ClauseNode). ns ++ l)
-    (sym (map-append {B = ClauseNode} (λ (d : Clause). record { clause = d }) cs (c ∷ [])))
-
-pub parents_more :
-    (ps : List ℕ) (k : ℕ) (cs : List Clause) (c : Clause) →
-    (ps ++ parents_for k cs) ++ k ∷ [] ≡ ps ++ parents_for k (cs ++ c ∷ [])
-parents_more ps k cs c =
-    append_assoc ps (parents_for k cs) (k ∷ [])
-    ∙ ap (λ (l : List ℕ). ps ++ l) (sym (map-append {B = ℕ} (λ (d : Clause). k) cs (c ∷ [])))
-
--- the nodes of these clauses are added, below their parent
-pub record AddsNodes (old new : Building) (parent : ℕ) (clauses : List Clause) : Type 0 where
-  pub nodes : new.nodes.items ≡ old.nodes.items ++ nodes_for clauses
-  pub parents : new.parents.items ≡ old.parents.items ++ parents_for parent clauses
-  pub links : new.links.items ≡ old.links.items
-  pub steps : new.steps.items ≡ old.steps.items
+-- the numbers of the parent and the places for these children are added
+pub record AddsChildren (old new : Building) (parent : ℕ) (children : List Child) : Type 0 where
+  pub parents : new.parents.items ≡ old.parents.items ++ child_parents parent children
   pub leadings :
-      ArePlaces old.nodes.items old.leadings.items → ArePlaces new.nodes.items new.leadings.items
+      ArePlaces old.block.nodes.items old.leadings.items →
+      ArePlaces (old.block.nodes.items ++ child_nodes children) new.leadings.items
+  pub nodes : new.block.nodes.items ≡ old.block.nodes.items
+  pub links : new.block.links.items ≡ old.block.links.items
+  pub steps : new.steps.items ≡ old.steps.items
   pub sides : new.sides ≡ old.sides
+
+-- the next child of a step
+module _ (children : List Child) (i : ℕ) (child : Child) (lt : i < length children) (is : child ≡ get_or children i child) where
+  next : take (i + 1) children ≡ take i children ++ child ∷ []
+  next = taken_next children i child lt is
+
+  pub parents_more :
+      (parents old now : List ℕ) (parent : ℕ) → now ≡ old ++ child_parents parent (take i children) →
+      parents ≡ now ++ parent ∷ [] → parents ≡ old ++ child_parents parent (take (i + 1) children)
+  parents_more parents old now parent so_far more =
+      more ∙ ap (λ ps. ps ++ parent ∷ []) so_far
+      ∙ append_assoc old (child_parents parent (take i children)) (parent ∷ [])
+      ∙ ap (λ (ps : List ℕ). old ++ ps)
+      (sym (map-append {B = ℕ} (λ (d : Child). parent) (take i children) (child ∷ [])))
+      ∙ ap (λ cs. old ++ child_parents parent cs) (sym next)
+
+  pub leadings_more :
+      (nodes : List ClauseNode) (now places : List (Option LeadingPlace)) (place : Option LeadingPlace) →
+      ArePlaces (nodes ++ child_nodes (take i children)) now → IsPlace child.clause place →
+      places ≡ now ++ place ∷ [] → ArePlaces (nodes ++ child_nodes (take (i + 1) children)) places
+  leadings_more nodes now places place all one more =
+      places_more (nodes ++ child_nodes (take i children)) (nodes ++ child_nodes (take (i + 1) children)) now places
+      (record { clause = child.clause }) place all one
+      (ap (λ cs. nodes ++ child_nodes cs) next
+      ∙ ap (λ (ns : List ClauseNode). nodes ++ ns)
+      (map-append {B = ClauseNode} (λ (d : Child). record { clause = d.clause }) (take i children) (child ∷ []))
+      ∙ sym (append_assoc nodes (child_nodes (take i children)) (child_nodes (child ∷ []))))
+      more

@@ -1,8 +1,7 @@
 -- What the building of a block keeps from step to step, and what it says at its ends.
 use Rattle.std.proofs.Common.{◌≡◌, ℕ, zero, suc, ◌+◌, ◌<◌, ◌≤◌, List, [], ◌∷◌, ◌++◌, Some, None, Ok, map, refl, ap, sym, ◌∙◌, subst, arith, length, length-append}
-use Rattle.std.specs.Prelude.{Option, slice_get, flat_map, Contains}
-use Rattle.std.proofs.lemmas.Grind.{flat_map-append}
-use Rattle.std.proofs.lemmas.List.{append-nil, length-map, map-append}
+use Rattle.std.specs.Prelude.{Option, slice_get, Contains}
+use Rattle.std.proofs.lemmas.List.{length-map, map-append}
 use Rattle.std.proofs.lemmas.Option.{none-some, same_Some}
 use Rattle.term_core.specs.Tree.{Tree}
 use Rattle.spec_core.specs.declared.records.Spec.{Spec}
@@ -18,6 +17,7 @@ use Rattle.descent.specs.SortedChildren.{IsNode, ChildrenAreSorted}
 use Rattle.acceptance.specs.Blocks.{clauses_of as clauses_made, nodes_of, StepMakes, StepsMake}
 use Rattle.acceptance.proofs.Longer.{steps_longer}
 use Rattle.block_links.specs.Links.{links_of}
+use Rattle.block_steps.proofs.Taking.{nodes_joined, nodes_more, one_node}
 use Rattle.inference_rules.specs.declared.nodes.Node.{Node as ClauseNode}
 use Rattle.inference_rules.specs.Answers.{clauses_of}
 use Rattle.inference_rules.specs.Nodes.{AreNodes}
@@ -34,16 +34,10 @@ use Rattle.proof_search.specs.Building.{nodes_in, IsWhole, Begins, Takes, child_
 use Rattle.proof_search.specs.declared.starting.Built.TheVariants.{Block, Not}
 use Rattle.proof_search.specs.Starting.{IsNext, AreLonger, BeginsWith, IsBlock}
 use Rattle.proof_search.proofs.Along.{OneChosen, BegunAt, Along, along_first, along_long, along_end, along_none, along_more}
+use Rattle.proof_search.proofs.AddedNodes.{child_clauses}
 use Rattle.proof_search.proofs.BuiltNodes.{there, length_one, nodes_clauses, nodes_length, begins_whole, begins_nodes, takes_whole, takes_nodes}
 
--- nodes of both lists
-nodes_both :
-    (sig : Sig) (xs ys : List Clause) → AreNodes sig xs → AreNodes sig ys →
-    AreNodes sig (xs ++ ys)
-nodes_both sig [] ys h k j d at = k j d at
-nodes_both sig (x ∷ xs) ys h k zero d at = h 0 d at
-nodes_both sig (x ∷ xs) ys h k (suc j) d at = nodes_both sig xs ys (λ i e p. h (suc i) e p) k j d at
-
+-- the clauses of children that can be nodes
 nodes_made :
     (sig : Sig) (ds : List Child) →
     ((i : ℕ) (d : Child) → slice_get ds i ≡ Some d → IsNode sig d.clause) →
@@ -51,18 +45,6 @@ nodes_made :
 nodes_made sig [] h j c at = absurd (none-some c at)
 nodes_made sig (d ∷ ds) h zero c at = subst (IsNode sig) (same_Some d.clause c at) (h 0 d refl)
 nodes_made sig (d ∷ ds) h (suc j) c at = nodes_made sig ds (λ i e p. h (suc i) e p) j c at
-
-one_node : (sig : Sig) (c : Clause) → IsNode sig c → AreNodes sig (c ∷ [])
-one_node sig c h zero d at = subst (IsNode sig) (same_Some c d at) h
-one_node sig c h (suc j) d at = absurd (none-some d at)
-
--- the clauses that stand behind those of the other nodes
-clauses_taken :
-    (old : List ClauseNode) (ds : List Child) →
-    clauses_of (old ++ child_nodes ds) ≡ clauses_of old ++ map (λ (d : Child). d.clause) ds
-clauses_taken [] [] = refl
-clauses_taken [] (d ∷ ds) = ap (λ cs. d.clause ∷ cs) (clauses_taken [] ds)
-clauses_taken (n ∷ old) ds = ap (λ cs. n.clause ∷ cs) (clauses_taken old ds)
 
 module _ (above : Tree → Tree → Type 0) (spec : Spec) (lemmas : List ℕ) (start : Start) where
   abbrev table : Table
@@ -81,19 +63,19 @@ module _ (above : Tree → Tree → Type 0) (spec : Spec) (lemmas : List ℕ) (s
     -- each routine block begins with the steps so far, and goes on from the nodes so far
     pub record IsPart (b : Building) : Type 0 where
       pub few : length b.steps.items ≤ most
-      pub reached : length b.steps.items ≤ length b.nodes.items
+      pub reached : length b.steps.items ≤ length b.block.nodes.items
       pub whole : IsWhole b
-      pub nodes : AreNodes spec.sig (clauses_of b.nodes.items)
+      pub nodes : AreNodes spec.sig (clauses_of b.block.nodes.items)
       pub along : Along table list goal b.steps.items (nodes_in b)
       pub made : List Children
       pub made_by : StepsMake above spec (Contains lemmas) (goal ∷ []) 0 b.steps.items made
-      pub are : clauses_of b.nodes.items ≡ nodes_of goal made
-      pub links : b.links.items ≡ map links_of made
+      pub are : clauses_of b.block.nodes.items ≡ nodes_of goal made
+      pub links : b.block.links.items ≡ map links_of made
 
     pub part_begins : (b : Building) → IsNode spec.sig goal → Begins goal b → IsPart b
     part_begins b node h =
         let none : length b.steps.items ≡ 0 = ap length h.steps in
-        let are : clauses_of b.nodes.items ≡ goal ∷ [] = ap clauses_of h.nodes in
+        let are : clauses_of b.block.nodes.items ≡ goal ∷ [] = ap clauses_of h.nodes in
         record {
           few = omega (arith, none);
           reached = omega (arith, none);
@@ -110,7 +92,7 @@ module _ (above : Tree → Tree → Type 0) (spec : Spec) (lemmas : List ℕ) (s
         }
 
     module _ (b : Building) (part : IsPart b) where
-      long : length (nodes_in b) ≡ length b.nodes.items
+      long : length (nodes_in b) ≡ length b.block.nodes.items
       long = nodes_length b part.whole
 
       -- the first step that was taken
@@ -129,7 +111,7 @@ module _ (above : Tree → Tree → Type 0) (spec : Spec) (lemmas : List ℕ) (s
           (longer, subst (BeginsWith above spec lemmas start goal) (sym is) told)
 
       pub part_long :
-          most < length b.nodes.items →
+          most < length b.block.nodes.items →
           (first : Option Step) → first ≡ slice_get b.steps.items 0 →
           IsBlock above spec lemmas start goal most (Not first)
       part_long more first is =
@@ -138,7 +120,7 @@ module _ (above : Tree → Tree → Type 0) (spec : Spec) (lemmas : List ℕ) (s
           (omega (arith, more, long)))
 
       pub part_ends :
-          length b.nodes.items ≤ length b.steps.items →
+          length b.block.nodes.items ≤ length b.steps.items →
           IsBlock above spec lemmas start goal most (Block b)
       part_ends le =
           let same : length (nodes_in b) ≡ length b.steps.items =
@@ -150,11 +132,11 @@ module _ (above : Tree → Tree → Type 0) (spec : Spec) (lemmas : List ℕ) (s
             made_by = part.made_by;
             finished =
                 sym (ap length part.are)
-                ∙ length-map b.nodes.items (λ (n : ClauseNode). n.clause) ∙ sym long ∙ same;
+                ∙ length-map b.block.nodes.items (λ (n : ClauseNode). n.clause) ∙ sym long ∙ same;
             links = part.links;
           }
 
-      module _ (lt : length b.steps.items < length b.nodes.items) where
+      module _ (lt : length b.steps.items < length b.block.nodes.items) where
         here : (node : Node) × (slice_get (nodes_in b) (length b.steps.items) ≡ Some node)
         here = there (nodes_in b) (length b.steps.items) (omega (arith, lt, long))
 
@@ -172,7 +154,7 @@ module _ (above : Tree → Tree → Type 0) (spec : Spec) (lemmas : List ℕ) (s
         -- the next node takes its step
         module _
             (laws : ChildrenAreSorted above) (fine : IsWellSorted spec)
-            (one : OneChosen table list) (le : length b.nodes.items ≤ most) (new : Building)
+            (one : OneChosen table list) (le : length b.block.nodes.items ≤ most) (new : Building)
             (move : Move) (next : IsNext above spec lemmas start b (Some move))
             (taken : Takes b new move)
           where
@@ -185,29 +167,29 @@ module _ (above : Tree → Tree → Type 0) (spec : Spec) (lemmas : List ℕ) (s
             abbrev IsThere : List Clause → Type 0
             IsThere cs = slice_get cs (length b.steps.items) ≡ Some here.0.clause
 
-            said : SaysOver (clauses_of b.nodes.items)
+            said : SaysOver (clauses_of b.block.nodes.items)
             said =
                 subst SaysOver (nodes_clauses b part.whole)
                 (chosen_says (table (clauses (nodes_in b)) here.0.clause)
                 (list (length b.steps.items) (nodes_in b) here.0) move (next here.0 here.1))
 
-            clause_there : IsThere (clauses_of b.nodes.items)
+            clause_there : IsThere (clauses_of b.block.nodes.items)
             clause_there =
                 subst IsThere (nodes_clauses b part.whole)
                 (clauses_at (nodes_in b) (length b.steps.items) here.0 here.1)
 
             are_new :
-                clauses_of new.nodes.items ≡ clauses_of b.nodes.items ++ clauses_made move.made
-            are_new = ap clauses_of taken.nodes ∙ clauses_taken b.nodes.items move.made.clauses
+                clauses_of new.block.nodes.items ≡ clauses_of b.block.nodes.items ++ clauses_made move.made
+            are_new = ap clauses_of taken.nodes ∙ child_clauses b.block.nodes.items move.made.clauses
 
-            stand : AreNodes spec.sig (clauses_of new.nodes.items)
+            stand : AreNodes spec.sig (clauses_of new.block.nodes.items)
             stand =
                 let made =
-                laws move.step spec lemmas (clauses_of b.nodes.items) here.0.clause move.made fine
+                laws move.step spec lemmas (clauses_of b.block.nodes.items) here.0.clause move.made fine
                 (λ j d p. (part.nodes j d p).sorted)
                 (part.nodes (length b.steps.items) here.0.clause clause_there).sorted said in
                 subst (AreNodes spec.sig) (sym are_new)
-                (nodes_both spec.sig (clauses_of b.nodes.items) (clauses_made move.made) part.nodes
+                (nodes_joined spec.sig (clauses_of b.block.nodes.items) (clauses_made move.made) part.nodes
                 (nodes_made spec.sig move.made.clauses made))
 
             abbrev MakesAt : ℕ → Type 0
@@ -227,16 +209,10 @@ module _ (above : Tree → Tree → Type 0) (spec : Spec) (lemmas : List ℕ) (s
                 let steps : length new.steps.items ≡ suc (length b.steps.items) =
                 ap length taken.steps ∙ length_one b.steps.items move.step in
                 let more = child_nodes move.made.clauses in
-                let nodes : length new.nodes.items ≡ length b.nodes.items + length more =
-                ap length taken.nodes ∙ length-append b.nodes.items more in
+                let nodes : length new.block.nodes.items ≡ length b.block.nodes.items + length more =
+                ap length taken.nodes ∙ length-append b.block.nodes.items more in
                 let k : length b.steps.items ≡ 0 + length b.steps.items = omega arith in
                 let all = part.made ++ move.made ∷ [] in
-                let are_all : nodes_of goal all
-                ≡ nodes_of goal part.made ++ clauses_made move.made =
-                ap (λ cs. goal ∷ cs)
-                (flat_map-append clauses_made part.made (move.made ∷ [])
-                ∙ ap (λ cs. flat_map clauses_made part.made ++ cs)
-                (append-nil (clauses_made move.made))) in
                 record {
                   few = omega (arith, steps, lt, le);
                   reached = omega (arith, steps, nodes, lt);
@@ -254,7 +230,8 @@ module _ (above : Tree → Tree → Type 0) (spec : Spec) (lemmas : List ℕ) (s
                       (steps_longer above spec (Contains lemmas) (goal ∷ []) 0 b.steps.items
                       part.made part.made_by move.step move.made (subst MakesAt k step_makes));
                   are =
-                      are_new ∙ ap (λ cs. cs ++ clauses_made move.made) part.are ∙ sym are_all;
+                      are_new ∙ ap (λ cs. cs ++ clauses_made move.made) part.are
+                      ∙ sym (nodes_more goal part.made move.made);
                   links =
                       taken.links ∙ ap (λ ls. ls ++ links_of move.made ∷ []) part.links
                       ∙ sym (map-append links_of part.made (move.made ∷ []));

@@ -150,17 +150,17 @@ grown_clauses steps nodes (d ∷ ds) (p ∷ ps) e =
     ∙ ap (λ cs. cs ++ clauses_of ds) (map-append (λ (n : Node). n.clause) nodes (w ∷ []))
     ∙ append_assoc (clauses nodes) (d.clause ∷ []) (clauses_of ds)
 
-pub nodes_clauses : (b : Building) → IsWhole b → clauses (nodes_in b) ≡ clauses_of b.nodes.items
-nodes_clauses b w = grown_clauses b.steps.items [] b.nodes.items b.parents.items w.paired
+pub nodes_clauses : (b : Building) → IsWhole b → clauses (nodes_in b) ≡ clauses_of b.block.nodes.items
+nodes_clauses b w = grown_clauses b.steps.items [] b.block.nodes.items b.parents.items w.paired
 
-pub nodes_length : (b : Building) → IsWhole b → length (nodes_in b) ≡ length b.nodes.items
+pub nodes_length : (b : Building) → IsWhole b → length (nodes_in b) ≡ length b.block.nodes.items
 nodes_length b w =
     sym (length-map (nodes_in b) (λ (n : Node). n.clause)) ∙ ap length (nodes_clauses b w)
-    ∙ length-map b.nodes.items (λ (n : ClauseNode). n.clause)
+    ∙ length-map b.block.nodes.items (λ (n : ClauseNode). n.clause)
 
 -- Ways
 pub way_first : (b : Building) (here : Node) → slice_get (nodes_in b) 0 ≡ Some here → here.way ≡ []
-way_first b here at = go b.nodes.items b.parents.items at
+way_first b here at = go b.block.nodes.items b.parents.items at
   where
     go :
         (ds : List ClauseNode) (ps : List ℕ) →
@@ -189,15 +189,15 @@ way_later b w k p here parent at =
     let low = w.parents k p parent in
     let long = nodes_length b w in
     let within : suc k < length (nodes_in b) = slice_get_within (nodes_in b) (suc k) here at in
-    let node = there b.nodes.items (suc k) (omega (arith, within, long)) in
+    let node = there b.block.nodes.items (suc k) (omega (arith, within, long)) in
     let up = there (nodes_in b) p (omega (arith, within, low.0)) in
     let step = there b.steps.items p low.1 in
     let z : 0 + suc k ≡ suc k = omega arith in
     let below = node_below b.steps.items (nodes_in b) (node.0, p) in
     let is : slice_get (nodes_in b) (suc k) ≡ Some below =
     subst (λ j. slice_get (nodes_in b) j ≡ Some below) z
-    (grown_at b.steps.items [] (zip b.nodes.items b.parents.items) (suc k) (node.0, p)
-    (zip_at b.nodes.items b.parents.items (suc k) node.0 p node.1 parent)
+    (grown_at b.steps.items [] (zip b.block.nodes.items b.parents.items) (suc k) (node.0, p)
+    (zip_at b.block.nodes.items b.parents.items (suc k) node.0 p node.1 parent)
     (omega (arith, low.0))) in
     let same : below ≡ here = same_Some below here (sym is ∙ at) in
     record {
@@ -283,14 +283,14 @@ module _ (old new : Building) (move : Move) (taken : Takes old new move) (whole 
   parent_of (q ∷ ps) children (suc k) p at =
       elim (parent_of ps children k p at) [ inl h ↦ inl h | inr h ↦ inr (omega (arith, h.0), h.1) ]
 
-  pub takes_whole : next < length old.nodes.items → IsWhole new
+  pub takes_whole : next < length old.block.nodes.items → IsWhole new
   takes_whole lt = record {
     paired =
         let ps =
         ap length taken.parents
         ∙ length-append old.parents.items (child_parents next move.made.clauses) in
         let ds =
-        ap length taken.nodes ∙ length-append old.nodes.items (child_nodes move.made.clauses) in
+        ap length taken.nodes ∙ length-append old.block.nodes.items (child_nodes move.made.clauses) in
         let p = length-map {B = ℕ} move.made.clauses (λ (d : Child). next) in
         let d =
         length-map {B = ClauseNode} move.made.clauses
@@ -314,15 +314,15 @@ module _ (old new : Building) (move : Move) (taken : Takes old new move) (whole 
       let ds = child_nodes move.made.clauses in
       let ps = child_parents next move.made.clauses in
       let steps = old.steps.items ++ move.step ∷ [] in
-      let pairs = zip (old.nodes.items ++ ds) (old.parents.items ++ ps) in
+      let pairs = zip (old.block.nodes.items ++ ds) (old.parents.items ++ ps) in
       let is : nodes_in new ≡ grown steps [] pairs =
       λ i. grown (taken.steps i) [] (zip (taken.nodes i) (taken.parents i)) in
       is
       ∙ ap (λ ms. grown steps [] ms)
-      (zip_append old.nodes.items ds old.parents.items ps whole.paired)
-      ∙ grown_both steps [] (zip old.nodes.items old.parents.items) (zip ds ps)
+      (zip_append old.block.nodes.items ds old.parents.items ps whole.paired)
+      ∙ grown_both steps [] (zip old.block.nodes.items old.parents.items) (zip ds ps)
       ∙ ap (λ ns. grown steps ns (zip ds ps))
-      (steps_longer old.steps.items (move.step ∷ []) old.nodes.items old.parents.items
+      (steps_longer old.steps.items (move.step ∷ []) old.block.nodes.items old.parents.items
       (λ k p h. (whole.parents k p h).1))
       ∙ grown_children steps (nodes_in old) next here move.step move.made.clauses at
       (get_middle old.steps.items [] move.step)

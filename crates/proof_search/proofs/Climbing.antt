@@ -52,7 +52,7 @@ pub record HasParent (b : Building) (here p : ℕ) : Type 0 where
 
 pub parent_of :
     (b : Building) → IsWhole b → (ps : List ℕ) → ps ≡ b.parents.items → (here : ℕ) → 0 < here →
-    here < length b.nodes.items → HasParent b here (get_or ps here 0)
+    here < length b.block.nodes.items → HasParent b here (get_or ps here 0)
 parent_of b whole ps same zero above within = absurd (omega arith)
 parent_of b whole ps same (suc k) above within =
     let lt : suc k < length b.parents.items = omega (arith, whole.paired) in

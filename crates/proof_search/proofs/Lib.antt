@@ -30,7 +30,6 @@ mod Along
 mod BuiltBlocks
 mod Starts
 -- Which of them are proofs.
-mod StepsInRange
 mod StartProofs
 mod FewStarts
 mod FirstProofs

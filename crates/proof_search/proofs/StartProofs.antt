@@ -40,7 +40,7 @@ use Rattle.proof_search.specs.Guided.{proved_by}
 use Rattle.proof_search.specs.Proving.{IsShortBlock, IsTried}
 use Rattle.proof_search.specs.Starting.{BeginsWith, IsBlock, IsDone}
 use Rattle.block_links.proofs.LinksAlone.{allowed_by_links, links_allowed, whole_links}
-use Rattle.proof_search.proofs.StepsInRange.{claim_in_range}
+use Rattle.block_steps.proofs.StepsInRange.{claim_in_range}
 
 -- the clause of a goal within the limits can be a node
 pub goal_node :
@@ -115,7 +115,7 @@ module _
               subst Begins (sym is)
               (routine_begins above spec lemmas start (goal_clause goal) b.steps.items done.routine)
 
-          pub links_whole : IsWholeBlock b.links.items
+          pub links_whole : IsWholeBlock b.block.links.items
           links_whole =
               let whole =
               whole_block above spec (Contains lemmas) (goal_clause goal) b.steps.items done.made
@@ -126,7 +126,7 @@ module _
               (block : Block) → block.steps ≡ b.steps.items →
               ClaimIsInRange spec.sig (proved_by goal block)
           in_range block e =
-              claim_in_range above spec (Contains lemmas) goal block (goal_clause goal) done.made
+              claim_in_range above spec (Contains lemmas) goal.name block (goal_clause goal) done.made
               (rw e done.made_by)
 
           module _
@@ -144,7 +144,7 @@ module _
                   routine_one above one spec fine lemmas (goal_clause goal) start b.steps.items
                   steps done.routine p.routine
 
-              none_allowed : (k : ℕ) → TellsAllowed b.links.items (Not k) → HasNo
+              none_allowed : (k : ℕ) → TellsAllowed b.block.links.items (Not k) → HasNo
               none_allowed k tells steps p =
                   let proves =
                   subst (λ ss. Proves above spec (Contains lemmas) (goal_clause goal) ss)
@@ -158,13 +158,13 @@ module _
                   (links_allowed done.made k (allowed k)))
 
               pub not_allowed :
-                  (k : ℕ) → TellsAllowed b.links.items (Not k) → (first : Option Step) →
+                  (k : ℕ) → TellsAllowed b.block.links.items (Not k) → (first : Option Step) →
                   first ≡ slice_get b.steps.items 0 →
                   IsTried above spec lemmas goal most start (NoProof first)
               not_allowed k tells first is = (none_allowed k tells, begins first is)
 
               module _
-                  (within : IsWithin (goal_clause goal)) (tells : TellsAllowed b.links.items All)
+                  (within : IsWithin (goal_clause goal)) (tells : TellsAllowed b.block.links.items All)
                   (block : Block) (e : block.steps ≡ b.steps.items)
                 where
                   proves : Proves above spec (Contains lemmas) (goal_clause goal) b.steps.items

@@ -30,7 +30,7 @@ module _ (above : Tree → Tree → Type 0) (spec : Spec) (lemmas : List ℕ) wh
       slice_get made k ≡ Some here → Gets made here (cover spec here.clause v) found
 
   module _
-      (b : Building) (whole : IsWhole b) (nodes : List ClauseNode) (same : nodes ≡ b.nodes.items)
+      (b : Building) (whole : IsWhole b) (nodes : List ClauseNode) (same : nodes ≡ b.block.nodes.items)
     where
       clauses_same : clauses (nodes_in b) ≡ clauses_of nodes
       clauses_same = nodes_clauses b whole ∙ ap clauses_of (sym same)

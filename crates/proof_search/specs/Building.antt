@@ -32,24 +32,24 @@ grown steps nodes (made ∷ more) =
 
 -- the nodes so far, each with its way
 abbrev pub nodes_in : Building → List Node
-nodes_in b = grown b.steps.items [] (zip b.nodes.items b.parents.items)
+nodes_in b = grown b.steps.items [] (zip b.block.nodes.items b.parents.items)
 
 -- each node but the first is a child of an earlier node with a step, and the places of their
 -- leading equations are kept
 pub record IsWhole (b : Building) : Type 0 where
-  pub paired : length b.parents.items ≡ length b.nodes.items
+  pub paired : length b.parents.items ≡ length b.block.nodes.items
   pub parents :
       (k p : ℕ) → slice_get b.parents.items (suc k) ≡ Some p →
       (p ≤ k) × (p < length b.steps.items)
-  pub leadings : ArePlaces b.nodes.items b.leadings.items
+  pub leadings : ArePlaces b.block.nodes.items b.leadings.items
 
 -- the node of the clause alone, without a step
 pub record Begins (clause : Clause) (b : Building) : Type 0 where
-  pub nodes : b.nodes.items ≡ record { clause = clause } ∷ []
+  pub nodes : b.block.nodes.items ≡ record { clause = clause } ∷ []
   pub parents : b.parents.items ≡ 0 ∷ []
   pub steps : b.steps.items ≡ []
-  pub links : b.links.items ≡ []
-  pub leadings : ArePlaces b.nodes.items b.leadings.items
+  pub links : b.block.links.items ≡ []
+  pub leadings : ArePlaces b.block.nodes.items b.leadings.items
 
 -- the nodes of children, and for each of them the number of the parent
 abbrev pub child_nodes : List Child → List ClauseNode
@@ -60,12 +60,12 @@ child_parents parent children = map (λ (d : Child). parent) children
 
 -- the next node has the step of the move, and what it makes stands behind the other nodes
 pub record Takes (old new : Building) (move : Move) : Type 0 where
-  pub nodes : new.nodes.items ≡ old.nodes.items ++ child_nodes move.made.clauses
+  pub nodes : new.block.nodes.items ≡ old.block.nodes.items ++ child_nodes move.made.clauses
   pub parents :
       new.parents.items
       ≡ old.parents.items ++ child_parents (length old.steps.items) move.made.clauses
   pub steps : new.steps.items ≡ old.steps.items ++ move.step ∷ []
-  pub links : new.links.items ≡ old.links.items ++ links_of move.made ∷ []
+  pub links : new.block.links.items ≡ old.block.links.items ++ links_of move.made ∷ []
   pub leadings :
-      ArePlaces old.nodes.items old.leadings.items → ArePlaces new.nodes.items new.leadings.items
+      ArePlaces old.block.nodes.items old.leadings.items → ArePlaces new.block.nodes.items new.leadings.items
   pub sides : new.sides ≡ old.sides

@@ -68,4 +68,4 @@ module _ (above : Tree → Tree → Type 0) where
   pub record KeepsSides (s : Setting) (b : Building) : Type 0 where
     pub lemmas : LemmasFall s
     pub first :
-        (c : Clause) → slice_get (clauses_of b.nodes.items) 0 ≡ Some c → AreFalling c b.sides
+        (c : Clause) → slice_get (clauses_of b.block.nodes.items) 0 ≡ Some c → AreFalling c b.sides

@@ -63,7 +63,7 @@ module _ (above : Tree → Tree → Type 0) (spec : Spec) (lemmas : List ℕ) (s
       pub made : List Children
       pub made_by : StepsMake above spec (Contains lemmas) (goal ∷ []) 0 b.steps.items made
       pub finished : length (nodes_of goal made) ≡ length b.steps.items
-      pub links : b.links.items ≡ map links_of made
+      pub links : b.block.links.items ≡ map links_of made
 
     -- each routine block has more nodes than that
     abbrev pub AreLonger : Type 0

@@ -33,8 +33,8 @@ IsNotNeither r = (r.relation ≡ Less) ⊎ (r.relation ≡ Same)
 pub record IsAt (at : At) : Type 0 where
   pub setting : IsSetting at.setting.now
   pub whole : IsWhole at.building.now
-  pub in_range : at.number < length at.building.now.nodes.items
-  pub own : at.nodes.now ≡ at.building.now.nodes.items
+  pub in_range : at.number < length at.building.now.block.nodes.items
+  pub own : at.nodes.now ≡ at.building.now.block.nodes.items
   pub nodes : AreNodes at.setting.now.spec.now.sig (clauses_of at.nodes.now)
   pub here : slice_get (clauses_of at.nodes.now) at.number ≡ Some at.here.now
   pub node : IsNode at.setting.now.spec.now.sig at.here.now

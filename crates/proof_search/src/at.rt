@@ -50,14 +50,15 @@ impl<'a> At<'a> {
     ) -> Result<At<'a>, OutOfMemory>
         requires setting { IsSetting setting.now }
         requires whole { IsWhole building.now }
-        requires in_range { number < length building.now.nodes.items }
-        requires nodes { AreNodes setting.now.spec.now.sig (clauses_of building.now.nodes.items) }
+        requires in_range { number < length building.now.block.nodes.items }
+        requires nodes { AreNodes setting.now.spec.now.sig
+            (clauses_of building.now.block.nodes.items) }
         ensures is { IfOk result IsAt }
         ensures same { IfOk result (λ at. (at.setting.now ≡ setting.now)
             × (at.building.now ≡ building.now) × (at.number ≡ number)) }
     {
         places_are_there();
-        let nodes = building.nodes.as_slice();
+        let nodes = building.block.nodes.as_slice();
         let here = &nodes[number as usize].clause;
         let spots = Spots::of(alloc, here)?;
         let premises = here.equations(false);

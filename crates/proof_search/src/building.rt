@@ -4,10 +4,9 @@ ghost use Rattle.proof_search.specs.Building.{IsWhole, nodes_in, Begins, Takes};
 ghost use Rattle.proof_search.specs.FallingSides.{AreFalling};
 
 use crate::falling_sides::{FallingSides, falling_sides};
-use block_links::apart;
-use clause_core::{Children, Clause, Step};
+use block_steps::TakenSteps;
+use clause_core::{Clause, Step};
 use fitting_lists::{LeadingPlace, leading};
-use inference_rules::Node;
 use routine_proof::Move;
 use std::alloc::Global;
 use term_core::OutOfMemory;
@@ -16,12 +15,10 @@ use term_order::TermOrder;
 /// A block that is being built: its nodes so far, of which the first ones have their steps.
 #[derive(Drop)]
 pub(crate) struct Building {
-    pub nodes: Vec<Node>,
+    pub block: TakenSteps,
     /// For each node the number of the node whose child it is, and 0 for node 0.
     pub parents: Vec<u32>,
     pub steps: Vec<Step>,
-    /// For each step what it makes, without the clauses of children, which stand in `nodes`.
-    pub links: Vec<Children>,
     /// For each node the place of its leading equation, where it has one.
     pub leadings: Vec<Option<LeadingPlace>>,
     /// The falling sides of node 0.
@@ -41,35 +38,31 @@ impl Building {
         let sides = falling_sides(order, &clause);
         let mut leadings = Vec::new(alloc);
         leadings.push(leading(alloc, &clause)?)?;
-        let mut nodes = Vec::new(alloc);
-        nodes.push(Node { clause })?;
+        let block = TakenSteps::new(alloc, clause)?;
         let mut parents = Vec::new(alloc);
         parents.push(0)?;
         Ok(Building {
-            nodes,
+            block,
             parents,
             steps: Vec::new(alloc),
-            links: Vec::new(alloc),
             leadings,
             sides,
         })
     }
 
-    /// Gives the next node its step. The children that it makes stand behind the other nodes.
+    /// Gives the next node its step. The children that it makes come after the other nodes.
     pub fn take(&mut self, alloc: Global, taken: Move) -> Result<(), OutOfMemory>
         requires { length self.old.steps.items < 2 ^ 32 }
         ensures { OnOk result (Takes self.old self.new taken) }
     {
         let Move { step, made } = taken;
-        let (clauses, links) = apart(alloc, made)?;
         let parent = self.steps.len() as u32;
-        self.steps.push(step)?;
-        self.links.push(links)?;
-        for clause in clauses {
-            self.leadings.push(leading(alloc, &clause)?)?;
-            self.nodes.push(Node { clause })?;
+        for child in made.clauses.as_slice() {
+            self.leadings.push(leading(alloc, &child.clause)?)?;
             self.parents.push(parent)?;
         }
+        self.block.add(alloc, made)?;
+        self.steps.push(step)?;
         Ok(())
     }
 
@@ -83,7 +76,7 @@ impl Building {
     /// The ancestors of a node from which some step on the way to it isn't a cover, from node 0 on.
     pub fn ancestors(&self, alloc: Global, node: u32) -> Result<Vec<u32>, OutOfMemory>
         requires whole { IsWhole self.now }
-        requires in_range { node < length self.now.nodes.items }
+        requires in_range { node < length self.now.block.nodes.items }
         ensures { IfOk result (λ found. (here : WayNode) →
             slice_get (nodes_in self.now) node ≡ Some here → found.items ≡ ancestors_of here.way) }
     {

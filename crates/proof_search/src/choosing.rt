@@ -110,8 +110,8 @@ pub(crate) fn chosen<'a, O: TermOrder>(
 ) -> Result<Option<Move>, OutOfMemory>
     requires setting { IsSetting setting.now }
     requires whole { IsWhole building.now }
-    requires in_range { node < length building.now.nodes.items }
-    requires nodes { AreNodes setting.now.spec.now.sig (clauses_of building.now.nodes.items) }
+    requires in_range { node < length building.now.block.nodes.items }
+    requires nodes { AreNodes setting.now.spec.now.sig (clauses_of building.now.block.nodes.items) }
     requires sides { KeepsSides (O.above order.now) setting.now building.now }
     ensures { IfOk result (IsListed (O.above order.now) setting.now.spec.now setting.now.lemmas.now
         building.now node) }
@@ -131,10 +131,10 @@ pub(crate) fn covered<'a, O: TermOrder>(
 ) -> Result<Option<Move>, OutOfMemory>
     requires setting { IsSetting setting.now }
     requires whole { IsWhole building.now }
-    requires in_range { node < length building.now.nodes.items }
-    requires nodes { AreNodes setting.now.spec.now.sig (clauses_of building.now.nodes.items) }
+    requires in_range { node < length building.now.block.nodes.items }
+    requires nodes { AreNodes setting.now.spec.now.sig (clauses_of building.now.block.nodes.items) }
     ensures { IfOk result (λ found. (made : List WayNode) (here : WayNode) →
-        clauses made ≡ clauses_of building.now.nodes.items → slice_get made node ≡ Some here →
+        clauses made ≡ clauses_of building.now.block.nodes.items → slice_get made node ≡ Some here →
         let spec = setting.now.spec.now in
         let lemmas = setting.now.lemmas.now in
         IsFirst

@@ -14,14 +14,11 @@ use crate::setting::Setting;
 use crate::starting::{Built, Start, block};
 use acceptance::{Allowed, allowed};
 use clause_core::{Block, Claim, Outcome, Step, of_goal};
-use proof_script::print_claim;
+use proof_script::{MOST_CLAIM_BYTES, print_claim};
 use spec_core::{Goal, Spec};
 use std::alloc::Global;
 use term_core::{OutOfMemory, Seq};
 use term_order::TermOrder;
-
-/// The most bytes of a claim in a report.
-const MOST_BYTES: usize = 300_000;
 
 /// What is found from a start.
 #[derive(Drop)]
@@ -56,7 +53,7 @@ pub(crate) fn proof_from<O: TermOrder>(
         Built::Not { first } => return Ok(Tried::Not { first }),
         Built::Block(building) => building,
     };
-    match allowed(alloc, &building.links)? {
+    match allowed(alloc, &building.block.links)? {
         Allowed::Not { .. } => Ok(Tried::Not {
             first: building.first_step(),
         }),
@@ -85,7 +82,7 @@ fn short_block(alloc: Global, spec: &Spec, goal: &Goal, block: Block) -> Result<
     } = claim;
     match outcome {
         Outcome::Proved(block) => {
-            if text.len() > MOST_BYTES {
+            if text.len() > MOST_CLAIM_BYTES {
                 return Ok(Tried::Not {
                     first: first_of(block.steps.into_vec()),
                 });

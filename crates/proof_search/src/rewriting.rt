@@ -16,7 +16,7 @@ use crate::falling_sides::{FallingSides, only_conclusion};
 use crate::laws::never_rises;
 use crate::referring::Referral;
 use crate::side_spines::SideSpines;
-use clause_core::{Clause, tidying_laws};
+use clause_core::{Clause, side, tidying_laws};
 use clause_places::places_are_there;
 use fitting_lists::{Matcher, copies, heads_agree, nothing_is_missing};
 use place_comparison::place_decides;
@@ -245,17 +245,6 @@ fn rewriting_from<'a, O: TermOrder>(
         return Ok(None);
     }
     rewriting_by_list(alloc, order, at, rewriting.referral, index, left, list)
-}
-
-/// The left side of the equation where true, the right one where false.
-fn side(equation: &Equation, left: bool) -> &Term
-    ensures { result.now ≡ side_of left equation.now }
-{
-    if left {
-        &equation.left
-    } else {
-        &equation.right
-    }
 }
 
 /// The step that rewrites by the instance with these terms.

@@ -51,8 +51,8 @@ pub(crate) fn block<O: TermOrder>(
     clause_core::one_answer(order);
     descent::children_are_sorted(order);
     let mut building = Building::new(alloc, order, clause)?;
-    while building.steps.len() < building.nodes.len() {
-        if building.nodes.len() > most as usize {
+    while building.steps.len() < building.block.nodes.len() {
+        if building.block.nodes.len() > most as usize {
             return Ok(Built::Not {
                 first: building.first_step(),
             });
@@ -79,8 +79,8 @@ fn next_move<O: TermOrder>(
 ) -> Result<Option<Move>, OutOfMemory>
     requires setting { IsSetting setting.now }
     requires whole { IsWhole building.now }
-    requires nodes { AreNodes setting.now.spec.now.sig (clauses_of building.now.nodes.items) }
-    requires next { length building.now.steps.items < length building.now.nodes.items }
+    requires nodes { AreNodes setting.now.spec.now.sig (clauses_of building.now.block.nodes.items) }
+    requires next { length building.now.steps.items < length building.now.block.nodes.items }
     requires few { length building.now.steps.items < 2 ^ 32 }
     requires sides { KeepsSides (O.above order.now) setting.now building.now }
     ensures { IfOk result (IsNext (O.above order.now) setting.now.spec.now setting.now.lemmas.now

@@ -19,7 +19,7 @@ use Rattle.descent.specs.SortedChildren.{IsNode}
 use Rattle.inference_rules.specs.Answers.{clauses_of}
 use Rattle.inference_rules.specs.Nodes.{AreNodes}
 use Rattle.block_links.specs.Links.{without_sides}
-use Rattle.replay_check.specs.declared.taken_steps.TakenSteps.{TakenSteps}
+use Rattle.block_steps.specs.declared.taken_steps.TakenSteps.{TakenSteps}
 use Rattle.replay_check.specs.Kept.{IsNeededBehind, IsNeededFrom, LetsGo, TellLastUses, referred}
 
 module _ (above : Tree → Tree → Type 0) (c : Clause) (nodes others : List Clause) (long : length nodes ≡ length others) where

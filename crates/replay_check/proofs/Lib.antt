@@ -1,10 +1,8 @@
--- Blocks: goals that may be used, and steps that are taken.
-mod UsableGoals
+-- Blocks: steps that are taken, and clauses that are let go.
 mod KeptClauses
 mod TakenSteps
 mod TestedBlocks
 -- Values of refuted goals.
 mod NamedValues
 -- Claims.
-mod Tracking
 mod TestedClaims

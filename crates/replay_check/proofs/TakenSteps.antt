@@ -1,19 +1,15 @@
--- Steps that are taken one after the other.
-use Rattle.std.proofs.Common.{◌≡◌, ℕ, zero, suc, ◌+◌, ◌≤◌, ◌<◌, List, [], ◌∷◌, ◌++◌, Some, None, inl, inr, refl, sym, ◌∙◌, ap, subst, arith, length, length-append, take, get_or}
-use Rattle.std.specs.Prelude.{Result, Ok, Err, flat_map, slice_get}
-use Rattle.std.proofs.lemmas.Grind.{flat_map-append}
-use Rattle.std.proofs.lemmas.List.{append-nil, length-map, length-take-le, map-append}
-use Rattle.std.proofs.lemmas.Option.{slice_get-get_or, slice_get_read}
+-- Steps that are taken one after the other, while clauses are let go.
+use Rattle.std.proofs.Common.{◌≡◌, ℕ, ◌+◌, ◌<◌, List, [], ◌∷◌, ◌++◌, Some, inl, inr, refl, sym, ◌∙◌, ap, subst, arith, length, length-append, take, get_or}
+use Rattle.std.specs.Prelude.{Result, Ok, Err, slice_get}
+use Rattle.std.proofs.lemmas.List.{length-map, length-take-le, map-append}
+use Rattle.std.proofs.lemmas.Option.{slice_get_read}
 use Rattle.term_core.proofs.Items.{taken_next}
 use Rattle.term_core.specs.Tree.{Tree}
 use Rattle.spec_core.specs.declared.records.Spec.{Spec}
 use Rattle.clause_core.specs.declared.clauses.Clause.{Clause}
 use Rattle.clause_core.specs.declared.steps.Step.{Step}
-use Rattle.clause_core.specs.declared.answers.Child.{Child}
 use Rattle.clause_core.specs.declared.answers.Children.{Children}
 use Rattle.clause_core.specs.declared.answers.Why.{Why}
-use Rattle.clause_core.specs.declared.answers.Why.TheVariants.{Limit}
-use Rattle.clause_core.specs.Rows.{Row, needs, makes}
 use Rattle.clause_core.specs.Says.{Says}
 use Rattle.descent.specs.SortedChildren.{IsNode}
 use Rattle.clause_core.specs.Steps.{row_of}
@@ -21,83 +17,26 @@ use Rattle.acceptance.specs.Blocks.{nodes_of, StepMakes, StepsMake}
 use Rattle.acceptance.specs.StepRefusals.{StepIsRefused}
 use Rattle.acceptance.proofs.Longer.{steps_longer}
 use Rattle.acceptance.proofs.WholeBlocks.{as_many}
-use Rattle.inference_rules.specs.declared.nodes.Node.{Node}
 use Rattle.inference_rules.specs.declared.nodes.StepError.{StepError}
 use Rattle.inference_rules.specs.declared.nodes.StepError.TheVariants.{Why as because, OutOfMemory as no_memory}
-use Rattle.inference_rules.specs.Answers.{Answered, clauses_of}
-use Rattle.inference_rules.specs.Nodes.{AreNodes, clauses_made}
+use Rattle.inference_rules.specs.Answers.{clauses_of}
+use Rattle.inference_rules.specs.Nodes.{clauses_made}
 use Rattle.replay_check.specs.declared.answers.Stop.{Stop}
 use Rattle.replay_check.specs.declared.answers.Stop.TheVariants.{Refused, OutOfMemory}
-use Rattle.replay_check.specs.declared.taken_steps.TakenSteps.{TakenSteps}
-use Rattle.block_links.specs.Links.{links_of, without_sides}
+use Rattle.block_links.specs.Links.{links_of}
+use Rattle.block_steps.specs.declared.taken_steps.TakenSteps.{TakenSteps}
+use Rattle.block_steps.specs.Taken.{TakesStep, AreFewNodes}
+use Rattle.block_steps.proofs.Taking.{few_first, length-clauses, nodes_more}
 use Rattle.replay_check.specs.Kept.{Agree, IsNeededBehind, IsNeededFrom, LetsGo, TellLastUses, referred}
-use Rattle.replay_check.specs.Taken.{TakesStep, AreFewNodes, AreTaken, StopsAt, FindsSteps}
+use Rattle.replay_check.specs.Taken.{AreTaken, StopsAt, FindsSteps}
 use Rattle.replay_check.proofs.KeptClauses.{needed_before, needed_behind, same_joined, step_over}
 
--- with the children of a step there are few nodes
-pub few_made : (above : Tree → Tree → Type 0) (c : Clause) (nodes : List Clause) (row : Row) (m : Children) → Says above c nodes row (Ok m) → length nodes + length m.clauses ≤ 10000
-few_made above c nodes (needs P why rest) m (inl (p, s)) = few_made above c nodes (rest p) m s
-few_made above c nodes (needs P why rest) m (inr (n, e)) = absurd (let q : Ok m ≡ Err why = e in cc)
-few_made above c nodes (makes children refs) m (made, cs, rs, inl (few, e)) =
-    let q : Ok m ≡ Ok made = e in
-    let k : m ≡ made = cc in
-    let n : length m.clauses ≡ length made.clauses = ap (λ (x : Children). length x.clauses) k in
-    omega (arith, few.1, n)
-few_made above c nodes (makes children refs) m (made, cs, rs, inr (few, e)) = absurd (let q : Ok m ≡ Err Limit = e in cc)
-
--- what stands in the joined list stands in one of the two
-pub each_joined : {X : Type 0} (P : X → Type 0) (xs ys : List X) → ((j : ℕ) (x : X) → slice_get xs j ≡ Some x → P x) → ((j : ℕ) (x : X) → slice_get ys j ≡ Some x → P x) → (j : ℕ) (x : X) → slice_get (xs ++ ys) j ≡ Some x → P x
-each_joined P [] ys h k j x at = k j x at
-each_joined P (y ∷ xs) ys h k zero x at = h 0 x at
-each_joined P (y ∷ xs) ys h k (suc j) x at = each_joined P xs ys (λ i z. h (suc i) z) k j x at
-
 module _ (above : Tree → Tree → Type 0) (spec : Spec) (usable : ℕ → Type 0) where
-  -- what the step's row says of node k of these nodes is answered
-  abbrev pub AnsweredAt : List Node → ℕ → Step → Result Children StepError → Type 0
-  AnsweredAt nodes k step answer = (c : Clause) → slice_get (clauses_of nodes) k ≡ Some c → Answered above c (clauses_of nodes) (row_of spec usable (clauses_of nodes) c step) answer
-
-  -- a step whose node is there is refused
-  pub step_stops :
-      (old new : TakenSteps) (step : Step) → length old.links.items < length old.nodes.items → (error : StepError) →
-      ((c : Clause) → slice_get (clauses_of old.nodes.items) (length old.links.items) ≡ Some c → Answered above c (clauses_of old.nodes.items) (row_of spec usable (clauses_of old.nodes.items) c step) (Err error)) →
-      TakesStep above spec usable old new step (Err error)
-  step_stops old new step lt (because why) says =
-      let clauses = clauses_of old.nodes.items in
-      let here = slice_get-get_or clauses (length old.links.items) without_sides (omega (arith, length-map old.nodes.items (λ (n : Node). n.clause), lt)) in
-      inr (get_or clauses (length old.links.items) without_sides, here, says (get_or clauses (length old.links.items) without_sides) here)
-  step_stops old new step lt no_memory says = tt
-
-  -- the children of a step whose node is there are added
-  pub step_taken :
-      (old new : TakenSteps) (step : Step) (m : Children) → length old.links.items < length old.nodes.items → AreNodes spec.sig (clauses_of old.nodes.items) →
-      ((c : Clause) → slice_get (clauses_of old.nodes.items) (length old.links.items) ≡ Some c → Says above c (clauses_of old.nodes.items) (row_of spec usable (clauses_of old.nodes.items) c step) (Ok m)) →
-      AreNodes spec.sig (clauses_made m) → clauses_of new.nodes.items ≡ clauses_of old.nodes.items ++ clauses_made m → new.links.items ≡ old.links.items ++ links_of m ∷ [] →
-      TakesStep above spec usable old new step (Ok tt)
-  step_taken old new step m lt are says made nodes links =
-      let clauses = clauses_of old.nodes.items in
-      let long : length clauses ≡ length old.nodes.items = length-map old.nodes.items (λ (n : Node). n.clause) in
-      let here = slice_get-get_or clauses (length old.links.items) without_sides (omega (arith, long, lt)) in
-      let c = get_or clauses (length old.links.items) without_sides in
-      let sum : length clauses + length m.clauses ≤ 10000 = few_made above c clauses (row_of spec usable clauses c step) m (says c here) in
-      let news : length (clauses_of new.nodes.items) ≡ length new.nodes.items = length-map new.nodes.items (λ (n : Node). n.clause) in
-      let many : length (clauses_of new.nodes.items) ≡ length clauses + length m.clauses = ap length nodes ∙ length-append clauses (clauses_made m) ∙ ap (λ n. length clauses + n) (length-map m.clauses (λ (d : Child). d.clause)) in
-      let more : length new.links.items ≡ length old.links.items + 1 = ap length links ∙ length-append old.links.items (links_of m ∷ []) in (
-        m,
-        record { clause = c; is = here; says = says c here },
-        nodes,
-        links,
-        record {
-          nodes = subst (λ cs. AreNodes spec.sig cs) (sym nodes) (each_joined (IsNode spec.sig) clauses (clauses_made m) are made);
-          few = omega (arith, sum, news, many);
-          reached = omega (arith, lt, long, news, many, more);
-        },
-      )
-
   -- where clauses are let go there are few nodes still
   still_few : (needed : ℕ → Type 0) (old new : TakenSteps) → AreFewNodes above spec usable old → LetsGo needed old new → AreFewNodes above spec usable new
   still_few needed old new few go =
-      let olds : length (clauses_of old.nodes.items) ≡ length old.nodes.items = length-map old.nodes.items (λ (n : Node). n.clause) in
-      let news : length (clauses_of new.nodes.items) ≡ length new.nodes.items = length-map new.nodes.items (λ (n : Node). n.clause) in
+      let olds = length-clauses old.nodes.items in
+      let news = length-clauses new.nodes.items in
       record {
         nodes = go.nodes spec.sig few.nodes;
         few = omega (arith, few.few, olds, news, go.kept.long);
@@ -128,13 +67,10 @@ module _ (above : Tree → Tree → Type 0) (spec : Spec) (usable : ℕ → Type
         let more : length new.links.items ≡ length old.links.items + 1 = ap length links ∙ length-append old.links.items (links_of m ∷ []) in
         omega (arith, few.reached, reached, more)
 
-    one_more : (made : List Children) (m : Children) → nodes_of start (made ++ m ∷ []) ≡ nodes_of start made ++ clauses_made m
-    one_more made m = ap (λ cs. start ∷ cs) (flat_map-append clauses_made made (m ∷ []) ∙ ap (λ cs. flat_map clauses_made made ++ cs) (append-nil (clauses_made m)))
-
     -- the children behind the nodes that are kept
     kept_more : (needed : ℕ → Type 0) (between new : TakenSteps) (m : Children) → clauses_of between.nodes.items ≡ clauses_of old.nodes.items ++ clauses_made m → LetsGo needed between new → ((j : ℕ) → IsNeededFrom steps (i + 1) j → needed j) → Agree (IsNeededFrom steps (i + 1)) (clauses_of new.nodes.items) (nodes_of start (taken.made ++ m ∷ []))
     kept_more needed between new m nodes go behind =
-        let all = one_more taken.made m in
+        let all = nodes_more start taken.made m in
         let two : length (clauses_of old.nodes.items ++ clauses_made m) ≡ length (clauses_of old.nodes.items) + length (clauses_made m) = length-append (clauses_of old.nodes.items) (clauses_made m) in
         let sum : length (nodes_of start taken.made ++ clauses_made m) ≡ length (nodes_of start taken.made) + length (clauses_made m) = length-append (nodes_of start taken.made) (clauses_made m) in
         let more : length (clauses_of old.nodes.items) + length (clauses_made m) ≡ length (nodes_of start taken.made) + length (clauses_made m) = ap (λ n. n + length (clauses_made m)) taken.nodes.long in
@@ -171,18 +107,10 @@ module _ (above : Tree → Tree → Type 0) (spec : Spec) (usable : ℕ → Type
 
   -- where no step is taken yet
   pub none_taken : (start : Clause) (steps : List Step) → IsNode spec.sig start → (new : TakenSteps) → clauses_of new.nodes.items ≡ start ∷ [] → new.links.items ≡ [] → AreTaken above spec usable start steps 0 new
-  none_taken start steps is new nodes links =
-      let news : length (clauses_of new.nodes.items) ≡ length new.nodes.items = length-map new.nodes.items (λ (n : Node). n.clause) in
-      let one : length (clauses_of new.nodes.items) ≡ 1 = ap length nodes in
-      let no_links : length new.links.items ≡ 0 = ap length links in
-      record {
-        made = [];
-        makes = tt;
-        nodes = record { long = ap length nodes; same = λ k needed. ap (λ cs. slice_get cs k) nodes };
-        links = links;
-        few = record { nodes = subst (λ cs. AreNodes spec.sig cs) (sym nodes) (only start is); few = omega (arith, news, one); reached = omega (arith, no_links) };
-      }
-    where
-      only : (c : Clause) → IsNode spec.sig c → AreNodes spec.sig (c ∷ [])
-      only c h zero d at = let q : Some c ≡ Some d = at in let e : c ≡ d = cc in subst (λ x. IsNode spec.sig x) e h
-      only c h (suc j) d at = absurd (let q : None ≡ Some d = at in cc)
+  none_taken start steps is new nodes links = record {
+    made = [];
+    makes = tt;
+    nodes = record { long = ap length nodes; same = λ k needed. ap (λ cs. slice_get cs k) nodes };
+    links = links;
+    few = few_first above spec usable new start is nodes links;
+  }

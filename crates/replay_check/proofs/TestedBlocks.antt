@@ -36,11 +36,11 @@ use Rattle.block_links.specs.Links.{links_of}
 use Rattle.block_links.proofs.LinksAlone.{allowed_by_links, links_allowed, whole_links}
 use Rattle.replay_check.specs.declared.answers.Stop.{Stop}
 use Rattle.replay_check.specs.declared.answers.Stop.TheVariants.{Refused, OutOfMemory}
-use Rattle.replay_check.specs.declared.taken_steps.TakenSteps.{TakenSteps}
+use Rattle.block_steps.specs.declared.taken_steps.TakenSteps.{TakenSteps}
 use Rattle.replay_check.specs.Finds.{Finds}
 use Rattle.replay_check.specs.Taken.{AreTaken, FindsSteps}
-use Rattle.replay_check.specs.Tracking.{AreProved}
-use Rattle.replay_check.proofs.UsableGoals.{makes_same, refused_same}
+use Rattle.claimed_goals.specs.Tracking.{AreProved}
+use Rattle.claimed_goals.proofs.UsableGoals.{makes_same, refused_same}
 
 -- the clause of a goal within the limits can be a node
 pub goal_node : (laws : TidyingLaws) (spec : Spec) → IsWellSorted spec → (goal : Goal) (k : ℕ) → slice_get spec.goals k ≡ Some goal → IsWithin (goal_clause goal) → IsNode spec.sig (goal_clause goal)

@@ -15,8 +15,8 @@ use Rattle.clause_core.specs.declared.reports.ReplayWhy.{ReplayWhy}
 use Rattle.clause_core.specs.declared.reports.Report.{Report}
 use Rattle.clause_core.specs.ClauseLaws.{OneRelation}
 use Rattle.replay_check.specs.Finds.{Finds}
-use Rattle.replay_check.specs.Tracking.{Tracks}
-use Rattle.replay_check.specs.declared.claimed_goals.ClaimedGoals.{ClaimedGoals}
+use Rattle.claimed_goals.specs.Tracking.{Tracks}
+use Rattle.claimed_goals.specs.declared.goals.ClaimedGoals.{ClaimedGoals}
 use Rattle.replay_check.specs.declared.answers.Stop.{Stop}
 use Rattle.replay_check.specs.declared.answers.Stop.TheVariants.{Refused, OutOfMemory}
 use Rattle.acceptance.specs.Claims.{IsClaimed}

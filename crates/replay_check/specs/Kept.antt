@@ -6,7 +6,7 @@ use Rattle.clause_core.specs.declared.steps.Step.{Step}
 use Rattle.clause_core.specs.declared.steps.Step.TheVariants.{Subsume, Hyp}
 use Rattle.inference_rules.specs.Answers.{clauses_of}
 use Rattle.inference_rules.specs.Nodes.{AreNodes}
-use Rattle.replay_check.specs.declared.taken_steps.TakenSteps.{TakenSteps}
+use Rattle.block_steps.specs.declared.taken_steps.TakenSteps.{TakenSteps}
 
 -- the node that the step refers to by its number
 abbrev pub referred : Step → Option ℕ

@@ -2,7 +2,6 @@
 pub mod Tells
 -- What only this crate's own contracts speak of.
 pub mod Finds
-pub mod Tracking
 pub mod Kept
 pub mod Taken
 pub mod NamedValues

@@ -1,5 +1,5 @@
 -- Steps of a block that are taken: the nodes so far, and the links from those with a step.
-use Rattle.std.specs.Prelude.{◌≡◌, ◌≤◌, ◌<◌, ◌+◌, suc, ℕ, List, [], ◌∷◌, ◌++◌, Result, Ok, Err, length, map, take}
+use Rattle.std.specs.Prelude.{◌≡◌, ◌<◌, ◌+◌, suc, ℕ, List, [], ◌∷◌, Result, Ok, Err, length, map, take}
 use Rattle.term_core.specs.Tree.{Tree}
 use Rattle.spec_core.specs.declared.records.Spec.{Spec}
 use Rattle.clause_core.specs.declared.clauses.Clause.{Clause}
@@ -7,17 +7,17 @@ use Rattle.clause_core.specs.declared.steps.Step.{Step}
 use Rattle.clause_core.specs.declared.answers.Children.{Children}
 use Rattle.clause_core.specs.declared.answers.Why.{Why}
 use Rattle.clause_core.specs.declared.reports.ReplayWhy.TheVariants.{Step as of_step}
-use Rattle.acceptance.specs.Blocks.{nodes_of, StepMakes, StepsMake}
-use Rattle.acceptance.specs.StepRefusals.{IsRefused, StepIsRefused}
+use Rattle.acceptance.specs.Blocks.{nodes_of, StepsMake}
+use Rattle.acceptance.specs.StepRefusals.{StepIsRefused}
 use Rattle.inference_rules.specs.declared.nodes.StepError.{StepError}
 use Rattle.inference_rules.specs.declared.nodes.StepError.TheVariants.{Why as because, OutOfMemory as no_memory}
 use Rattle.inference_rules.specs.Answers.{clauses_of}
-use Rattle.inference_rules.specs.Nodes.{AreNodes, clauses_made}
 use Rattle.block_links.specs.Links.{links_of}
+use Rattle.block_steps.specs.declared.taken_steps.TakenSteps.{TakenSteps}
+use Rattle.block_steps.specs.Taken.{AreFewNodes}
 use Rattle.replay_check.specs.Kept.{Agree, IsNeededFrom}
 use Rattle.replay_check.specs.declared.answers.Stop.{Stop}
 use Rattle.replay_check.specs.declared.answers.Stop.TheVariants.{Refused, OutOfMemory}
-use Rattle.replay_check.specs.declared.taken_steps.TakenSteps.{TakenSteps}
 
 -- a step that isn't defined is refused on its line, behind the first one of the claim; want of memory
 -- may always come
@@ -27,24 +27,6 @@ StopsAt line k no_memory (Refused at reason) = ⊥
 StopsAt line k error OutOfMemory = Unit {0}
 
 module _ (above : Tree → Tree → Type 0) (spec : Spec) (usable : ℕ → Type 0) where
-  -- each node that is made can stand in a block, there are few, and each step has its own
-  pub record AreFewNodes (taken : TakenSteps) : Type 0 where
-    pub nodes : AreNodes spec.sig (clauses_of taken.nodes.items)
-    pub few : length taken.nodes.items ≤ 10000
-    pub reached : length taken.links.items ≤ length taken.nodes.items
-
-  -- the step of the next node adds what it makes, or is refused
-  abbrev pub TakesStep : TakenSteps → TakenSteps → Step → Result Unit StepError → Type 0
-  TakesStep old new step (Ok done) =
-      (made : Children)
-      × StepMakes above spec usable (clauses_of old.nodes.items) (length old.links.items) step made
-      × (clauses_of new.nodes.items ≡ clauses_of old.nodes.items ++ clauses_made made)
-      × (new.links.items ≡ old.links.items ++ links_of made ∷ [])
-      × AreFewNodes new
-  TakesStep old new step (Err (because why)) =
-      IsRefused above spec usable (clauses_of old.nodes.items) (length old.links.items) step why
-  TakesStep old new step (Err no_memory) = Unit {0}
-
   -- the first k steps of a block that begins with this clause are taken, and the clauses that are
   -- needed from there on are kept
   pub record AreTaken (start : Clause) (steps : List Step) (k : ℕ) (taken : TakenSteps) : Type 0
@@ -53,7 +35,7 @@ module _ (above : Tree → Tree → Type 0) (spec : Spec) (usable : ℕ → Type
       pub makes : StepsMake above spec usable (start ∷ []) 0 (take k steps) made
       pub nodes : Agree (IsNeededFrom steps k) (clauses_of taken.nodes.items) (nodes_of start made)
       pub links : taken.links.items ≡ map links_of made
-      pub few : AreFewNodes taken
+      pub few : AreFewNodes above spec usable taken
 
   -- all steps are taken, or one is refused, on its line, behind the first one of the claim
   abbrev pub FindsSteps : Clause → List Step → ℕ → Result TakenSteps Stop → Type 0

@@ -7,13 +7,14 @@ ghost use Rattle.acceptance.specs.Claims.{ProvedBefore};
 ghost use Rattle.acceptance.specs.Refusals.{block_tests};
 ghost use Rattle.replay_check.specs.Finds.{Finds};
 ghost use Rattle.replay_check.specs.Taken.{FindsSteps, StopsAt};
-ghost use Rattle.replay_check.specs.Tracking.{AreProved};
+ghost use Rattle.claimed_goals.specs.Tracking.{AreProved};
 
 use crate::answers::Stop;
 use crate::last_uses::last_uses;
+use crate::letting_go::let_go;
 use crate::lines::line_behind;
-use crate::taken_steps::TakenSteps;
 use acceptance::{Allowed, allowed};
+use block_steps::TakenSteps;
 use clause_core::{Clause, ReplayWhy, Step, Why, of_goal, within};
 use inference_rules::StepError;
 use spec_admit::Admitted;
@@ -88,7 +89,7 @@ fn take_steps<O: TermOrder>(
             Ok(()) => {}
             Err(error) => return Err(stop_at(line, number, error)),
         }
-        taken.let_go(alloc, lasts, number, step);
+        let_go(&mut taken, alloc, lasts, number, step);
     }
     Ok(taken)
 }

@@ -5,18 +5,17 @@ ghost use Rattle.acceptance.specs.Accepting.{IsShown, ClaimIsAccepted, IsAccepte
 ghost use Rattle.acceptance.specs.Claims.{IsGoalNamed};
 ghost use Rattle.acceptance.specs.Refusals.{outcome_tests, claim_tests, report_tests};
 ghost use Rattle.replay_check.specs.Finds.{Finds};
-ghost use Rattle.replay_check.specs.Tracking.{AreProved, IsNumberOf, Tracks};
+ghost use Rattle.claimed_goals.specs.Tracking.{AreProved, IsNumberOf, Tracks};
 
 use crate::answers::Stop;
 use crate::blocks::check_block;
-use crate::claimed_goals::ClaimedGoals;
 use crate::lines::{line_behind, other_lines};
 use crate::values::check_values;
+use claimed_goals::ClaimedGoals;
 use clause_core::{Claim, Outcome, ReplayWhy, Report};
 use spec_admit::Admitted;
-use spec_core::{Goal, Spec};
+use spec_core::Goal;
 use std::alloc::Global;
-use term_core::Name;
 use term_order::TermOrder;
 
 /// The line of the first claim: one names the format, and one has the steps of a verdict.
@@ -60,7 +59,7 @@ fn check_claim<O: TermOrder>(
         × ClaimIsAccepted (O.above admitted.now.order) admitted.now.spec steps before claim.now)
         result }
 {
-    let Some((number, goal)) = goal_named(&admitted.spec, &claim.goal) else {
+    let Some((number, goal)) = admitted.spec.goal_named(&claim.goal) else {
         return Err(Stop::Refused {
             line,
             why: ReplayWhy::UnknownGoal,
@@ -103,25 +102,4 @@ fn check_outcome<O: TermOrder>(
         }
         Outcome::Open(_) => Ok(()),
     }
-}
-
-/// The goal of this name, behind its number.
-fn goal_named<'a>(spec: &'a Spec, name: &Name) -> Option<(usize, &'a Goal)>
-    ensures { MatchOption result
-        ((goal : GoalOf) → IsGoalNamed spec.now name.now goal → ⊥)
-        (λ found. (slice_get spec.now.goals found.0 ≡ Some found.1.now)
-        × (found.1.now.name ≡ name.now)) }
-{
-    for (number, goal) in spec.goals.as_slice().iter().enumerate() {
-        if has_name(goal, name) {
-            return Some((number, goal));
-        }
-    }
-    None
-}
-
-fn has_name(goal: &Goal, name: &Name) -> bool
-    ensures { IsTrue result ↔ (goal.now.name ≡ name.now) }
-{
-    goal.name.as_bytes() == name.as_bytes()
 }

@@ -11,13 +11,10 @@ use crate::first_lines::FirstLine;
 use crate::lines::Lines;
 use crate::values::read_value;
 use clause_core::{Block, Claim, Outcome, Step};
-use proof_script::read_step;
+use proof_script::{MOST_CLAIM_BYTES, read_step};
 use spec_core::Signature;
 use std::alloc::Global;
 use term_core::{Name, Seq, Term};
-
-/// The greatest number of bytes that the lines of a claim may have, with their newlines.
-const MAX_CLAIM_BYTES: usize = 300_000;
 
 /// The claim of this first line, and the lines behind it. So many bytes were read where the claim
 /// begins.
@@ -124,7 +121,7 @@ fn claim_line(at: Lines<'_>, start: usize) -> Result<(&[u8], Lines<'_>), ReportE
         (λ e. HasNoClaimLine at.entry start e) }
 {
     let (line, behind) = at.next_line()?;
-    if behind.read - start > MAX_CLAIM_BYTES {
+    if behind.read - start > MOST_CLAIM_BYTES {
         return Err(at.fault());
     }
     Ok((line, behind))

@@ -8,14 +8,12 @@ ghost use Rattle.report_reader.specs.FirstLines.{FirstStands, IsFirst, IsFirstBe
 ghost use Rattle.report_reader.specs.Numbers.{IsNumberBehind};
 ghost use Rattle.report_reader.specs.declared.first_lines.FirstLine.{FirstLine as AnyFirst};
 
-use clause_core::Budget;
+use clause_core::{Budget, MOST_NODES};
 use proof_script::{after, next_name, next_number};
 use std::alloc::Global;
 use term_core::{Name, OutOfMemory};
 
-/// The greatest number of steps of a block, and of values of a refuted goal.
-const MAX_NODES: u32 = 10_000;
-
+/// The most values of a refuted goal.
 const MAX_VALUES: u32 = 16;
 
 /// The greatest depth of values that a search tries.
@@ -61,7 +59,7 @@ fn proved_claim(alloc: Global, words: &[u8]) -> Result<Option<FirstLine>, OutOfM
     let Some(nodes) = last_number(others, b" nodes") else {
         return Ok(None);
     };
-    if nodes > MAX_NODES {
+    if nodes as usize > MOST_NODES {
         return Ok(None);
     }
     Ok(Some(FirstLine::Proved { goal, nodes }))

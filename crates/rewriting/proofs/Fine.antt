@@ -13,7 +13,7 @@ use Rattle.term_core.specs.Variables.{Occurs, OccursAny}
 use Rattle.spec_core.specs.WellSorted.{IsWellSorted, HasFewArguments, IsLeft}
 use Rattle.substitutions.specs.Substitution.{entry, image, apply, apply_all}
 use Rattle.substitutions.proofs.Instances.{apply_all-trees_of, image_entry, image_none}
-use Rattle.unifier.specs.Matching.{IsMatch}
+use Rattle.matching.specs.Matching.{IsMatch}
 use Rattle.rewriting.specs.NormalForms.{IsNormal}
 use Rattle.rewriting.specs.Narrow.{IsNarrow, AreNarrow}
 use Rattle.rewriting.specs.Walks.{IsFine}

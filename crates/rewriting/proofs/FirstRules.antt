@@ -11,7 +11,7 @@ use Rattle.spec_core.specs.WellSorted.{IsWellSorted, IsLeft}
 use Rattle.spec_core.specs.RuleTables.{numbers_of}
 use Rattle.spec_core.proofs.RuleTables.{head_here, place_has_rule, rule_has_place, ascending}
 use Rattle.substitutions.specs.Substitution.{apply, apply_all}
-use Rattle.unifier.specs.Matching.{IsMatch, HasNoMatch}
+use Rattle.matching.specs.Matching.{IsMatch, HasNoMatch}
 use Rattle.rewriting.specs.Uses.{Use, IsStuck}
 use Rattle.rewriting.specs.Found.{Found, NoneBefore}
 

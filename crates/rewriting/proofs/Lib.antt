@@ -6,7 +6,6 @@ pub mod OneRun
 pub mod FirstRules
 pub mod Fine
 pub mod Slotting
-pub mod Matchings
 pub mod Steps
 pub mod Falls
 pub mod Searching

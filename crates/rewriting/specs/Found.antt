@@ -3,7 +3,7 @@ use Rattle.std.specs.Prelude.{◌≡◌, ℕ, suc, ◌<◌, List, [], Option, So
 use Rattle.term_core.specs.Tree.{Tree}
 use Rattle.spec_core.specs.declared.records.Rule.{Rule}
 use Rattle.spec_core.specs.declared.records.Spec.{Spec}
-use Rattle.unifier.specs.Matching.{IsMatch, HasNoMatch}
+use Rattle.matching.specs.Matching.{IsMatch, HasNoMatch}
 use Rattle.rewriting.specs.Uses.{Use, IsStuck}
 
 -- the rule of this index is the first unguarded one whose left side matches the term, by these entries

@@ -1,13 +1,12 @@
 //! Normal forms of terms by the rules without guards.
 //!
-//! It stands on unifier. The layers above use that [`normalize`] finds the leftmost-innermost uses
+//! It stands on matching. The layers above use that [`normalize`] finds the leftmost-innermost uses
 //! of a term, each with its place and its rule, and answers Spent exactly where there are more of
 //! them than the budget ([`one_answer`]). Who normalizes many terms makes one [`Rewriter`].
 #![tactic(auto)]
 
 mod first;
 mod laws;
-mod matching;
 mod normal;
 mod rewriter;
 mod rewritten;

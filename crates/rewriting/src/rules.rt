@@ -2,8 +2,8 @@ ghost use Rattle.std.specs.Prelude.{IfOk};
 ghost use Rattle.spec_core.specs.WellSorted.{IsWellSorted};
 ghost use Rattle.rewriting.specs.Found.{IsFound};
 
-use crate::matching::fits;
 use crate::rewriter::Rewriter;
+use matching::fits;
 use std::alloc::Global;
 use term_core::{Node, OutOfMemory, Term};
 

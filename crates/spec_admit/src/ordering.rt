@@ -1,5 +1,4 @@
 ghost use Rattle.std.specs.Prelude.{◌≡◌, ◌≤◌, ◌+◌, IfOk, MatchOption, MatchBool};
-ghost use Rattle.spec_core.specs.Gives.{boolean};
 ghost use Rattle.spec_core.specs.Findings.{First};
 ghost use Rattle.spec_core.specs.RuleSizes.{RuleIsWithin, RulesAreWithin};
 ghost use Rattle.spec_core.specs.WellSorted.{IsWellSorted};
@@ -8,9 +7,9 @@ ghost use Rattle.clause_core.specs.Admitted.{GuardIsOrdered, RuleIsOrdered, Rule
 ghost use Rattle.spec_admit.specs.Tests.{all_order_tests};
 ghost use Rattle.spec_admit.specs.Parts.{IsUnorderedPart};
 
-use spec_core::{Guard, Rule, Spec};
+use spec_core::{Guard, Rule, Spec, boolean};
 use std::alloc::Global;
-use term_core::{OutOfMemory, SymId, Term, Terms};
+use term_core::{OutOfMemory, Term};
 use term_order::TermOrder;
 
 /// The first rule whose left side isn't above one of its parts, and the number of that part: 0 for
@@ -76,11 +75,4 @@ fn is_below<O: TermOrder>(alloc: Global, guard: &Guard, left: &Term, order: &O) 
         (¬ (GuardIsOrdered (O.above order.now) left.now guard.now)) }
 {
     order.greater(left, &guard.test) && order.greater(left, &boolean(alloc, guard.wanted))
-}
-
-/// The Boolean as a term, which takes no memory.
-fn boolean(alloc: Global, value: bool) -> Term
-    ensures { result ≡ boolean value }
-{
-    Term::app(SymId(if value { 0 } else { 1 }), Terms::new(alloc))
 }

@@ -8,7 +8,9 @@
 //! against the lists of declarations, and of [`RuleTable`] that it has each function's rules.
 #![tactic(auto)]
 
+mod booleans;
 mod building;
+mod goals;
 mod laws;
 mod orders;
 mod printing;
@@ -19,6 +21,7 @@ mod sorting;
 mod symbols;
 mod tables;
 
+pub use booleans::boolean;
 pub use building::BuildError;
 pub use laws::{one_small_value, one_value, worked_examples};
 pub use orders::order_by_number;

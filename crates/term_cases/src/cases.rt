@@ -2,12 +2,13 @@ use crate::levels::order_by_levels;
 use crate::signs::{is, number, term};
 use crate::{clause_cases, families};
 use anyhow::{Result, bail};
+use matching::matches;
 use path_order::Lpo;
 use std::alloc::Global;
 use substitutions::Subst;
 use term_core::{ReplaceError, SymId, Term, Terms, VarId};
 use term_order::TermOrder;
-use unifier::{ShiftError, matches, shift, unify};
+use unifier::{ShiftError, shift, unify};
 
 /// Whether the case comes out as it is written. In place of an answer `none` says that there is
 /// none, and `-` stands for the empty path and for no entries.

@@ -11,5 +11,5 @@
 mod operands;
 mod orders;
 
-pub use operands::{Operand, occurs};
+pub use operands::Operand;
 pub use orders::TermOrder;

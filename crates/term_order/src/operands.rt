@@ -1,7 +1,6 @@
-ghost use Rattle.std.specs.Prelude.{◌≡◌, ◌↔◌, ℕ, IsTrue};
+ghost use Rattle.std.specs.Prelude.{◌≡◌, ℕ};
 ghost use Rattle.term_core.specs.References.{terms_of};
-ghost use Rattle.term_core.specs.Tree.{trees_of, var as variable};
-ghost use Rattle.term_core.specs.Variables.{Occurs, OccursAny};
+ghost use Rattle.term_core.specs.Tree.{var as variable};
 ghost use Rattle.term_order.specs.Operands.{meaning};
 
 use term_core::{Node, Term};
@@ -36,28 +35,4 @@ impl<'a> Operand<'a> {
             Node::App(_, _) => self,
         }
     }
-}
-
-/// Whether the variable of this number is in the term.
-#[cycle(occurs)]
-pub fn occurs(number: usize, term: &Term) -> bool
-    ensures { IsTrue result ↔ Occurs number term.now }
-{
-    match &term.node {
-        Node::Var(var) => var.0 as usize == number,
-        Node::App(_, args) => occurs_in_any(number, args.as_slice()),
-    }
-}
-
-/// Whether it is in one of the terms.
-#[cycle(occurs)]
-fn occurs_in_any(number: usize, terms: &[Term]) -> bool
-    ensures { IsTrue result ↔ OccursAny number (trees_of terms.now) }
-{
-    for term in terms {
-        if occurs(number, term) {
-            return true;
-        }
-    }
-    false
 }

@@ -1,4 +1,3 @@
-pub mod Bindings
 pub mod Shifts
 pub mod Apart
 mod Closing

@@ -2,20 +2,10 @@
 use Rattle.std.specs.Prelude.{◌≡◌, [], ◌∷◌, Some, None}
 use Rattle.term_core.specs.Tree.{var}
 use Rattle.spec_core.specs.Naturals.{zero_term, succ_term, plus_term}
-use Rattle.unifier.specs.Matching.{IsMatch, HasNoMatch}
 use Rattle.unifier.specs.Unification.{IsUnifier, HaveNoUnifier, IsMostGeneral, IsRelevant}
 use Rattle.unifier.specs.Shifting.{shifted, HasTooLarge}
 
 pub record WorkedExamples : Type 0 where
-  -- zero for x and succ(x) for y make plus(x, y) plus(zero, succ(x))
-  pub matched : IsMatch (plus_term (var 0) (var 1)) (plus_term zero_term (succ_term (var 0)))
-      (Some zero_term ∷ Some (succ_term (var 0)) ∷ [])
-  -- an entry for y is no part of a match of succ(x)
-  pub one_too_many :
-      IsMatch (succ_term (var 0)) (succ_term zero_term) (Some zero_term ∷ Some zero_term ∷ []) → ⊥
-  -- x cannot be zero and succ(zero)
-  pub not_matched :
-      HasNoMatch (plus_term (var 0) (var 0)) (plus_term zero_term (succ_term zero_term))
   -- zero for x and y is a unifier of x and y, and y for x is a most general one
   pub unified : IsUnifier (var 0) (var 1) (Some zero_term ∷ Some zero_term ∷ [])
   pub not_general : IsMostGeneral (var 0) (var 1) (Some zero_term ∷ Some zero_term ∷ []) → ⊥

@@ -1,11 +1,9 @@
--- What matching, renaming apart and unification are.
-pub mod Matching
+-- What renaming apart and unification are.
 pub mod Shifting
 pub mod Unification
 pub mod Laws
 pub mod Examples
--- What only this crate's own contracts speak of: matching with the entries so far,
-pub mod Extending
+-- What only this crate's own contracts speak of: how errors are told,
 pub mod ErrorText
 -- the graph of two terms,
 pub mod Graph

@@ -5,7 +5,7 @@ use Rattle.term_core.specs.Measure.{weight, list_weight}
 use Rattle.fitting_lists.specs.declared.along.Below.{Below}
 use Rattle.fitting_lists.specs.declared.along.Below.TheVariants.{Differing, End, Last}
 use Rattle.fitting_lists.specs.Along.{IsLighter}
-use Rattle.fitting_lists.proofs.BoundEntries.{lighter}
+use Rattle.fitting_lists.proofs.Weights.{lighter}
 use Rattle.fitting_lists.proofs.along.last_arguments.Goals as goal
 
 lighter_yet : (m n : ℕ) (b : Below) → m ≤ n → IsLighter m b → IsLighter n b

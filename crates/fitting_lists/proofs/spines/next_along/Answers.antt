@@ -4,7 +4,7 @@ use Rattle.term_core.specs.Tree.{Tree, app, trees_of}
 use Rattle.term_core.specs.View.{tree_of}
 use Rattle.term_core.proofs.Trees.{weight-member}
 use Rattle.fitting_lists.specs.Spines.{one_more, last_run, run}
-use Rattle.fitting_lists.proofs.BoundEntries.{lighter}
+use Rattle.fitting_lists.proofs.Weights.{lighter}
 use Rattle.fitting_lists.proofs.FittingSpines.{last_is, same_symbol, other_symbol}
 use Rattle.fitting_lists.proofs.spines.next_along.Goals as goal
 

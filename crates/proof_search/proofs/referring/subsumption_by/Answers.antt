@@ -24,12 +24,12 @@ pub index-place-requires : goal.index-place-requires
 index-place-requires g c =
     let b = c.args.at.now.building.now in
     let node = c.in-Some.node.now in
-    let listed = item_at c.args.at.now.nodes.now b.nodes.items c.args.number node c.requires.own
+    let listed = item_at c.args.at.now.nodes.now b.block.nodes.items c.args.number node c.requires.own
     c.in-Some.ensures.lookup.3.0 c.in-Some.ensures.lookup.1 in
     omega (
       arith,
-      slice_get_within b.nodes.items c.args.number node listed,
-      places_long b.nodes.items b.leadings.items c.requires.whole.leadings,
+      slice_get_within b.block.nodes.items c.args.number node listed,
+      places_long b.block.nodes.items b.leadings.items c.requires.whole.leadings,
       b.leadings.ok.0,
     )
 
@@ -40,14 +40,14 @@ node_place :
     place ≡ get_or at.building.now.leadings.items number place → IsPlace node.clause place
 node_place at is number node place lt read kept =
     let b = at.building.now in
-    let listed = item_at at.nodes.now b.nodes.items number node is.own lt read in
+    let listed = item_at at.nodes.now b.block.nodes.items number node is.own lt read in
     let within : number < length b.leadings.items =
     omega (
       arith,
-      slice_get_within b.nodes.items number node listed,
-      places_long b.nodes.items b.leadings.items is.whole.leadings,
+      slice_get_within b.block.nodes.items number node listed,
+      places_long b.block.nodes.items b.leadings.items is.whole.leadings,
     ) in
-    place_at b.nodes.items b.leadings.items is.whole.leadings number node place listed
+    place_at b.block.nodes.items b.leadings.items is.whole.leadings number node place listed
     (slice_get_read b.leadings.items (length b.leadings.items) number place refl within kept)
 
 pub leading_at-first-requires : goal.leading_at-first-requires

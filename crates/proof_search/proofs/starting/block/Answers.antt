@@ -33,12 +33,12 @@ next_move-requires-clause-sides g c =
 
 pub returns-then-len-most : goal.returns-then-len-most
 returns-then-len-most g c =
-    let more : c.args.most < length c.loop-alloc.building.nodes.items =
+    let more : c.args.most < length c.loop-alloc.building.block.nodes.items =
     omega (
       arith,
       c.if-len-most.true,
       c.len-in-loop-alloc-2.ensures,
-      c.loop-alloc.building.nodes.ok.0,
+      c.loop-alloc.building.block.nodes.ok.0,
     ) in
     part_long (g.O.TermOrder.above c.args.order.now) c.args.setting.now.spec.now
     c.args.setting.now.lemmas.now (start_of c.args.start) c.args.clause c.args.most
@@ -46,14 +46,14 @@ returns-then-len-most g c =
 
 pub returns-in-None : goal.returns-in-None
 returns-in-None g c =
-    let lt : length c.loop-alloc.building.steps.items < length c.loop-alloc.building.nodes.items =
+    let lt : length c.loop-alloc.building.steps.items < length c.loop-alloc.building.block.nodes.items =
     omega (
       arith,
       c.loop-alloc-test.true,
       c.len.ensures,
       c.len-in-loop-alloc.ensures,
       c.loop-alloc.building.steps.ok.0,
-      c.loop-alloc.building.nodes.ok.0,
+      c.loop-alloc.building.block.nodes.ok.0,
     ) in
     let next : IsNext (g.O.TermOrder.above c.args.order.now) c.args.setting.now.spec.now
     c.args.setting.now.lemmas.now (start_of c.args.start) c.loop-alloc.building None =
@@ -68,21 +68,21 @@ returns-in-None g c =
 
 pub loop-alloc-preserved : goal.loop-alloc-preserved
 loop-alloc-preserved g c =
-    let lt : length c.loop-alloc.building.steps.items < length c.loop-alloc.building.nodes.items =
+    let lt : length c.loop-alloc.building.steps.items < length c.loop-alloc.building.block.nodes.items =
     omega (
       arith,
       c.loop-alloc-test.true,
       c.len.ensures,
       c.len-in-loop-alloc.ensures,
       c.loop-alloc.building.steps.ok.0,
-      c.loop-alloc.building.nodes.ok.0,
+      c.loop-alloc.building.block.nodes.ok.0,
     ) in
-    let le : length c.loop-alloc.building.nodes.items ≤ c.args.most =
+    let le : length c.loop-alloc.building.block.nodes.items ≤ c.args.most =
     omega (
       arith,
       c.if-len-most.false,
       c.len-in-loop-alloc-2.ensures,
-      c.loop-alloc.building.nodes.ok.0,
+      c.loop-alloc.building.block.nodes.ok.0,
     ) in
     let next =
     subst
@@ -114,14 +114,14 @@ loop-alloc-smaller g c =
 
 pub returns : goal.returns
 returns g c =
-    let le : length c.loop-alloc.building.nodes.items ≤ length c.loop-alloc.building.steps.items =
+    let le : length c.loop-alloc.building.block.nodes.items ≤ length c.loop-alloc.building.steps.items =
     omega (
       arith,
       c.loop-alloc-test.false,
       c.len.ensures,
       c.len-in-loop-alloc.ensures,
       c.loop-alloc.building.steps.ok.0,
-      c.loop-alloc.building.nodes.ok.0,
+      c.loop-alloc.building.block.nodes.ok.0,
     ) in
     part_ends (g.O.TermOrder.above c.args.order.now) c.args.setting.now.spec.now
     c.args.setting.now.lemmas.now (start_of c.args.start) c.args.clause c.args.most

@@ -14,6 +14,6 @@ returns-then-node-eq0 g c =
     c.args.setting.now.spec.now c.args.setting.now.lemmas.now (start_of s) c.args.building.now))
     (sym c.in-Split.is)
     (covered_result (g.O.TermOrder.above c.args.order.now) c.args.setting.now.spec.now
-    c.args.setting.now.lemmas.now c.args.building.now c.requires.whole c.args.building.now.nodes.items
+    c.args.setting.now.lemmas.now c.args.building.now c.requires.whole c.args.building.now.block.nodes.items
     refl c.len-node.result next c.in-Split.variable.0 first
     c.covered.result c.covered.ensures)

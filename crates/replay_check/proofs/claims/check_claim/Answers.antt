@@ -5,13 +5,14 @@ use Rattle.std.proofs.lemmas.Result.{err_from_is_err_and}
 use Rattle.spec_core.specs.declared.records.Goal.{Goal}
 use Rattle.acceptance.specs.Accepting.{IsShown, ClaimIsAccepted}
 use Rattle.acceptance.specs.Claims.{IsGoalNamed}
-use Rattle.replay_check.specs.Tracking.{AreProved, IsNumberOf}
+use Rattle.claimed_goals.specs.Tracking.{AreProved, IsNumberOf}
 use Rattle.replay_check.proofs.TestedClaims.{first_claim, outcome_stops, outcome_accepted}
 use Rattle.replay_check.proofs.claims.check_claim.Goals as goal
 
 pub returns-in_default : goal.returns-in_default
 returns-in_default g c =
-    let not : (goal : Goal) → IsGoalNamed c.args.admitted.now.spec c.args.claim.now.goal goal → ⊥ = rw (← c.admitted.view_is) c.in_default.ensures in
+    let not : (goal : Goal) → IsGoalNamed c.args.admitted.now.spec c.args.claim.now.goal goal → ⊥ =
+    rw (← c.admitted.view_is) (λ goal named. c.in_default.ensures named.0 goal named.1 named.2) in
     λ before t. inl (λ h. not h.0 h.1, refl)
 
 pub is_claimed-requires : goal.is_claimed-requires

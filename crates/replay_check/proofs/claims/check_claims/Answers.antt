@@ -6,7 +6,7 @@ use Rattle.spec_core.specs.WellSorted.{IsWellSorted}
 use Rattle.clause_core.specs.ClauseLaws.{OneRelation}
 use Rattle.acceptance.specs.Accepting.{ClaimIsAccepted, IsAccepted}
 use Rattle.acceptance.specs.Refusals.{lines_of, line_after}
-use Rattle.replay_check.specs.Tracking.{IsNumberOf, Tracks}
+use Rattle.claimed_goals.specs.Tracking.{IsNumberOf, Tracks}
 use Rattle.replay_check.proofs.TestedClaims.{accepted_more, claim_stops, line_more}
 use Rattle.replay_check.proofs.claims.check_claims.Goals as goal
 

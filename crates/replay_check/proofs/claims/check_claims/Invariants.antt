@@ -1,7 +1,7 @@
 use Rattle.std.proofs.Common.{◌≡◌, [], take}
 use Rattle.acceptance.specs.Accepting.{ClaimsAreAccepted}
 use Rattle.acceptance.specs.Refusals.{line_after}
-use Rattle.replay_check.specs.Tracking.{Tracks}
+use Rattle.claimed_goals.specs.Tracking.{Tracks}
 use Rattle.replay_check.proofs.claims.check_claims.Given as goal
 
 abbrev pub invariant-loop-claim : goal.invariant-loop-claim

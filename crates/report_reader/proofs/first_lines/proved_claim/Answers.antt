@@ -15,8 +15,8 @@ returns-in_default-last_number c =
     let same = one_name sig words c.in-Some.goal c.in-Some.others.now g (from_proved sig n) ((rw c.in-Some.is at c.in_ok-goal.ensures) sig) w in
     c.in_default-last_number.ensures n (record { short = short_by 10000 n l (omega arith); is = same.rest; ends = tt })) first h
 
-pub returns-then-nodes-gt-MAX_NODES : goal.returns-then-nodes-gt-MAX_NODES
-returns-then-nodes-gt-MAX_NODES c =
+pub returns-then-nodes-gt-MOST_NODES : goal.returns-then-nodes-gt-MOST_NODES
+returns-then-nodes-gt-MOST_NODES c =
     let words = c.args.words.now in
     let others = c.in-Some.others.now in
     λ sig d first h. no_proved sig words (λ g n l w.

@@ -1,12 +1,9 @@
 use Rattle.std.proofs.Common.{refl}
-use Rattle.unifier.proofs.SampleUnifiers.{matched, one_too_many, not_matched, not_general, general, relevant, not_relevant, sums, clash, occurs, too_large, not_too_large}
+use Rattle.unifier.proofs.SampleUnifiers.{not_general, general, relevant, not_relevant, sums, clash, occurs, too_large, not_too_large}
 use Rattle.unifier.proofs.laws.worked_examples.Goals as goal
 
 pub returns : goal.returns
 returns c = record {
-  matched = matched;
-  one_too_many = one_too_many;
-  not_matched = not_matched;
   unified = refl;
   not_general = not_general;
   general = general;

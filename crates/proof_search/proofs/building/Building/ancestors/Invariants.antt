@@ -7,7 +7,7 @@ use Rattle.proof_search.proofs.building.Building.ancestors.Given as goal
 
 abbrev pub invariant-loop-here : goal.invariant-loop-here
 invariant-loop-here l =
-    (l.here < length l.self.nodes.items)
+    (l.here < length l.self.block.nodes.items)
     × ((from : Node) → slice_get (nodes_in l.self) l.node ≡ Some from →
     Climbs l.self from l.here l.found.items)
 

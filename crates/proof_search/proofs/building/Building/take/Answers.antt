@@ -1,67 +1,68 @@
-use Rattle.std.proofs.Common.{◌≡◌, ℕ, ◌++◌, List, [], ◌∷◌, ap, sym, ◌∙◌, length, arith}
-use Rattle.std.proofs.lemmas.Iterator.Adapters.{YieldsList-from_vec}
-use Rattle.std.proofs.lemmas.Iterator.Consumers.{YieldsList-end}
-use Rattle.std.proofs.lemmas.List.{map-id}
-use Rattle.acceptance.specs.Blocks.{clauses_of}
-use Rattle.inference_rules.specs.declared.nodes.Node.{Node as ClauseNode}
-use Rattle.proof_search.proofs.AddedNodes.{nodes_for, nodes_for_children, nodes_more, parents_for, parents_for_children, parents_more}
-use Rattle.proof_search.proofs.LeadingPlaces.{places_more}
+use Rattle.std.proofs.Common.{◌≡◌, ◌<◌, ◌++◌, [], ◌∷◌, get_or, length, take, ap, sym, ◌∙◌, subst, arith}
+use Rattle.std.proofs.lemmas.List.{take_all}
+use Rattle.block_links.specs.Links.{links_of}
+use Rattle.inference_rules.specs.Answers.{clauses_of}
+use Rattle.inference_rules.specs.Nodes.{clauses_made}
+use Rattle.proof_search.specs.Building.{child_nodes, child_parents}
+use Rattle.proof_search.specs.Leading.{ArePlaces}
+use Rattle.proof_search.proofs.AddedNodes.{child_clauses, leadings_more, parents_more, same_nodes}
 use Rattle.proof_search.proofs.building.Building.take.Goals as goal
 
-pub loop-clause-preserved : goal.loop-clause-preserved
-loop-clause-preserved c =
+pub loop-child-preserved : goal.loop-child-preserved
+loop-child-preserved c =
     let old = c.args.self.now in
-    let now = c.loop-clause.self in
-    let adds = c.loop-clause.invariant in
-    let clause = c.in-Some.clause in
-    let node : ClauseNode = record { clause = clause } in
-    record {
-      nodes =
-          c.in_ok-push-4.ensures.items
-          ∙ ap (λ (ns : List ClauseNode). ns ++ node ∷ []) adds.nodes
-          ∙ nodes_more old.nodes.items c.loop-clause.yielded clause;
-      parents =
-          c.in_ok-push-5.ensures.items
-          ∙ ap (λ (ps : List ℕ). ps ++ c.len-parent.result ∷ []) adds.parents
-          ∙ parents_more old.parents.items c.len-parent.result c.loop-clause.yielded clause;
-      links = adds.links;
-      steps = adds.steps;
-      leadings = λ kept.
-          places_more now.nodes.items c.push-in-loop-clause-2.new.self.items now.leadings.items
-          c.push-in-loop-clause.new.self.items node c.in_ok-leading.field-0 (adds.leadings kept)
-          c.in_ok-leading.ensures c.in_ok-push-4.ensures.items c.in_ok-push-3.ensures.items;
-      sides = adds.sides;
-    }
+    let now = c.loop-child.self in
+    let adds = c.loop-child.invariant.0 in
+    let children = c.args.taken.made.clauses in
+    let i = c.loop-child.child-index in
+    let lt : i < length children =
+    omega (arith, c.loop-child-test.true, ap length c.as_slice-child-items.ensures) in
+    let is : c.child-item.result ≡ get_or children i c.child-item.result =
+    c.child-item.is ∙ ap (λ xs. get_or xs i c.child-item.result) c.as_slice-child-items.ensures in (
+      record {
+        parents =
+            parents_more children i c.child-item.result lt is c.push-in-loop-child.new.self.items
+            old.parents.items now.parents.items c.len-parent.result adds.parents
+            c.in_ok-push-2.ensures.items;
+        leadings = λ kept.
+            leadings_more children i c.child-item.result lt is old.block.nodes.items
+            now.leadings.items c.push.new.self.items c.in_ok-leading.field-0
+            (adds.leadings kept) c.in_ok-leading.ensures c.in_ok-push.ensures.items;
+        nodes = adds.nodes;
+        links = adds.links;
+        steps = adds.steps;
+        sides = adds.sides;
+      },
+      c.loop-child.invariant.1,
+    )
 
 pub returns : goal.returns
 returns c =
-    let given = c.into_iter-clause-iterator.ensures.into_iter_gives in
-    let items = c.in_ok-clauses.clauses in
-    let yields =
-    YieldsList-end
-    (YieldsList-from_vec items.items given.0 (given.1 ∙ items.ok.0))
-    c.loop-clause.yielded c.loop-clause.clause-iterator c.loop-clause.yielded_by c.next.result
-    c.next.new.self c.in-None.is c.next.ensures.steps in
-    let made = c.args.taken.made in
-    let all : c.loop-clause.yielded ≡ clauses_of made =
-    sym (map-id c.loop-clause.yielded) ∙ yields.0 ∙ c.in_ok-clauses.ensures.clauses in
-    let adds = c.loop-clause.invariant in
     let old = c.args.self.now in
-    let count = length old.steps.items in
-    let parent : c.len-parent.result ≡ count =
+    let adds = c.loop-child.invariant.0 in
+    let made = c.args.taken.made in
+    let all : take c.loop-child.child-index made.clauses ≡ made.clauses =
+    take_all c.loop-child.child-index made.clauses
+    (omega (arith, c.loop-child-test.false, ap length c.as_slice-child-items.ensures)) in
+    let parent : c.len-parent.result ≡ length old.steps.items =
     omega (arith, c.len-parent.ensures, old.steps.ok.0) in
+    let nodes : c.add.new.self.nodes.items ≡ old.block.nodes.items ++ child_nodes made.clauses =
+    same_nodes c.add.new.self.nodes.items (old.block.nodes.items ++ child_nodes made.clauses)
+    (c.in_ok-add.ensures.nodes ∙ ap (λ ns. clauses_of ns ++ clauses_made made) adds.nodes
+    ∙ sym (child_clauses old.block.nodes.items made.clauses)) in
     record {
-      nodes =
-          adds.nodes
-          ∙ ap (λ ns. old.nodes.items ++ ns) (ap nodes_for all ∙ nodes_for_children made.clauses);
+      nodes = nodes;
       parents =
           adds.parents
-          ∙ ap (λ ns. old.parents.items ++ ns)
-          ((λ i. parents_for (parent i) (all i)) ∙ parents_for_children count made.clauses);
-      steps = adds.steps ∙ c.in_ok-push.ensures.items;
-      links =
-          adds.links ∙ c.in_ok-push-2.ensures.items
-          ∙ ap (λ l. old.links.items ++ l ∷ []) c.in_ok-clauses.ensures.links;
-      leadings = adds.leadings;
+          ∙ (λ i. old.parents.items ++ child_parents (parent i) (all i));
+      steps =
+          c.in_ok-push-3.ensures.items
+          ∙ ap (λ ss. ss ++ c.loop-child.step-1 ∷ []) adds.steps
+          ∙ ap (λ s. old.steps.items ++ s ∷ []) c.loop-child.invariant.1;
+      links = c.in_ok-add.ensures.links ∙ ap (λ ls. ls ++ links_of made ∷ []) adds.links;
+      leadings = λ kept.
+          subst (λ ns. ArePlaces ns c.loop-child.self.leadings.items) (sym nodes)
+          (subst (λ cs. ArePlaces (old.block.nodes.items ++ child_nodes cs) c.loop-child.self.leadings.items) all
+          (adds.leadings kept));
       sides = adds.sides;
     }

@@ -2,9 +2,7 @@ use Rattle.std.proofs.Common.{◌≡◌, ◌<◌, true, false, [], length, get_o
 use Rattle.std.proofs.lemmas.Option.{slice_get-get_or}
 use Rattle.term_core.specs.Tree.{var, app, trees_of}
 use Rattle.term_core.specs.View.{tree_of}
-use Rattle.spec_core.specs.WellSorted.{sorts_of}
-use Rattle.rewriting.specs.Matched.{Fits}
-use Rattle.unifier.specs.Matching.{IsMatch, HasNoMatch}
+use Rattle.matching.specs.Matching.{IsMatch, HasNoMatch, Fits}
 use Rattle.rewriting.specs.Uses.{IsStuck}
 use Rattle.rewriting.specs.Found.{Found, NoneBefore}
 use Rattle.rewriting.proofs.NormalTerms.{variable_normal}
@@ -39,15 +37,6 @@ loop-place-preserved-then-not-is_empty c =
     let at = slice_get-get_or places i 0 c.loop-place-test.true in
     let listed = rule_at spec.rules c.in-App.sym.0 places c.rules_of-place-items.ensures c.rules-rules.result.now i rule c.rules-rules.ensures c.loop-place-test.true c.index-rules-place.is in
     none_next spec.rules places c.args.term.now i _ rule at listed (λ free. let q : false ≡ true = c.if-not-is_empty.ensures.1 free in cc) c.loop-place.invariant
-
-pub fits-requires : goal.fits-requires
-fits-requires c =
-    let spec = c.args.self.now in
-    let places = c.rules_of-place-items.result.now in
-    let i = c.loop-place.place-index in
-    let rule = c.index-rules-place.result in
-    let listed = rule_at spec.rules c.in-App.sym.0 places c.rules_of-place-items.ensures c.rules-rules.result.now i rule c.rules-rules.ensures c.loop-place-test.true c.index-rules-place.is in
-    (length (sorts_of rule.vars), (c.requires.fine.rules (get_or places i 0) rule listed).numbered)
 
 pub returns-then-branch : goal.returns-then-branch
 returns-then-branch c =

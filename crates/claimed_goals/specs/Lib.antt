@@ -1,0 +1,2 @@
+-- The goals that claims are on.
+pub mod Tracking

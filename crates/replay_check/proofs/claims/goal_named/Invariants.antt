@@ -1,7 +1,0 @@
-use Rattle.std.proofs.Common.{◌≡◌, ℕ, ◌<◌}
-use Rattle.std.specs.Prelude.{Some, slice_get}
-use Rattle.spec_core.specs.declared.records.Goal.{Goal}
-use Rattle.replay_check.proofs.claims.goal_named.Given as goal
-
-abbrev pub invariant-loop-number : goal.invariant-loop-number
-invariant-loop-number l = (k : ℕ) → k < l.number → (g : Goal) → slice_get l.spec.goals k ≡ Some g → g.name ≡ l.name → ⊥

@@ -1,8 +1,0 @@
-use Rattle.term_core.specs.Measure.{weight, list_weight}
-use Rattle.unifier.proofs.matching.+bind.Given as goal
-
-abbrev pub decreases-bind : goal.decreases-bind
-decreases-bind l = weight l.pattern.now
-
-abbrev pub decreases-bind_all : goal.decreases-bind_all
-decreases-bind_all l = list_weight l.patterns.now
