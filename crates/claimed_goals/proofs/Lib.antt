@@ -1,4 +1,4 @@
 -- The goals that claims are on.
-mod Tracking
+pub mod Tracking
 -- Goals that may be used.
 pub mod UsableGoals

@@ -1,0 +1,110 @@
+-- The steps of a block that are taken one after the other, each of which is defined.
+use Rattle.std.proofs.Common.{◌≡◌, ℕ, zero, suc, ◌+◌, ◌<◌, List, [], ◌∷◌, ◌++◌, Some, None, Ok, Err, refl, sym, ◌∙◌}
+use Rattle.std.proofs.Common.{ap, subst, arith, length, take, get_or}
+use Rattle.std.specs.Prelude.{flat_map, slice_get}
+use Rattle.std.proofs.lemmas.Grind.{flat_map-append}
+use Rattle.std.proofs.lemmas.List.{append-nil, length-map, length-take-le, map-append}
+use Rattle.std.proofs.lemmas.Option.{slice_get_read}
+use Rattle.term_core.specs.Tree.{Tree}
+use Rattle.term_core.proofs.Items.{taken_next}
+use Rattle.spec_core.specs.declared.records.Spec.{Spec}
+use Rattle.spec_core.specs.WellSorted.{IsWellSorted}
+use Rattle.clause_core.specs.declared.answers.Children.{Children}
+use Rattle.clause_core.specs.declared.answers.Why.{Why}
+use Rattle.clause_core.specs.declared.clauses.Clause.{Clause}
+use Rattle.clause_core.specs.declared.steps.Step.{Step}
+use Rattle.clause_core.specs.ClauseLaws.{OneRelation}
+use Rattle.descent.specs.SortedChildren.{IsNode}
+use Rattle.acceptance.specs.Blocks.{clauses_of, nodes_of, StepMakes, StepsMake}
+use Rattle.acceptance.specs.StepRefusals.{IsRefused}
+use Rattle.acceptance.proofs.Longer.{steps_longer}
+use Rattle.acceptance.proofs.OneBlock.{none_refused}
+use Rattle.acceptance.proofs.WholeBlocks.{as_many}
+use Rattle.block_links.specs.Links.{links_of}
+use Rattle.block_steps.specs.declared.taken_steps.TakenSteps.{TakenSteps}
+use Rattle.block_steps.specs.Taken.{TakesStep}
+use Rattle.inference_rules.specs.declared.nodes.Node.{Node}
+use Rattle.inference_rules.specs.declared.nodes.StepError.{StepError}
+use Rattle.inference_rules.specs.declared.nodes.StepError.TheVariants.{Why as because, OutOfMemory as no_memory}
+use Rattle.inference_rules.specs.Answers.{clauses_of as clauses_in}
+use Rattle.inference_rules.specs.Nodes.{AreNodes, clauses_made}
+use Rattle.script_trim.specs.Placing.{AreTaken}
+
+pub one_node :
+    (above : Tree → Tree → Type 0) (spec : Spec) (c : Clause) → IsNode spec.sig c → AreNodes spec.sig (c ∷ [])
+one_node above spec c h j d at = only j at
+  where
+    only : (j : ℕ) → slice_get (c ∷ []) j ≡ Some d → IsNode spec.sig d
+    only zero at = let q : Some c ≡ Some d = at in let e : c ≡ d = cc in subst (λ x. IsNode spec.sig x) e h
+    only (suc j) at = absurd (let q : None ≡ Some d = at in cc)
+
+module _ (above : Tree → Tree → Type 0) (spec : Spec) (usable : ℕ → Type 0) (start : Clause) where
+  pub none_taken :
+      (taken : TakenSteps) → IsNode spec.sig start → clauses_in taken.nodes.items ≡ start ∷ [] →
+      taken.links.items ≡ [] → AreTaken above spec usable start [] taken
+  none_taken taken node nodes links =
+      let one : length taken.nodes.items ≡ 1 = sym (length-map taken.nodes.items (λ (n : Node). n.clause)) ∙ ap length
+      nodes in
+      record {
+        made = [];
+        makes = tt;
+        nodes = nodes;
+        links = links;
+        few = record {
+          nodes = subst (λ ns. AreNodes spec.sig ns) (sym nodes) (one_node above spec start node);
+          few = omega (arith, one);
+          reached = omega (arith, ap length links);
+        };
+      }
+
+  module _ (steps : List Step) (i : ℕ) (step : Step) (lt : i < length steps) (is : step ≡ get_or steps i step)
+      (old : TakenSteps) (t : AreTaken above spec usable start (take i steps) old) where
+    count : length (take i steps) ≡ i
+    count = length-take-le i steps (omega (arith, lt))
+
+    reached : length old.links.items ≡ i
+    reached =
+        ap length t.links ∙ length-map t.made links_of ∙ as_many above spec usable (start ∷ []) 0 (take i steps)
+        t.made t.makes ∙ count
+
+    pub one_taken :
+        (new : TakenSteps) → TakesStep above spec usable old new step (Ok tt) →
+        AreTaken above spec usable start (take (i + 1) steps) new
+    one_taken new (m, taking, nodes, links, few) =
+        let k : length old.links.items ≡ 0 + length (take i steps) = omega (arith, reached, count) in
+        let here : StepMakes above spec usable (nodes_of start t.made) (0 + length (take i steps)) step m =
+        subst (λ j. StepMakes above spec usable (nodes_of start t.made) j step m) k
+        (subst (λ ns. StepMakes above spec usable ns (length old.links.items) step m) t.nodes taking) in
+        let longer : StepsMake above spec usable (start ∷ []) 0 (take i steps ++ step ∷ []) (t.made ++ m ∷ []) =
+        steps_longer above spec usable (start ∷ []) 0 (take i steps) t.made t.makes step m here in
+        let more : nodes_of start (t.made ++ m ∷ []) ≡ nodes_of start t.made ++ clauses_made m =
+        ap (λ cs. start ∷ cs) (flat_map-append clauses_of t.made (m ∷ []) ∙ ap
+        (λ cs. flat_map clauses_of t.made ++ cs) (append-nil (clauses_made m))) in
+        record {
+          made = t.made ++ m ∷ [];
+          makes =
+              subst (λ ss. StepsMake above spec usable (start ∷ []) 0 ss (t.made ++ m ∷ []))
+              (sym (taken_next steps i step lt is)) longer;
+          nodes = nodes ∙ ap (λ ns. ns ++ clauses_made m) t.nodes ∙ sym more;
+          links = links ∙ ap (λ ls. ls ++ links_of m ∷ []) t.links ∙ sym (map-append links_of t.made (m ∷ []));
+          few = few;
+        }
+
+    -- no step is refused where all are defined
+    pub not_refused :
+        OneRelation above → IsWellSorted spec → (made : List Children) →
+        StepsMake above spec usable (start ∷ []) 0 steps made → (new : TakenSteps) (why : Why) →
+        TakesStep above spec usable old new step (Err (because why)) → ⊥
+    not_refused one fine made makes new why refused =
+        let here : IsRefused above spec usable (nodes_of start t.made) i step why =
+        subst (λ j. IsRefused above spec usable (nodes_of start t.made) j step why) reached
+        (subst (λ ns. IsRefused above spec usable ns (length old.links.items) step why) t.nodes refused) in
+        none_refused above one spec fine usable start steps made makes i why
+        (step, t.made, slice_get_read steps (length steps) i step refl lt is, t.makes, here)
+
+    pub only_memory :
+        OneRelation above → IsWellSorted spec → (made : List Children) →
+        StepsMake above spec usable (start ∷ []) 0 steps made → (new : TakenSteps) (error : StepError) →
+        TakesStep above spec usable old new step (Err error) → error ≡ no_memory
+    only_memory one fine made makes new (because why) refused = absurd (not_refused one fine made makes new why refused)
+    only_memory one fine made makes new no_memory refused = refl

@@ -1,0 +1,9 @@
+use Rattle.std.proofs.Common.{take}
+use Rattle.std.specs.Prelude.{Contains}
+use Rattle.script_trim.specs.Placing.{AreTaken}
+use Rattle.script_trim.proofs.kept_blocks.take_steps.Given as goal
+
+abbrev pub invariant-loop-step : goal.invariant-loop-step
+invariant-loop-step g l =
+    AreTaken (g.O.TermOrder.above l.admitted.order) l.admitted.spec (Contains l.proved) l.fn.start
+    (take l.step-index l.steps) l.taken

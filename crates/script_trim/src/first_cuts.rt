@@ -1,0 +1,120 @@
+ghost use Rattle.std.specs.Prelude.{◌≡◌, ◌<◌, IfOk, length};
+ghost use Rattle.acceptance.specs.Strict.{first_child};
+ghost use Rattle.script_trim.specs.Finding.{FindsCutAt, FindsCutBelow, FindsFirstCut};
+ghost use Rattle.script_trim.specs.Kept.{IsKept};
+ghost use Rattle.script_trim.specs.Placing.{IsPlaced};
+
+use crate::blocks::{Fit, KeptBlock};
+use crate::cutting::rest_of;
+use crate::fitting::fitting_steps;
+use crate::placing::ClaimAt;
+use clause_core::Step;
+use spec_admit::Admitted;
+use std::alloc::Global;
+use term_core::OutOfMemory;
+use term_order::TermOrder;
+
+/// A closing step that closes a node, and the steps that are left.
+#[derive(Drop)]
+pub(crate) struct NodeCut {
+    pub node: usize,
+    pub fit: Fit,
+    pub rest: Vec<Step>,
+}
+
+/// The first cut of the block: at the first node that has children and could be closed.
+pub(crate) fn first_cut<O: TermOrder>(
+    alloc: Global,
+    admitted: &Admitted<O>,
+    place: &ClaimAt,
+    block: &KeptBlock,
+) -> Result<Option<NodeCut>, OutOfMemory>
+    requires placed { IsPlaced (O.above admitted.now.order) admitted.now.spec place.now }
+    requires kept { IsKept (O.above admitted.now.order) admitted.now.spec place.now.report.now
+        place.now.number block.now }
+    ensures { IfOk result (FindsFirstCut (O.above admitted.now.order) admitted.now.spec
+        place.now.report.now place.now.number block.now) }
+{
+    clause_core::one_relation(&admitted.order);
+    let mut before = 1;
+    for (node, made) in block.links.as_slice().iter().enumerate() {
+        let after = before + made.clauses.len();
+        if let Some(cut) = cut_below(alloc, admitted, place, block, before, node)? {
+            return Ok(Some(cut));
+        }
+        before = after;
+    }
+    Ok(None)
+}
+
+/// The cut at this node, where it has children and could be closed. The steps before it make
+/// `before` nodes.
+fn cut_below<O: TermOrder>(
+    alloc: Global,
+    admitted: &Admitted<O>,
+    place: &ClaimAt,
+    block: &KeptBlock,
+    before: usize,
+    node: usize,
+) -> Result<Option<NodeCut>, OutOfMemory>
+    requires placed { IsPlaced (O.above admitted.now.order) admitted.now.spec place.now }
+    requires kept { IsKept (O.above admitted.now.order) admitted.now.spec place.now.report.now
+        place.now.number block.now }
+    requires before { before ≡ first_child block.now.links.items node }
+    requires there { node < length block.now.links.items }
+    ensures { IfOk result (FindsCutBelow (O.above admitted.now.order) admitted.now.spec
+        place.now.report.now place.now.number block.now node) }
+{
+    clause_core::one_relation(&admitted.order);
+    let links = block.links.as_slice();
+    let made = &links[node];
+    if made.clauses.is_empty() {
+        return Ok(None);
+    }
+    let flags = block.hopeful.as_slice();
+    if !flags[node] {
+        return Ok(None);
+    }
+    cut_at(alloc, admitted, place, block, before, node)
+}
+
+/// The cut at this node by the first closing step that could close it. The steps before it make
+/// `before` nodes.
+fn cut_at<O: TermOrder>(
+    alloc: Global,
+    admitted: &Admitted<O>,
+    place: &ClaimAt,
+    block: &KeptBlock,
+    before: usize,
+    node: usize,
+) -> Result<Option<NodeCut>, OutOfMemory>
+    requires placed { IsPlaced (O.above admitted.now.order) admitted.now.spec place.now }
+    requires kept { IsKept (O.above admitted.now.order) admitted.now.spec place.now.report.now
+        place.now.number block.now }
+    requires before { before ≡ first_child block.now.links.items node }
+    requires there { node < length block.now.links.items }
+    ensures { IfOk result (FindsCutAt (O.above admitted.now.order) admitted.now.spec
+        place.now.report.now place.now.number block.now node) }
+{
+    clause_core::one_relation(&admitted.order);
+    clause_core::tidying_laws();
+    descent::children_are_sorted(&admitted.order);
+    let nodes = block.nodes.as_slice();
+    let keys = block.keys.as_slice();
+    let fits = fitting_steps(alloc, admitted, place.lemmas, nodes, keys, before, node)?;
+    for fit in fits {
+        let rest = rest_of(
+            alloc,
+            admitted,
+            place.report,
+            place.number,
+            block,
+            node,
+            &fit,
+        )?;
+        if let Some(rest) = rest {
+            return Ok(Some(NodeCut { node, fit, rest }));
+        }
+    }
+    Ok(None)
+}

@@ -1,0 +1,171 @@
+ghost use Rattle.std.specs.Prelude.{◌≡◌, ◌<◌, ◌≤◌, ℕ, List, [], ◌∷◌, Some, false, IfOk, Contains, length, map, slice_get};
+ghost use Rattle.clause_core.specs.declared.answers.Children.{Children as ChildrenOf};
+ghost use Rattle.descent.specs.SortedChildren.{IsNode};
+ghost use Rattle.acceptance.specs.Blocks.{StepsMake};
+ghost use Rattle.acceptance.specs.Strict.{first_child};
+ghost use Rattle.inference_rules.specs.declared.nodes.StepError.TheVariants.{OutOfMemory as no_memory};
+ghost use Rattle.inference_rules.specs.Answers.{clauses_of};
+ghost use Rattle.inference_rules.specs.Nodes.{AreNodes};
+ghost use Rattle.script_trim.specs.Fitting.{NoneFits};
+ghost use Rattle.script_trim.specs.Kept.{IsKept};
+ghost use Rattle.script_trim.specs.Keys.{key_of};
+ghost use Rattle.script_trim.specs.Placing.{AreTaken, IsPlaced};
+ghost use Rattle.script_trim.specs.Trimmed.{proves};
+ghost use Rattle.script_trim.specs.Trying.{AreLemmas};
+
+use crate::blocks::KeptBlock;
+use crate::copying::copy_steps;
+use crate::fitting::fitting_steps;
+use crate::keys::key;
+use crate::lemmas::Lemmas;
+use crate::placing::ClaimAt;
+use block_steps::TakenSteps;
+use clause_core::{Clause, Step, of_goal};
+use inference_rules::{Node, StepError};
+use spec_admit::Admitted;
+use spec_core::Goal;
+use std::alloc::Global;
+use term_core::OutOfMemory;
+use term_order::TermOrder;
+
+/// The block of the claim, by which the goal is proved in these steps.
+pub(crate) fn kept_block<O: TermOrder>(
+    alloc: Global,
+    admitted: &Admitted<O>,
+    place: &ClaimAt,
+    goal: &Goal,
+    steps: &[Step],
+) -> Result<KeptBlock, OutOfMemory>
+    requires placed { IsPlaced (O.above admitted.now.order) admitted.now.spec place.now }
+    requires goal { (k : ℕ) × (slice_get admitted.now.spec.goals k ≡ Some goal.now) }
+    requires there { slice_get place.now.report.now.claims place.now.number
+        ≡ Some (proves goal.now.name steps.now) }
+    ensures steps { IfOk result (λ block. block.steps.items ≡ steps.now) }
+    ensures kept { IfOk result (IsKept (O.above admitted.now.order) admitted.now.spec
+        place.now.report.now place.now.number) }
+{
+    clause_core::one_relation(&admitted.order);
+    clause_core::tidying_laws();
+    let lemmas = place.lemmas;
+    let proved = lemmas.numbers.as_slice();
+    let start = of_goal(alloc, goal)?;
+    let taken = take_steps(alloc, admitted, proved, start, steps)?;
+    let clauses = taken.nodes.as_slice();
+    let keys = keys_of(alloc, clauses)?;
+    let hopeful = hopeful_nodes(alloc, admitted, lemmas, &taken, keys.as_slice())?;
+    let steps = copy_steps(alloc, steps)?;
+    let TakenSteps { nodes, links } = taken;
+    Ok(KeptBlock {
+        steps,
+        nodes,
+        keys,
+        links,
+        hopeful,
+    })
+}
+
+/// Takes the steps, each of which is defined, at the nodes of a block that begins with this clause.
+fn take_steps<O: TermOrder>(
+    alloc: Global,
+    admitted: &Admitted<O>,
+    proved: &[u32],
+    start: Clause,
+    steps: &[Step],
+) -> Result<TakenSteps, OutOfMemory>
+    requires start { IsNode admitted.now.spec.sig start }
+    requires defined { (made : List ChildrenOf) × StepsMake (O.above admitted.now.order)
+        admitted.now.spec (Contains proved.now) (start ∷ []) 0 steps.now made }
+    ensures { IfOk result (AreTaken (O.above admitted.now.order) admitted.now.spec
+        (Contains proved.now) start steps.now) }
+{
+    clause_core::one_relation(&admitted.order);
+    let mut taken = TakenSteps::new(alloc, start)?;
+    for step in steps {
+        match taken.take(alloc, admitted, proved, step) {
+            Ok(()) => {}
+            Err(error) => return Err(want_of_memory(error)),
+        }
+    }
+    Ok(taken)
+}
+
+/// The error of a step that is defined.
+fn want_of_memory(error: StepError) -> OutOfMemory
+    requires { error ≡ no_memory }
+{
+    match error {
+        StepError::OutOfMemory => OutOfMemory,
+        StepError::Why(_) => unreachable!(),
+    }
+}
+
+/// The keys of the nodes.
+fn keys_of(alloc: Global, nodes: &[Node]) -> Result<Vec<Option<u32>>, OutOfMemory>
+    ensures { IfOk result (λ keys. keys.items ≡ map key_of (clauses_of nodes.now)) }
+{
+    let mut keys = Vec::with_capacity(alloc, nodes.len())?;
+    for node in nodes {
+        keys.push(key(&node.clause))?;
+    }
+    Ok(keys)
+}
+
+/// For each node whether a closing step may be defined there.
+fn hopeful_nodes<O: TermOrder>(
+    alloc: Global,
+    admitted: &Admitted<O>,
+    lemmas: &Lemmas,
+    taken: &TakenSteps,
+    keys: &[Option<u32>],
+) -> Result<Vec<bool>, OutOfMemory>
+    requires nodes { AreNodes admitted.now.spec.sig (clauses_of taken.now.nodes.items) }
+    requires keys { keys.now ≡ map key_of (clauses_of taken.now.nodes.items) }
+    requires lemmas { AreLemmas admitted.now.spec lemmas.now }
+    requires after { (k : ℕ) → k < length taken.now.links.items →
+        k < first_child taken.now.links.items k }
+    requires within { first_child taken.now.links.items (length taken.now.links.items)
+        ≤ length taken.now.nodes.items }
+    ensures long { IfOk result (λ flags. length flags.items ≡ length taken.now.links.items) }
+    ensures hopeless { IfOk result (λ flags. (i : ℕ) → slice_get flags.items i ≡ Some false →
+        NoneFits (O.above admitted.now.order) admitted.now.spec (Contains lemmas.now.numbers.items)
+        (clauses_of taken.now.nodes.items) (first_child taken.now.links.items i) i) }
+{
+    let mut flags = Vec::with_capacity(alloc, taken.links.len())?;
+    let mut before = 1;
+    for (node, made) in taken.links.as_slice().iter().enumerate() {
+        let after = before + made.clauses.len();
+        flags.push(is_hopeful(alloc, admitted, lemmas, taken, keys, before, node)?)?;
+        before = after;
+    }
+    Ok(flags)
+}
+
+/// Whether a closing step may be defined at this node. Nothing is tried at a node without children,
+/// since nothing is to be cut there.
+fn is_hopeful<O: TermOrder>(
+    alloc: Global,
+    admitted: &Admitted<O>,
+    lemmas: &Lemmas,
+    taken: &TakenSteps,
+    keys: &[Option<u32>],
+    before: usize,
+    node: usize,
+) -> Result<bool, OutOfMemory>
+    requires nodes { AreNodes admitted.now.spec.sig (clauses_of taken.now.nodes.items) }
+    requires keys { keys.now ≡ map key_of (clauses_of taken.now.nodes.items) }
+    requires lemmas { AreLemmas admitted.now.spec lemmas.now }
+    requires there { node < length taken.now.links.items }
+    requires node { node < before }
+    requires before { before ≤ length taken.now.nodes.items }
+    ensures { IfOk result (λ hopeful. hopeful ≡ false →
+        NoneFits (O.above admitted.now.order) admitted.now.spec (Contains lemmas.now.numbers.items)
+        (clauses_of taken.now.nodes.items) before node) }
+{
+    let links = taken.links.as_slice();
+    if links[node].clauses.is_empty() {
+        return Ok(true);
+    }
+    let nodes = taken.nodes.as_slice();
+    let fits = fitting_steps(alloc, admitted, lemmas, nodes, keys, before, node)?;
+    Ok(!fits.is_empty())
+}

@@ -1,0 +1,10 @@
+use crate::lemmas::Lemmas;
+use clause_core::Report;
+
+/// A claim of the given report by its number, with the goals that are proved before it.
+#[derive(Drop)]
+pub(crate) struct ClaimAt<'a> {
+    pub report: &'a Report,
+    pub number: usize,
+    pub lemmas: &'a Lemmas,
+}
