@@ -1,13 +1,11 @@
-ghost use Rattle.std.specs.Prelude.{◌≡◌, ◌↔◌, [], ◌∷◌, IfOk, IsTrue};
-ghost use Rattle.term_core.specs.Tree.{trees_of};
-ghost use Rattle.term_core.specs.Variables.{Occurs, OccursAny};
+ghost use Rattle.std.specs.Prelude.{◌≡◌, [], ◌∷◌, IfOk};
 ghost use Rattle.fitting_lists.specs.Fitting.{both_sides, has_all};
 
 use crate::marking::{are_marked, mark, no_marks};
 use clause_core::Clause;
 use spec_core::Equation;
 use std::alloc::Global;
-use term_core::{Node, OutOfMemory, Term};
+use term_core::{OutOfMemory, Term, occurs};
 
 /// Whether all variables of the clause are in the term. The term is walked once for each variable,
 /// as far as its first occurrence.
@@ -20,31 +18,6 @@ pub fn has_all_variables(clause: &Clause, term: &Term) -> bool
         }
     }
     true
-}
-
-/// Whether the variable of this number is in the term. A clause that no contract limits may have
-/// more variables than a term can name, so the number isn't one of 32 bits.
-#[cycle(occurs)]
-fn occurs(number: usize, term: &Term) -> bool
-    ensures { IsTrue result ↔ Occurs number term.now }
-{
-    match &term.node {
-        Node::Var(var) => var.0 as usize == number,
-        Node::App(_, args) => occurs_in_any(number, args.as_slice()),
-    }
-}
-
-/// Whether it is in one of the terms.
-#[cycle(occurs)]
-fn occurs_in_any(number: usize, terms: &[Term]) -> bool
-    ensures { IsTrue result ↔ OccursAny number (trees_of terms.now) }
-{
-    for term in terms {
-        if occurs(number, term) {
-            return true;
-        }
-    }
-    false
 }
 
 /// Whether all variables of the clause are in the equation. Each side is walked once, the right one

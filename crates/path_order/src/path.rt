@@ -194,8 +194,8 @@ fn told_by_patterns(t: Operand, s: Operand) -> Option<Standing>
     let (term, other) = (t.term, s.term);
     match (&term.node, &other.node) {
         (Node::Var(x), Node::Var(y)) if x == y => Some(Standing::Same),
-        (Node::Var(x), Node::App(_, _)) if occurs(*x, other) => Some(Standing::Neither),
-        (Node::App(_, _), Node::Var(y)) if occurs(*y, term) => Some(Standing::Greater),
+        (Node::Var(x), Node::App(_, _)) if occurs(x.0 as usize, other) => Some(Standing::Neither),
+        (Node::App(_, _), Node::Var(y)) if occurs(y.0 as usize, term) => Some(Standing::Greater),
         _ => None,
     }
 }

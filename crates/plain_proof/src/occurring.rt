@@ -8,5 +8,6 @@ use term_core::{VarId, occurs};
 pub(crate) fn occurs_in(var: VarId, equation: &Equation) -> bool
     ensures { IsTrue result ↔ (Occurs var.0 equation.now.left ⊎ Occurs var.0 equation.now.right) }
 {
-    occurs(var, &equation.left) || occurs(var, &equation.right)
+    let number = var.0 as usize;
+    occurs(number, &equation.left) || occurs(number, &equation.right)
 }

@@ -1,6 +1,5 @@
 -- The line of a step as its name and its words.
-use Rattle.std.proofs.Common.{◌≡◌, ℕ, List, [], ◌∷◌, ◌++◌, ap, sym, ◌∙◌, codes, append_assoc, Option, Some, None, Result, Ok, Err}
-use Rattle.std.specs.Prelude.{IfOk, MatchOption}
+use Rattle.std.proofs.Common.{◌≡◌, ℕ, List, [], ◌∷◌, ◌++◌, ap, sym, ◌∙◌, codes, append_assoc}
 use Rattle.std.proofs.lemmas.List.{append_cancel_right}
 use Rattle.spec_core.specs.Sig.{Sig}
 use Rattle.clause_core.specs.declared.steps.Step.{Step}
@@ -34,7 +33,14 @@ module _ (sig : Sig) (line head words : List ℕ) (split : IsFirstWord line head
   }
 
   -- what is found behind the name is what the line says
-  pub by_words : {E : Type 0} (name : List ℕ) → name ≡ head → (r : Result (Option Step) E) → IfOk r (λ o. MatchOption o ((step : Step) → IsStepBehind sig name words step → ⊥) (λ step. IsStepBehind sig name words step)) → IfOk r (λ o. MatchOption o ((step : Step) → IsStepLine sig line step → ⊥) (λ step. IsStepLine sig line step))
-  by_words name e (Ok (Some step)) h = line_found step (record { named = h.named ∙ e; stand = h.stand })
-  by_words name e (Ok None) h = λ step k. let b = step_behind step k in h step (record { named = b.named ∙ sym e; stand = b.stand })
-  by_words name e (Err x) h = tt
+  pub line_by_words :
+      (name : List ℕ) → name ≡ head → (step : Step) → IsStepBehind sig name words step →
+      IsStepLine sig line step
+  line_by_words name e step h = line_found step (record { named = h.named ∙ e; stand = h.stand })
+
+  pub no_line_by_words :
+      (name : List ℕ) → name ≡ head → ((step : Step) → IsStepBehind sig name words step → ⊥) →
+      (step : Step) → IsStepLine sig line step → ⊥
+  no_line_by_words name e none step k =
+      let b = step_behind step k in
+      none step (record { named = b.named ∙ sym e; stand = b.stand })

@@ -20,3 +20,5 @@ pub mod Reading
 pub mod LineWords
 pub mod PathText
 pub mod Verbs
+-- The text of an error.
+pub mod ErrorText

@@ -9,6 +9,7 @@
 #![tactic(auto)]
 
 mod equation_steps;
+mod errors;
 mod laws;
 mod limits;
 mod line_words;
@@ -29,6 +30,7 @@ mod terms;
 mod verbs;
 mod words;
 
+pub use errors::StepLineError;
 pub use laws::{fault_examples, one_fault, one_report, refused_steps, worked_examples};
 pub use limits::MOST_CLAIM_BYTES;
 pub use line_words::{next_name, next_number};

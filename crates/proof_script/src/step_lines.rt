@@ -1,10 +1,12 @@
-ghost use Rattle.std.specs.Prelude.{IfOk, MatchOption};
+ghost use Rattle.std.specs.Prelude.{◌≡◌, Err, IfOk, MatchOption};
 ghost use Rattle.spec_core.specs.Declarations.{IsDeclared};
 ghost use Rattle.clause_core.specs.declared.steps.Step.{Step as AnyStep};
 ghost use Rattle.proof_script.specs.LineWords.{IsStepBehind, IsStepLine};
 ghost use Rattle.proof_script.specs.Verbs.{verb_text};
+ghost use Rattle.proof_script.specs.declared.errors.StepLineError.TheVariants.{NotAStep};
 
 use crate::equation_steps::{absurd, clash, decompose, leave_out, match_premise, solve, trivial};
+use crate::errors::StepLineError;
 use crate::place_steps::{case, context, hyp, lemma, rule};
 use crate::term_steps::{by_lemma, cover, generalize, subsume};
 use crate::terms::split_word;
@@ -15,16 +17,19 @@ use std::alloc::Global;
 use term_core::OutOfMemory;
 
 /// The step that the line says, where it may stand in a report. The line comes without its newline.
-pub fn read_step(alloc: Global, sig: &Signature, line: &[u8]) -> Result<Option<Step>, OutOfMemory>
+pub fn read_step(alloc: Global, sig: &Signature, line: &[u8]) -> Result<Step, StepLineError>
     requires { IsDeclared sig.now }
-    ensures { IfOk result (λ o. MatchOption o
-        ((step : AnyStep) → IsStepLine sig.now line.now step → ⊥)
-        (λ step. IsStepLine sig.now line.now step)) }
+    ensures ok { IfOk result (IsStepLine sig.now line.now) }
+    ensures no_step { result ≡ Err NotAStep →
+        (step : AnyStep) → IsStepLine sig.now line.now step → ⊥ }
 {
     let (head, words) = split_word(line);
-    match read_verb(head) {
-        Some(verb) => read_words(alloc, sig, verb, words),
-        None => Ok(None),
+    let Some(verb) = read_verb(head) else {
+        return Err(StepLineError::NotAStep);
+    };
+    match read_words(alloc, sig, verb, words)? {
+        Some(step) => Ok(step),
+        None => Err(StepLineError::NotAStep),
     }
 }
 

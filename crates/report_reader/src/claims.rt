@@ -11,7 +11,7 @@ use crate::first_lines::FirstLine;
 use crate::lines::Lines;
 use crate::values::read_value;
 use clause_core::{Block, Claim, Outcome, Step};
-use proof_script::{MOST_CLAIM_BYTES, read_step};
+use proof_script::{MOST_CLAIM_BYTES, StepLineError, read_step};
 use spec_core::Signature;
 use std::alloc::Global;
 use term_core::{Name, Seq, Term};
@@ -74,8 +74,10 @@ fn read_steps<'a>(
     let mut lines = at;
     for _node in 0..nodes {
         let (line, behind) = claim_line(lines, start)?;
-        let Some(step) = read_step(alloc, sig, line)? else {
-            return Err(lines.fault());
+        let step = match read_step(alloc, sig, line) {
+            Ok(step) => step,
+            Err(StepLineError::NotAStep) => return Err(lines.fault()),
+            Err(StepLineError::OutOfMemory) => return Err(ReportError::OutOfMemory),
         };
         steps.push(step)?;
         lines = behind;

@@ -2,27 +2,27 @@ ghost use Rattle.std.specs.Prelude.{◌↔◌, IsTrue};
 ghost use Rattle.term_core.specs.Tree.{trees_of};
 ghost use Rattle.term_core.specs.Variables.{Occurs, OccursAny};
 
-use crate::ids::VarId;
 use crate::tree::{Node, Term};
 
-/// Whether the variable occurs in the term.
+/// Whether the variable of this number occurs in the term. A clause that no contract limits may have
+/// more variables than a term can name, so the number isn't one of 32 bits.
 #[cycle(occurs)]
-pub fn occurs(var: VarId, term: &Term) -> bool
-    ensures { IsTrue result ↔ Occurs var.0 term.now }
+pub fn occurs(number: usize, term: &Term) -> bool
+    ensures { IsTrue result ↔ Occurs number term.now }
 {
     match &term.node {
-        Node::Var(other) => var == *other,
-        Node::App(_, args) => occurs_in_any(var, args.as_slice()),
+        Node::Var(var) => var.0 as usize == number,
+        Node::App(_, args) => occurs_in_any(number, args.as_slice()),
     }
 }
 
 /// Whether the variable occurs in one of the terms.
 #[cycle(occurs)]
-fn occurs_in_any(var: VarId, terms: &[Term]) -> bool
-    ensures { IsTrue result ↔ OccursAny var.0 (trees_of terms.now) }
+fn occurs_in_any(number: usize, terms: &[Term]) -> bool
+    ensures { IsTrue result ↔ OccursAny number (trees_of terms.now) }
 {
     for term in terms {
-        if occurs(var, term) {
+        if occurs(number, term) {
             return true;
         }
     }

@@ -1,4 +1,4 @@
-use Rattle.std.proofs.Common.{◌<◌, ◌∷◌, [], List, ap, sym, subst, length, length-append, arith}
+use Rattle.std.proofs.Common.{◌<◌, ◌∷◌, [], List, Err, ap, sym, ◌∙◌, subst, length, length-append, arith}
 use Rattle.std.proofs.lemmas.Result.{err_from_is_err_and}
 use Rattle.clause_core.specs.declared.steps.Step.{Step}
 use Rattle.report_reader.specs.Answers.{TellsFault}
@@ -16,24 +16,28 @@ returns-in_err-line c =
     let p = err_from_is_err_and c.from_residual.result c.from_residual.ensures.1 in
     λ text report goal size b. rw (p.1, p.2) (proving_stops a.sig.now c.requires.declared text k.lines report goal a.nodes k.steps a.start c.in_err-line.field-0.0 (k.invariant.behind text report goal size b) asked size c.in_err-line.ensures)
 
-pub returns-in_default : goal.returns-in_default
-returns-in_default c =
+pub returns-in-Err-NotAStep : goal.returns-in-Err-NotAStep
+returns-in-Err-NotAStep c =
     let a = c.args in
     let k = c.loop-node in
     let w = c.in_ok-line in
     let asked : length k.steps < a.nodes = omega (arith, k.invariant.many, c.loop-node-test.true) in
-    let none = rw c.in_default.is at c.in_ok-step.ensures in
-    λ text report goal size b. subst (λ e. TellsFault a.sig.now text e) (sym c.fault.ensures) (no_step a.sig.now c.requires.declared text k.lines report w.line.now w.behind w.ensures.0 goal a.nodes k.steps (k.invariant.behind text report goal size b) asked none)
+    let fault = c.in-Err-NotAStep.is ∙ ap Err c.in-Err-NotAStep.field-0-is in
+    let none = c.read_step.ensures.no_step fault in
+    λ text report goal size b.
+    subst (λ e. TellsFault a.sig.now text e) (sym c.fault.ensures)
+    (no_step a.sig.now c.requires.declared text k.lines report w.line.now w.behind w.ensures.0 goal a.nodes k.steps
+    (k.invariant.behind text report goal size b) asked none)
 
 pub loop-node-preserved : goal.loop-node-preserved
 loop-node-preserved c =
     let a = c.args in
     let k = c.loop-node in
     let w = c.in_ok-line in
-    let step = c.in-Some.step in
+    let step = c.in-Ok.step in
     let asked : length k.steps < a.nodes = omega (arith, k.invariant.many, c.loop-node-test.true) in
     let pushed = c.in_ok-push.ensures.pushed in
-    let found = rw c.in-Some.is at c.in_ok-step.ensures in
+    let found = rw c.in-Ok.is at c.read_step.ensures.ok in
     record {
       within = omega (arith, w.ensures.0.read, k.invariant.within);
       many = omega (arith, k.invariant.many, ap (λ (ts : List Step). length ts) pushed, length-append k.steps (step ∷ []));

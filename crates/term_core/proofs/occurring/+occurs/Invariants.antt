@@ -1,3 +1,4 @@
+-- Terms fall by weight; none of the terms so far has the variable.
 use Rattle.std.proofs.Common.{take}
 use Rattle.term_core.specs.Tree.{trees_of}
 use Rattle.term_core.specs.Variables.{OccursAny}
@@ -11,4 +12,4 @@ abbrev pub decreases-occurs_in_any : goal.decreases-occurs_in_any
 decreases-occurs_in_any l = list_weight l.terms.now
 
 abbrev pub invariant-occurs_in_any-loop-term : goal.invariant-occurs_in_any-loop-term
-invariant-occurs_in_any-loop-term l = OccursAny l.var.0 (trees_of (take l.term-index l.terms)) → ⊥
+invariant-occurs_in_any-loop-term l = OccursAny l.number (trees_of (take l.term-index l.terms)) → ⊥
