@@ -6,7 +6,7 @@ use Rattle.term_core.proofs.Numbers.{below_or_not}
 use Rattle.spec_core.specs.declared.records.Spec.{Spec}
 use Rattle.clause_core.specs.declared.reports.Report.{Report}
 use Rattle.script_trim.specs.declared.blocks.KeptBlock.{KeptBlock}
-use Rattle.script_trim.specs.declared.first_cuts.NodeCut.{NodeCut}
+use Rattle.script_trim.specs.declared.blocks.NodeCut.{NodeCut}
 use Rattle.script_trim.specs.Cutting.{FitsAt}
 use Rattle.script_trim.specs.Finding.{FindsCutAt, FindsCutBelow, FindsFirstCut}
 use Rattle.script_trim.specs.Kept.{kept_report, IsKept}

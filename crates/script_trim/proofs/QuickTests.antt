@@ -111,7 +111,8 @@ module _
               within = shown.within;
               made = cut_made cut.stays claim.made i closed;
               makes =
-                  cut_makes above spec usable (goal_clause claim.goal) claim.steps claim.made claim.makes finished i within
+                  cut_makes above spec usable (goal_clause claim.goal) claim.steps claim.made claim.makes finished i
+                  within
                   step rest cut closed none closes;
               finished =
                   cut_finished above spec usable (goal_clause claim.goal) claim.steps claim.made claim.makes finished i

@@ -5,7 +5,7 @@ use Rattle.spec_core.specs.declared.records.Spec.{Spec}
 use Rattle.clause_core.specs.declared.reports.Report.{Report}
 use Rattle.clause_core.specs.declared.steps.Step.{Step}
 use Rattle.script_trim.specs.declared.blocks.KeptBlock.{KeptBlock}
-use Rattle.script_trim.specs.declared.first_cuts.NodeCut.{NodeCut}
+use Rattle.script_trim.specs.declared.blocks.NodeCut.{NodeCut}
 use Rattle.script_trim.specs.Cutting.{ClosesAt, FitsAt}
 use Rattle.script_trim.specs.Kept.{kept_report, IsKept}
 use Rattle.script_trim.specs.OneClaim.{IsFirstClosing, IsFirstStep}

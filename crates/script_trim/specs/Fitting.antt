@@ -1,13 +1,20 @@
 -- Which closing steps are defined at a node of a block.
-use Rattle.std.specs.Prelude.{◌≡◌, ℕ, List, [], ◌∷◌, Some, slice_get, take}
+use Rattle.std.specs.Prelude.{◌≡◌, ◌⊎◌, ℕ, List, [], ◌∷◌, Some, slice_get, take}
 use Rattle.term_core.specs.Tree.{Tree}
+use Rattle.spec_core.specs.declared.records.Equation.{Equation}
 use Rattle.spec_core.specs.declared.records.Spec.{Spec}
 use Rattle.clause_core.specs.declared.answers.Children.{Children}
 use Rattle.clause_core.specs.declared.clauses.Clause.{Clause}
 use Rattle.clause_core.specs.declared.steps.Step.{Step}
+use Rattle.clause_core.specs.Equations.{IsIdentity}
 use Rattle.acceptance.specs.Blocks.{StepMakes}
 use Rattle.script_trim.specs.declared.blocks.Fit.{Fit}
 use Rattle.script_trim.specs.Closing.{closing_steps}
+
+-- the sides of one of the equations are one term
+abbrev pub HasIdentity : List Equation → Type 0
+HasIdentity [] = ⊥
+HasIdentity (e ∷ es) = IsIdentity e ⊎ HasIdentity es
 
 module _ (above : Tree → Tree → Type 0) (spec : Spec) (usable : ℕ → Type 0) where
   -- of these steps, those that are defined at node i over these nodes, with what they make

@@ -1,6 +1,7 @@
 -- Keys: numbers that tell most clauses apart that can't close a node as they are. Apart from speed,
 -- all that matters of a key is that it is one number for an equation and its swapped form.
-use Rattle.std.specs.Prelude.{ℕ, ◌+◌, ◌*◌, ◌/◌, ◌%◌, ◌^◌, min, max, bit_xor, List, [], ◌∷◌, Option, Some, None, Contains}
+use Rattle.std.specs.Prelude.{ℕ, ◌+◌, ◌*◌, ◌/◌, ◌%◌, ◌^◌, min, max, bit_xor, List, [], ◌∷◌, Option, Some, None}
+use Rattle.std.specs.Prelude.{Contains}
 use Rattle.term_core.specs.Tree.{Tree, Trees, var, app, none, some}
 use Rattle.spec_core.specs.declared.records.Equation.{Equation}
 use Rattle.clause_core.specs.declared.clauses.Clause.{Clause}

@@ -21,3 +21,11 @@ pub(crate) struct Fit {
     pub step: Step,
     pub made: Children,
 }
+
+/// A closing step that closes a node, and the steps that are left.
+#[derive(Drop)]
+pub(crate) struct NodeCut {
+    pub node: usize,
+    pub fit: Fit,
+    pub rest: Vec<Step>,
+}

@@ -8,7 +8,7 @@ ghost use Rattle.script_trim.specs.Trimmed.{with_steps, LeadsTo};
 use crate::blocks::KeptBlock;
 use crate::copying::copy_claim;
 use crate::cutting::cut_block;
-use crate::first_cuts::{NodeCut, first_cut};
+use crate::first_cuts::first_cut;
 use crate::kept_blocks::kept_block;
 use crate::lemmas::Lemmas;
 use crate::placing::ClaimAt;
@@ -97,12 +97,9 @@ fn trim_block<O: TermOrder>(
         (with_steps place.now.report.now place.now.number k.name steps.items)) }
 {
     clause_core::one_relation(&admitted.order);
-    let report = place.report;
-    let number = place.number;
     let mut block = block;
     while let Some(cut) = first_cut(alloc, admitted, place, &block)? {
-        let NodeCut { node, fit, rest } = cut;
-        block = cut_block(alloc, admitted, report, number, block, node, fit, rest)?;
+        block = cut_block(alloc, admitted, place, block, cut)?;
     }
     let KeptBlock { steps, .. } = block;
     Ok(steps)

@@ -45,7 +45,7 @@ fn are_numbers(clause: &Clause, conclusion: u16, premise: u16) -> bool
     is_number(conclusion, clause.conclusions.len()) && is_number(premise, clause.premises.len())
 }
 
-/// Whether so many equations have one of this number, which counts from 1.
+/// Whether this many equations have one of this number, which counts from 1.
 fn is_number(number: u16, count: usize) -> bool
     ensures { IsTrue result ↔ ((1 ≤ number) × (number ≤ count)) }
 {
@@ -84,7 +84,7 @@ fn is_whole_goal(
     }
 }
 
-/// Whether the terms are so many variables, in their order.
+/// Whether the terms are this many variables, in their order.
 fn are_variables(terms: &[Term], count: usize) -> bool
     ensures { IsTrue result ↔ (terms.now ≡ variables 0 count) }
 {

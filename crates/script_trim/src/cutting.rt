@@ -13,12 +13,13 @@ ghost use Rattle.script_trim.specs.Kept.{IsKept};
 ghost use Rattle.script_trim.specs.Made.{cut_made};
 ghost use Rattle.script_trim.specs.Trimmed.{proves};
 
-use crate::blocks::{Fit, KeptBlock};
+use crate::blocks::{Fit, KeptBlock, NodeCut};
 use crate::copying::copy_step;
 use crate::cut_links::{are_allowed, cut_links};
 use crate::flags::{
     keep, new_numbers, refers_to_staying, staying_nodes, with_new_number, with_other,
 };
+use crate::placing::ClaimAt;
 use clause_core::{Block, Children, Claim, Outcome, Report, Step};
 use proof_script::{MOST_CLAIM_BYTES, print_claim};
 use spec_admit::Admitted;
@@ -33,25 +34,24 @@ use term_order::TermOrder;
 pub(crate) fn rest_of<O: TermOrder>(
     alloc: Global,
     admitted: &Admitted<O>,
-    report: &Report,
-    number: usize,
+    place: &ClaimAt,
     block: &KeptBlock,
     node: usize,
     fit: &Fit,
 ) -> Result<Option<Vec<Step>>, OutOfMemory>
-    requires kept { IsKept (O.above admitted.now.order) admitted.now.spec report.now number
-        block.now }
+    requires kept { IsKept (O.above admitted.now.order) admitted.now.spec place.now.report.now
+        place.now.number block.now }
     requires node { node < length block.now.steps.items }
-    requires fits { (kept : IsKept (O.above admitted.now.order) admitted.now.spec report.now number
-        block.now) → FitsAt (O.above admitted.now.order) admitted.now.spec report.now number
+    requires fits { (kept : IsKept (O.above admitted.now.order) admitted.now.spec
+        place.now.report.now place.now.number block.now) →
+        FitsAt (O.above admitted.now.order) admitted.now.spec place.now.report.now place.now.number
         block.now kept node fit.now }
     ensures { IfOk result (λ rest. (kept : IsKept (O.above admitted.now.order) admitted.now.spec
-        report.now number block.now) → MatchOption rest
-        ((others : List StepOf) → ClosesAt (O.above admitted.now.order) admitted.now.spec report.now
-        number block.now kept node fit.now.step others → ⊥)
-        (λ steps. ClosesAt (O.above admitted.now.order) admitted.now.spec report.now number
-        block.now
-        kept node fit.now.step steps.items)) }
+        place.now.report.now place.now.number block.now) → MatchOption rest
+        ((others : List StepOf) → ClosesAt (O.above admitted.now.order) admitted.now.spec
+        place.now.report.now place.now.number block.now kept node fit.now.step others → ⊥)
+        (λ steps. ClosesAt (O.above admitted.now.order) admitted.now.spec place.now.report.now
+        place.now.number block.now kept node fit.now.step steps.items)) }
 {
     clause_core::one_relation(&admitted.order);
     let steps = block.steps.as_slice();
@@ -67,7 +67,12 @@ pub(crate) fn rest_of<O: TermOrder>(
         return Ok(None);
     }
     let rest = rest_steps(alloc, steps, node, &fit.step, stays, numbers)?;
-    if_short(alloc, &admitted.spec.sig, name_at(report, number), rest)
+    if_short(
+        alloc,
+        &admitted.spec.sig,
+        name_at(place.report, place.number),
+        rest,
+    )
 }
 
 /// The name of the goal that the claim of this number is on.
@@ -156,31 +161,27 @@ fn if_short(
     }
 }
 
-/// The block that is left of this one where the closing step closes the node and these steps are
-/// left. The flag of the node itself stays as it is.
+/// The block that is left of this one after the cut. The flag of its node stays as it is.
 pub(crate) fn cut_block<O: TermOrder>(
     alloc: Global,
     admitted: &Admitted<O>,
-    report: &Report,
-    number: usize,
+    place: &ClaimAt,
     block: KeptBlock,
-    node: usize,
-    fit: Fit,
-    rest: Vec<Step>,
+    cut: NodeCut,
 ) -> Result<KeptBlock, OutOfMemory>
-    requires { (kept : IsKept (O.above admitted.now.order) admitted.now.spec report.now number
-        block)
-        × FitsAt (O.above admitted.now.order) admitted.now.spec report.now number block kept node
-        fit
-        × ClosesAt (O.above admitted.now.order) admitted.now.spec report.now number block kept node
-        fit.step rest.items }
-    ensures steps { IfOk result (λ made. made.steps.items ≡ rest.items) }
-    ensures kept { IfOk result
-        (IsKept (O.above admitted.now.order) admitted.now.spec report.now number) }
+    requires { (kept : IsKept (O.above admitted.now.order) admitted.now.spec place.now.report.now
+        place.now.number block)
+        × FitsAt (O.above admitted.now.order) admitted.now.spec place.now.report.now
+        place.now.number block kept cut.node cut.fit
+        × ClosesAt (O.above admitted.now.order) admitted.now.spec place.now.report.now
+        place.now.number block kept cut.node cut.fit.step cut.rest.items }
+    ensures steps { IfOk result (λ made. made.steps.items ≡ cut.rest.items) }
+    ensures kept { IfOk result (IsKept (O.above admitted.now.order) admitted.now.spec
+        place.now.report.now place.now.number) }
 {
     clause_core::one_relation(&admitted.order);
-    let _report = report;
-    let _number = number;
+    let _place = place;
+    let NodeCut { node, fit, rest } = cut;
     left_block(alloc, block, node, fit, rest)
 }
 

@@ -4,23 +4,14 @@ ghost use Rattle.script_trim.specs.Finding.{FindsCutAt, FindsCutBelow, FindsFirs
 ghost use Rattle.script_trim.specs.Kept.{IsKept};
 ghost use Rattle.script_trim.specs.Placing.{IsPlaced};
 
-use crate::blocks::{Fit, KeptBlock};
+use crate::blocks::{KeptBlock, NodeCut};
 use crate::cutting::rest_of;
 use crate::fitting::fitting_steps;
-use crate::placing::ClaimAt;
-use clause_core::Step;
+use crate::placing::{ClaimAt, NodeAt};
 use spec_admit::Admitted;
 use std::alloc::Global;
 use term_core::OutOfMemory;
 use term_order::TermOrder;
-
-/// A closing step that closes a node, and the steps that are left.
-#[derive(Drop)]
-pub(crate) struct NodeCut {
-    pub node: usize,
-    pub fit: Fit,
-    pub rest: Vec<Step>,
-}
 
 /// The first cut of the block: at the first node that has children and could be closed.
 pub(crate) fn first_cut<O: TermOrder>(
@@ -101,17 +92,13 @@ fn cut_at<O: TermOrder>(
     descent::children_are_sorted(&admitted.order);
     let nodes = block.nodes.as_slice();
     let keys = block.keys.as_slice();
-    let fits = fitting_steps(alloc, admitted, place.lemmas, nodes, keys, before, node)?;
+    let at = NodeAt {
+        number: node,
+        before,
+    };
+    let fits = fitting_steps(alloc, admitted, place.lemmas, nodes, keys, at)?;
     for fit in fits {
-        let rest = rest_of(
-            alloc,
-            admitted,
-            place.report,
-            place.number,
-            block,
-            node,
-            &fit,
-        )?;
+        let rest = rest_of(alloc, admitted, place, block, node, &fit)?;
         if let Some(rest) = rest {
             return Ok(Some(NodeCut { node, fit, rest }));
         }

@@ -18,6 +18,7 @@ use crate::closing::own_variables;
 use crate::copying::copy_step;
 use crate::keys::{conclusion_keys, may_close};
 use crate::lemmas::{LemmaClause, Lemmas};
+use crate::placing::NodeAt;
 use crate::subsuming::subsumes;
 use clause_core::{Children, Clause, Step, one_answer};
 use inference_rules::{Node, StepError, children};
@@ -64,63 +65,71 @@ impl<'a> Spot<'a> {
 }
 
 /// The closing steps that are defined at a node of the block with these nodes, in their order, with
-/// what they make. The steps of the nodes before it make `before` nodes. No step by another clause
-/// is made unless the clause says no less than the node's, which is asked only where keys agree.
+/// what they make. No step by another clause is made unless the clause says no less than the node's,
+/// which is asked only where keys agree.
 pub(crate) fn fitting_steps<O: TermOrder>(
     alloc: Global,
     admitted: &Admitted<O>,
     lemmas: &Lemmas,
     block_nodes: &[Node],
     keys: &[Option<u32>],
-    before: usize,
-    node: usize,
+    at: NodeAt,
 ) -> Result<Vec<Fit>, OutOfMemory>
     requires nodes { AreNodes admitted.now.spec.sig (clauses_of block_nodes.now) }
     requires keys { keys.now ≡ map key_of (clauses_of block_nodes.now) }
     requires lemmas { AreLemmas admitted.now.spec lemmas.now }
-    requires node { node < before }
-    requires before { before ≤ length block_nodes.now }
+    requires node { at.number < at.before }
+    requires before { at.before ≤ length block_nodes.now }
     ensures { IfOk result (λ fits. AreFitting (O.above admitted.now.order) admitted.now.spec
-        (Contains lemmas.now.numbers.items) (clauses_of block_nodes.now) before node fits.items) }
+        (Contains lemmas.now.numbers.items) (clauses_of block_nodes.now) at.before at.number fits.items) }
 {
     // More nodes than there are numbers count as want of memory: a block has 10,000 at most.
-    if before > u32::MAX as usize {
+    if at.before > u32::MAX as usize {
         return Err(OutOfMemory);
     }
     let proved = lemmas.numbers.as_slice();
-    let spot = Spot::new(&admitted.spec, proved, &block_nodes[..before], node as u32);
+    let spot = Spot::new(
+        &admitted.spec,
+        proved,
+        &block_nodes[..at.before],
+        at.number as u32,
+    );
     let order = &admitted.order;
-    all_fits(alloc, order, &spot, &lemmas.clauses, &keys[..before])
+    all_fits(alloc, order, &spot, &lemmas.clauses, &keys[..at.before])
 }
 
 /// The step with what it makes at the node of the block with these nodes, or None where it isn't
-/// defined. The steps of the nodes before it make `before` nodes.
+/// defined.
 pub(crate) fn fit_of<O: TermOrder>(
     alloc: Global,
     admitted: &Admitted<O>,
     lemmas: &Lemmas,
     block_nodes: &[Node],
-    before: usize,
-    node: usize,
+    at: NodeAt,
     step: &Step,
 ) -> Result<Option<Fit>, OutOfMemory>
     requires nodes { AreNodes admitted.now.spec.sig (clauses_of block_nodes.now) }
-    requires node { node < before }
-    requires before { before ≤ length block_nodes.now }
+    requires node { at.number < at.before }
+    requires before { at.before ≤ length block_nodes.now }
     ensures { IfOk result (λ found. MatchOption found
         ((made : ChildrenOf) → StepMakes (O.above admitted.now.order) admitted.now.spec
-        (Contains lemmas.now.numbers.items) (take before (clauses_of block_nodes.now)) node
+        (Contains lemmas.now.numbers.items) (take at.before (clauses_of block_nodes.now)) at.number
         step.now made → ⊥)
         (λ fit. (fit.step ≡ step.now) × StepMakes (O.above admitted.now.order) admitted.now.spec
-        (Contains lemmas.now.numbers.items) (take before (clauses_of block_nodes.now)) node
+        (Contains lemmas.now.numbers.items) (take at.before (clauses_of block_nodes.now)) at.number
         step.now fit.made)) }
 {
     // More nodes than there are numbers count as want of memory: a block has 10,000 at most.
-    if before > u32::MAX as usize {
+    if at.before > u32::MAX as usize {
         return Err(OutOfMemory);
     }
     let proved = lemmas.numbers.as_slice();
-    let spot = Spot::new(&admitted.spec, proved, &block_nodes[..before], node as u32);
+    let spot = Spot::new(
+        &admitted.spec,
+        proved,
+        &block_nodes[..at.before],
+        at.number as u32,
+    );
     match made_by(alloc, &admitted.order, &spot, step)? {
         Some(made) => {
             let step = copy_step(alloc, step)?;

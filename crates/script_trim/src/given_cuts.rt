@@ -14,7 +14,7 @@ use crate::closing::is_closing;
 use crate::cutting::rest_of;
 use crate::fitting::fit_of;
 use crate::lemmas::Lemmas;
-use crate::placing::ClaimAt;
+use crate::placing::{ClaimAt, NodeAt};
 use clause_core::{Children, Outcome, Report, Step};
 use spec_admit::Admitted;
 use std::alloc::Global;
@@ -77,16 +77,12 @@ pub(crate) fn rest_by<O: TermOrder>(
     }
     let links = block.links.as_slice();
     let before = nodes_before(links, node);
-    match fit_of(alloc, admitted, place.lemmas, nodes, before, node, step)? {
-        Some(fit) => rest_of(
-            alloc,
-            admitted,
-            place.report,
-            place.number,
-            block,
-            node,
-            &fit,
-        ),
+    let at = NodeAt {
+        number: node,
+        before,
+    };
+    match fit_of(alloc, admitted, place.lemmas, nodes, at, step)? {
+        Some(fit) => rest_of(alloc, admitted, place, block, node, &fit),
         None => Ok(None),
     }
 }

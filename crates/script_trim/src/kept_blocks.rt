@@ -1,4 +1,4 @@
-ghost use Rattle.std.specs.Prelude.{◌≡◌, ◌<◌, ◌≤◌, ℕ, List, [], ◌∷◌, Some, false, IfOk, Contains, length, map, slice_get};
+ghost use Rattle.std.specs.Prelude.{◌≡◌, ◌↔◌, ◌<◌, ◌≤◌, ℕ, List, [], ◌∷◌, Some, false, IfOk, IsTrue, Contains, length, map, slice_get};
 ghost use Rattle.clause_core.specs.declared.answers.Children.{Children as ChildrenOf};
 ghost use Rattle.descent.specs.SortedChildren.{IsNode};
 ghost use Rattle.acceptance.specs.Blocks.{StepsMake};
@@ -6,7 +6,7 @@ ghost use Rattle.acceptance.specs.Strict.{first_child};
 ghost use Rattle.inference_rules.specs.declared.nodes.StepError.TheVariants.{OutOfMemory as no_memory};
 ghost use Rattle.inference_rules.specs.Answers.{clauses_of};
 ghost use Rattle.inference_rules.specs.Nodes.{AreNodes};
-ghost use Rattle.script_trim.specs.Fitting.{NoneFits};
+ghost use Rattle.script_trim.specs.Fitting.{HasIdentity, NoneFits};
 ghost use Rattle.script_trim.specs.Kept.{IsKept};
 ghost use Rattle.script_trim.specs.Keys.{key_of};
 ghost use Rattle.script_trim.specs.Placing.{AreTaken, IsPlaced};
@@ -18,12 +18,12 @@ use crate::copying::copy_steps;
 use crate::fitting::fitting_steps;
 use crate::keys::key;
 use crate::lemmas::Lemmas;
-use crate::placing::ClaimAt;
+use crate::placing::{ClaimAt, NodeAt};
 use block_steps::TakenSteps;
-use clause_core::{Clause, Step, of_goal};
+use clause_core::{Clause, Step, is_identity, of_goal};
 use inference_rules::{Node, StepError};
 use spec_admit::Admitted;
-use spec_core::Goal;
+use spec_core::{Equation, Goal};
 use std::alloc::Global;
 use term_core::OutOfMemory;
 use term_order::TermOrder;
@@ -134,38 +134,54 @@ fn hopeful_nodes<O: TermOrder>(
     let mut before = 1;
     for (node, made) in taken.links.as_slice().iter().enumerate() {
         let after = before + made.clauses.len();
-        flags.push(is_hopeful(alloc, admitted, lemmas, taken, keys, before, node)?)?;
+        let at = NodeAt {
+            number: node,
+            before,
+        };
+        flags.push(is_hopeful(alloc, admitted, lemmas, taken, keys, at)?)?;
         before = after;
     }
     Ok(flags)
 }
 
 /// Whether a closing step may be defined at this node. Nothing is tried at a node without children,
-/// since nothing is to be cut there.
+/// since nothing is to be cut there, nor where `trivial` is defined in plain sight.
 fn is_hopeful<O: TermOrder>(
     alloc: Global,
     admitted: &Admitted<O>,
     lemmas: &Lemmas,
     taken: &TakenSteps,
     keys: &[Option<u32>],
-    before: usize,
-    node: usize,
+    at: NodeAt,
 ) -> Result<bool, OutOfMemory>
     requires nodes { AreNodes admitted.now.spec.sig (clauses_of taken.now.nodes.items) }
     requires keys { keys.now ≡ map key_of (clauses_of taken.now.nodes.items) }
     requires lemmas { AreLemmas admitted.now.spec lemmas.now }
-    requires there { node < length taken.now.links.items }
-    requires node { node < before }
-    requires before { before ≤ length taken.now.nodes.items }
+    requires there { at.number < length taken.now.links.items }
+    requires node { at.number < at.before }
+    requires before { at.before ≤ length taken.now.nodes.items }
     ensures { IfOk result (λ hopeful. hopeful ≡ false →
         NoneFits (O.above admitted.now.order) admitted.now.spec (Contains lemmas.now.numbers.items)
-        (clauses_of taken.now.nodes.items) before node) }
+        (clauses_of taken.now.nodes.items) at.before at.number) }
 {
     let links = taken.links.as_slice();
-    if links[node].clauses.is_empty() {
+    let nodes = taken.nodes.as_slice();
+    let conclusions = nodes[at.number].clause.conclusions.as_slice();
+    if links[at.number].clauses.is_empty() || has_identity(conclusions) {
         return Ok(true);
     }
-    let nodes = taken.nodes.as_slice();
-    let fits = fitting_steps(alloc, admitted, lemmas, nodes, keys, before, node)?;
+    let fits = fitting_steps(alloc, admitted, lemmas, nodes, keys, at)?;
     Ok(!fits.is_empty())
+}
+
+/// Whether the sides of one of the equations are one term.
+fn has_identity(equations: &[Equation]) -> bool
+    ensures { IsTrue result ↔ HasIdentity equations.now }
+{
+    for equation in equations {
+        if is_identity(equation) {
+            return true;
+        }
+    }
+    false
 }

@@ -8,3 +8,10 @@ pub(crate) struct ClaimAt<'a> {
     pub number: usize,
     pub lemmas: &'a Lemmas,
 }
+
+/// A node of a block by its number, with how many nodes the steps before it make.
+#[derive(Clone, Copy)]
+pub(crate) struct NodeAt {
+    pub number: usize,
+    pub before: usize,
+}

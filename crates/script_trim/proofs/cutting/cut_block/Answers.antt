@@ -14,19 +14,33 @@ pub left_block-requires : goal.left_block-requires
 left_block-requires g c =
     let above = g.O.TermOrder.above c.args.admitted.now.order in
     let spec = c.args.admitted.now.spec in
+    let report = c.args.place.now.report.now in
+    let number = c.args.place.now.number in
     let fine : IsWellSorted c.args.admitted.now.spec = rw (← c.admitted.view_is) c.admitted.invariant.0 in
-    let one : OneRelation (g.O.TermOrder.above c.args.admitted.now.order) = rw (← c.admitted.view_is) c.one_relation.ensures in
-    let within = closes_within above one spec fine c.args.report.now c.args.number c.args.block c.requires.0 c.args.node c.args.fit.step c.args.rest.items c.requires.2 in
-    cuttable above one spec fine c.args.report.now c.args.number c.args.block c.requires.0 c.args.node within c.args.fit c.requires.1
+    let one : OneRelation (g.O.TermOrder.above c.args.admitted.now.order) = rw (← c.admitted.view_is)
+    c.one_relation.ensures in
+    let within = closes_within above one spec fine report number c.args.block c.requires.0 c.args.cut.node
+    c.args.cut.fit.step c.args.cut.rest.items c.requires.2 in
+    cuttable above one spec fine report number c.args.block c.requires.0 c.args.cut.node within c.args.cut.fit
+    c.requires.1
 
 pub returns : goal.returns
 returns g c =
     let above = g.O.TermOrder.above c.args.admitted.now.order in
     let spec = c.args.admitted.now.spec in
+    let report = c.args.place.now.report.now in
+    let number = c.args.place.now.number in
     let fine : IsWellSorted c.args.admitted.now.spec = rw (← c.admitted.view_is) c.admitted.invariant.0 in
-    let one : OneRelation (g.O.TermOrder.above c.args.admitted.now.order) = rw (← c.admitted.view_is) c.one_relation.ensures in
-    let within = closes_within above one spec fine c.args.report.now c.args.number c.args.block c.requires.0 c.args.node c.args.fit.step c.args.rest.items c.requires.2 in
+    let one : OneRelation (g.O.TermOrder.above c.args.admitted.now.order) = rw (← c.admitted.view_is)
+    c.one_relation.ensures in
+    let within = closes_within above one spec fine report number c.args.block c.requires.0 c.args.cut.node
+    c.args.cut.fit.step c.args.cut.rest.items c.requires.2 in
     record {
-      steps = if_ok_map c.left_block.result (IsLeft c.args.block c.args.node c.args.fit.made c.args.rest.items) (λ (made : KeptBlock). made.steps.items ≡ c.args.rest.items) (λ made left. left.steps) c.left_block.ensures;
-      kept = if_ok_map c.left_block.result (IsLeft c.args.block c.args.node c.args.fit.made c.args.rest.items) (IsKept (g.O.TermOrder.above c.args.admitted.now.order) c.args.admitted.now.spec c.args.report.now c.args.number) (λ made left. still_kept above one spec fine c.args.report.now c.args.number c.args.block c.requires.0 c.args.node within c.args.fit c.requires.1 c.args.rest.items c.requires.2 made left) c.left_block.ensures;
+      steps = if_ok_map c.left_block.result (IsLeft c.args.block c.args.cut.node c.args.cut.fit.made
+          c.args.cut.rest.items) (λ (made : KeptBlock). made.steps.items ≡ c.args.cut.rest.items)
+          (λ made left. left.steps) c.left_block.ensures;
+      kept = if_ok_map c.left_block.result (IsLeft c.args.block c.args.cut.node c.args.cut.fit.made
+          c.args.cut.rest.items) (IsKept above spec report number)
+          (λ made left. still_kept above one spec fine report number c.args.block c.requires.0 c.args.cut.node within
+          c.args.cut.fit c.requires.1 c.args.cut.rest.items c.requires.2 made left) c.left_block.ensures;
     }

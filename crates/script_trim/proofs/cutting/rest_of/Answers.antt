@@ -11,92 +11,201 @@ use Rattle.script_trim.specs.Cutting.{TellsAllowed}
 use Rattle.script_trim.specs.Flags.{flag_of, AreInOrder, AreNewNumbers}
 use Rattle.script_trim.specs.Trimmed.{proves}
 use Rattle.script_trim.proofs.BlockRests.{in_order, whole_linked}
-use Rattle.script_trim.proofs.RestFacts.{closed_in, closes_allowed, closes_refer, flags_few, links_long, links_refer, rest_in_range, rest_told, steps_long, whole_left}
+use Rattle.script_trim.proofs.RestFacts.{closed_in, closes_allowed, closes_refer, flags_few, links_long, links_refer}
+use Rattle.script_trim.proofs.RestFacts.{rest_in_range, rest_told, steps_long, whole_left}
 use Rattle.script_trim.proofs.cutting.rest_of.Goals as goal
 
 pub staying_nodes-requires : goal.staying_nodes-requires
 staying_nodes-requires g c =
+    let above = g.O.TermOrder.above c.args.admitted.now.order in
+    let spec = c.args.admitted.now.spec in
+    let report = c.args.place.now.report.now in
+    let number = c.args.place.now.number in
+    let block = c.args.block.now in
     let fine : IsWellSorted c.args.admitted.now.spec = rw (← c.admitted.view_is) c.admitted.invariant.0 in
-    let one : OneRelation (g.O.TermOrder.above c.args.admitted.now.order) = rw (← c.admitted.view_is) c.one_relation.ensures in
+    let one : OneRelation (g.O.TermOrder.above c.args.admitted.now.order) = rw (← c.admitted.view_is)
+    c.one_relation.ensures in
     record {
-      whole = subst IsWholeBlock (sym c.as_slice-links.ensures.value) (whole_linked (g.O.TermOrder.above c.args.admitted.now.order) one c.args.admitted.now.spec fine c.args.report.now c.args.number c.args.block.now c.requires.kept);
-      order = subst AreInOrder (sym c.as_slice-links.ensures.value) (in_order (g.O.TermOrder.above c.args.admitted.now.order) one c.args.admitted.now.spec fine c.args.report.now c.args.number c.args.block.now c.requires.kept);
+      whole = subst IsWholeBlock (sym c.as_slice-links.ensures.value)
+          (whole_linked above one spec fine report number block c.requires.kept);
+      order = subst AreInOrder (sym c.as_slice-links.ensures.value)
+          (in_order above one spec fine report number block c.requires.kept);
     }
 
 pub all_refer_to_staying-requires : goal.all_refer_to_staying-requires
 all_refer_to_staying-requires g c =
+    let above = g.O.TermOrder.above c.args.admitted.now.order in
+    let spec = c.args.admitted.now.spec in
+    let report = c.args.place.now.report.now in
+    let number = c.args.place.now.number in
+    let block = c.args.block.now in
     let fine : IsWellSorted c.args.admitted.now.spec = rw (← c.admitted.view_is) c.admitted.invariant.0 in
-    let one : OneRelation (g.O.TermOrder.above c.args.admitted.now.order) = rw (← c.admitted.view_is) c.one_relation.ensures in
-    steps_long (g.O.TermOrder.above c.args.admitted.now.order) one c.args.admitted.now.spec fine c.args.report.now c.args.number c.args.block.now c.requires.kept c.args.node c.requires.node c.args.fit.now (c.requires.fits c.requires.kept) c.as_slice-steps.result.now c.as_slice-steps.ensures.value c.as_slice-links.result.now c.as_slice-links.ensures.value c.in_ok-stays.stays.items c.in_ok-stays.ensures c.as_slice-stays.result.now c.as_slice-stays.ensures.value
+    let one : OneRelation (g.O.TermOrder.above c.args.admitted.now.order) = rw (← c.admitted.view_is)
+    c.one_relation.ensures in
+    steps_long above one spec fine report number block c.requires.kept c.args.node c.requires.node c.args.fit.now
+    (c.requires.fits c.requires.kept) c.as_slice-steps.result.now c.as_slice-steps.ensures.value
+    c.as_slice-links.result.now c.as_slice-links.ensures.value c.in_ok-stays.stays.items c.in_ok-stays.ensures
+    c.as_slice-stays.result.now c.as_slice-stays.ensures.value
 
 pub returns-then-not-all_refer_to_staying : goal.returns-then-not-all_refer_to_staying
 returns-then-not-all_refer_to_staying g c = λ kept others closes.
+    let above = g.O.TermOrder.above c.args.admitted.now.order in
+    let spec = c.args.admitted.now.spec in
+    let report = c.args.place.now.report.now in
+    let number = c.args.place.now.number in
+    let block = c.args.block.now in
     let fine : IsWellSorted c.args.admitted.now.spec = rw (← c.admitted.view_is) c.admitted.invariant.0 in
-    let one : OneRelation (g.O.TermOrder.above c.args.admitted.now.order) = rw (← c.admitted.view_is) c.one_relation.ensures in
-    let no = c.if-not-all_refer_to_staying.ensures.1 (closes_refer (g.O.TermOrder.above c.args.admitted.now.order) one c.args.admitted.now.spec fine c.args.report.now c.args.number c.args.block.now kept c.args.node c.requires.node c.args.fit.now (c.requires.fits kept) c.as_slice-steps.result.now c.as_slice-steps.ensures.value c.as_slice-links.result.now c.as_slice-links.ensures.value c.in_ok-stays.stays.items c.in_ok-stays.ensures c.as_slice-stays.result.now c.as_slice-stays.ensures.value others closes) in
+    let one : OneRelation (g.O.TermOrder.above c.args.admitted.now.order) = rw (← c.admitted.view_is)
+    c.one_relation.ensures in
+    let no = c.if-not-all_refer_to_staying.ensures.1
+    (closes_refer above one spec fine report number block kept c.args.node c.requires.node c.args.fit.now
+    (c.requires.fits kept) c.as_slice-steps.result.now c.as_slice-steps.ensures.value c.as_slice-links.result.now
+    c.as_slice-links.ensures.value c.in_ok-stays.stays.items c.in_ok-stays.ensures c.as_slice-stays.result.now
+    c.as_slice-stays.ensures.value others closes) in
     cc
 
 pub new_numbers-requires : goal.new_numbers-requires
 new_numbers-requires g c =
+    let above = g.O.TermOrder.above c.args.admitted.now.order in
+    let spec = c.args.admitted.now.spec in
+    let report = c.args.place.now.report.now in
+    let number = c.args.place.now.number in
+    let block = c.args.block.now in
     let fine : IsWellSorted c.args.admitted.now.spec = rw (← c.admitted.view_is) c.admitted.invariant.0 in
-    let one : OneRelation (g.O.TermOrder.above c.args.admitted.now.order) = rw (← c.admitted.view_is) c.one_relation.ensures in
-    flags_few (g.O.TermOrder.above c.args.admitted.now.order) one c.args.admitted.now.spec fine c.args.report.now c.args.number c.args.block.now c.requires.kept c.args.node c.requires.node c.args.fit.now (c.requires.fits c.requires.kept) c.as_slice-steps.result.now c.as_slice-steps.ensures.value c.as_slice-links.result.now c.as_slice-links.ensures.value c.in_ok-stays.stays.items c.in_ok-stays.ensures c.as_slice-stays.result.now c.as_slice-stays.ensures.value
+    let one : OneRelation (g.O.TermOrder.above c.args.admitted.now.order) = rw (← c.admitted.view_is)
+    c.one_relation.ensures in
+    flags_few above one spec fine report number block c.requires.kept c.args.node c.requires.node c.args.fit.now
+    (c.requires.fits c.requires.kept) c.as_slice-steps.result.now c.as_slice-steps.ensures.value
+    c.as_slice-links.result.now c.as_slice-links.ensures.value c.in_ok-stays.stays.items c.in_ok-stays.ensures
+    c.as_slice-stays.result.now c.as_slice-stays.ensures.value
 
 pub are_allowed-requires : goal.are_allowed-requires
 are_allowed-requires g c =
+    let above = g.O.TermOrder.above c.args.admitted.now.order in
+    let spec = c.args.admitted.now.spec in
+    let report = c.args.place.now.report.now in
+    let number = c.args.place.now.number in
+    let block = c.args.block.now in
     let fine : IsWellSorted c.args.admitted.now.spec = rw (← c.admitted.view_is) c.admitted.invariant.0 in
-    let one : OneRelation (g.O.TermOrder.above c.args.admitted.now.order) = rw (← c.admitted.view_is) c.one_relation.ensures in
+    let one : OneRelation (g.O.TermOrder.above c.args.admitted.now.order) = rw (← c.admitted.view_is)
+    c.one_relation.ensures in
     let refer = c.if-not-all_refer_to_staying.ensures.0 refl in
-    let numbers : AreNewNumbers c.as_slice-stays.result.now c.as_slice-numbers.result.now = subst (λ ns. AreNewNumbers c.as_slice-stays.result.now ns) (sym c.as_slice-numbers.ensures.value) c.in_ok-numbers.ensures in
+    let numbers : AreNewNumbers c.as_slice-stays.result.now c.as_slice-numbers.result.now = subst
+    (λ ns. AreNewNumbers c.as_slice-stays.result.now ns) (sym c.as_slice-numbers.ensures.value)
+    c.in_ok-numbers.ensures in
     record {
-      long = links_long (g.O.TermOrder.above c.args.admitted.now.order) one c.args.admitted.now.spec fine c.args.report.now c.args.number c.args.block.now c.requires.kept c.args.node c.requires.node c.args.fit.now (c.requires.fits c.requires.kept) c.as_slice-steps.result.now c.as_slice-steps.ensures.value c.as_slice-links.result.now c.as_slice-links.ensures.value c.in_ok-stays.stays.items c.in_ok-stays.ensures c.as_slice-stays.result.now c.as_slice-stays.ensures.value;
+      long = links_long above one spec fine report number block c.requires.kept c.args.node c.requires.node
+          c.args.fit.now (c.requires.fits c.requires.kept) c.as_slice-steps.result.now c.as_slice-steps.ensures.value
+          c.as_slice-links.result.now c.as_slice-links.ensures.value c.in_ok-stays.stays.items c.in_ok-stays.ensures
+          c.as_slice-stays.result.now c.as_slice-stays.ensures.value;
       numbers = numbers;
-      refs = links_refer (g.O.TermOrder.above c.args.admitted.now.order) one c.args.admitted.now.spec fine c.args.report.now c.args.number c.args.block.now c.requires.kept c.args.node c.requires.node c.args.fit.now (c.requires.fits c.requires.kept) c.as_slice-steps.result.now c.as_slice-steps.ensures.value c.as_slice-links.result.now c.as_slice-links.ensures.value c.in_ok-stays.stays.items c.in_ok-stays.ensures c.as_slice-stays.result.now c.as_slice-stays.ensures.value;
-      closed = closed_in (g.O.TermOrder.above c.args.admitted.now.order) one c.args.admitted.now.spec fine c.args.report.now c.args.number c.args.block.now c.requires.kept c.args.node c.requires.node c.args.fit.now (c.requires.fits c.requires.kept) c.as_slice-steps.result.now c.as_slice-steps.ensures.value c.as_slice-links.result.now c.as_slice-links.ensures.value c.in_ok-stays.stays.items c.in_ok-stays.ensures c.as_slice-stays.result.now c.as_slice-stays.ensures.value;
-      whole = whole_left (g.O.TermOrder.above c.args.admitted.now.order) one c.args.admitted.now.spec fine c.args.report.now c.args.number c.args.block.now c.requires.kept c.args.node c.requires.node c.args.fit.now (c.requires.fits c.requires.kept) c.as_slice-steps.result.now c.as_slice-steps.ensures.value c.as_slice-links.result.now c.as_slice-links.ensures.value c.in_ok-stays.stays.items c.in_ok-stays.ensures c.as_slice-stays.result.now c.as_slice-stays.ensures.value refer;
+      refs = links_refer above one spec fine report number block c.requires.kept c.args.node c.requires.node
+          c.args.fit.now (c.requires.fits c.requires.kept) c.as_slice-steps.result.now c.as_slice-steps.ensures.value
+          c.as_slice-links.result.now c.as_slice-links.ensures.value c.in_ok-stays.stays.items c.in_ok-stays.ensures
+          c.as_slice-stays.result.now c.as_slice-stays.ensures.value;
+      closed = closed_in above one spec fine report number block c.requires.kept c.args.node c.requires.node
+          c.args.fit.now (c.requires.fits c.requires.kept) c.as_slice-steps.result.now c.as_slice-steps.ensures.value
+          c.as_slice-links.result.now c.as_slice-links.ensures.value c.in_ok-stays.stays.items c.in_ok-stays.ensures
+          c.as_slice-stays.result.now c.as_slice-stays.ensures.value;
+      whole = whole_left above one spec fine report number block c.requires.kept c.args.node c.requires.node
+          c.args.fit.now (c.requires.fits c.requires.kept) c.as_slice-steps.result.now c.as_slice-steps.ensures.value
+          c.as_slice-links.result.now c.as_slice-links.ensures.value c.in_ok-stays.stays.items c.in_ok-stays.ensures
+          c.as_slice-stays.result.now c.as_slice-stays.ensures.value refer;
     }
 
 pub rest_steps-requires : goal.rest_steps-requires
 rest_steps-requires g c =
+    let above = g.O.TermOrder.above c.args.admitted.now.order in
+    let spec = c.args.admitted.now.spec in
+    let report = c.args.place.now.report.now in
+    let number = c.args.place.now.number in
+    let block = c.args.block.now in
     let fine : IsWellSorted c.args.admitted.now.spec = rw (← c.admitted.view_is) c.admitted.invariant.0 in
-    let one : OneRelation (g.O.TermOrder.above c.args.admitted.now.order) = rw (← c.admitted.view_is) c.one_relation.ensures in
+    let one : OneRelation (g.O.TermOrder.above c.args.admitted.now.order) = rw (← c.admitted.view_is)
+    c.one_relation.ensures in
     let refer = c.if-not-all_refer_to_staying.ensures.0 refl in
-    let numbers : AreNewNumbers c.as_slice-stays.result.now c.as_slice-numbers.result.now = subst (λ ns. AreNewNumbers c.as_slice-stays.result.now ns) (sym c.as_slice-numbers.ensures.value) c.in_ok-numbers.ensures in
+    let numbers : AreNewNumbers c.as_slice-stays.result.now c.as_slice-numbers.result.now = subst
+    (λ ns. AreNewNumbers c.as_slice-stays.result.now ns) (sym c.as_slice-numbers.ensures.value)
+    c.in_ok-numbers.ensures in
     record {
-      long = steps_long (g.O.TermOrder.above c.args.admitted.now.order) one c.args.admitted.now.spec fine c.args.report.now c.args.number c.args.block.now c.requires.kept c.args.node c.requires.node c.args.fit.now (c.requires.fits c.requires.kept) c.as_slice-steps.result.now c.as_slice-steps.ensures.value c.as_slice-links.result.now c.as_slice-links.ensures.value c.in_ok-stays.stays.items c.in_ok-stays.ensures c.as_slice-stays.result.now c.as_slice-stays.ensures.value;
+      long = steps_long above one spec fine report number block c.requires.kept c.args.node c.requires.node
+          c.args.fit.now (c.requires.fits c.requires.kept) c.as_slice-steps.result.now c.as_slice-steps.ensures.value
+          c.as_slice-links.result.now c.as_slice-links.ensures.value c.in_ok-stays.stays.items c.in_ok-stays.ensures
+          c.as_slice-stays.result.now c.as_slice-stays.ensures.value;
       numbers = numbers;
       refer = refer;
     }
 
 pub returns-then-not-branch : goal.returns-then-not-branch
 returns-then-not-branch g c = λ kept others closes.
+    let above = g.O.TermOrder.above c.args.admitted.now.order in
+    let spec = c.args.admitted.now.spec in
+    let report = c.args.place.now.report.now in
+    let number = c.args.place.now.number in
+    let block = c.args.block.now in
     let fine : IsWellSorted c.args.admitted.now.spec = rw (← c.admitted.view_is) c.admitted.invariant.0 in
-    let one : OneRelation (g.O.TermOrder.above c.args.admitted.now.order) = rw (← c.admitted.view_is) c.one_relation.ensures in
+    let one : OneRelation (g.O.TermOrder.above c.args.admitted.now.order) = rw (← c.admitted.view_is)
+    c.one_relation.ensures in
     let refer = c.if-not-all_refer_to_staying.ensures.0 refl in
     let e : c.in_ok-are_allowed.field-0 ≡ false = search rules in
-    let tells : TellsAllowed (flag_of c.as_slice-stays.result.now) c.as_slice-links.result.now c.args.node c.args.fit.now.made false = subst (λ b. TellsAllowed (flag_of c.as_slice-stays.result.now) c.as_slice-links.result.now c.args.node c.args.fit.now.made b) e c.in_ok-are_allowed.ensures in
-    closes_allowed (g.O.TermOrder.above c.args.admitted.now.order) one c.args.admitted.now.spec fine c.args.report.now c.args.number c.args.block.now kept c.args.node c.requires.node c.args.fit.now (c.requires.fits kept) c.as_slice-steps.result.now c.as_slice-steps.ensures.value c.as_slice-links.result.now c.as_slice-links.ensures.value c.in_ok-stays.stays.items c.in_ok-stays.ensures c.as_slice-stays.result.now c.as_slice-stays.ensures.value refer tells others closes
+    let tells : TellsAllowed (flag_of c.as_slice-stays.result.now) c.as_slice-links.result.now c.args.node
+    c.args.fit.now.made false = subst (λ b. TellsAllowed (flag_of c.as_slice-stays.result.now)
+    c.as_slice-links.result.now c.args.node c.args.fit.now.made b) e c.in_ok-are_allowed.ensures in
+    closes_allowed above one spec fine report number block kept c.args.node c.requires.node c.args.fit.now
+    (c.requires.fits kept) c.as_slice-steps.result.now c.as_slice-steps.ensures.value c.as_slice-links.result.now
+    c.as_slice-links.ensures.value c.in_ok-stays.stays.items c.in_ok-stays.ensures c.as_slice-stays.result.now
+    c.as_slice-stays.ensures.value refer tells others closes
 
 pub name_at-requires : goal.name_at-requires
-name_at-requires g c = slice_get_within c.args.report.now.claims c.args.number _ c.requires.kept.there
+name_at-requires g c =
+    let number = c.args.place.now.number in
+    slice_get_within c.args.place.now.report.now.claims number _ c.requires.kept.there
 
 pub if_short-requires : goal.if_short-requires
 if_short-requires g c =
+    let above = g.O.TermOrder.above c.args.admitted.now.order in
+    let spec = c.args.admitted.now.spec in
+    let report = c.args.place.now.report.now in
+    let number = c.args.place.now.number in
+    let block = c.args.block.now in
     let fine : IsWellSorted c.args.admitted.now.spec = rw (← c.admitted.view_is) c.admitted.invariant.0 in
-    let one : OneRelation (g.O.TermOrder.above c.args.admitted.now.order) = rw (← c.admitted.view_is) c.one_relation.ensures in
+    let one : OneRelation (g.O.TermOrder.above c.args.admitted.now.order) = rw (← c.admitted.view_is)
+    c.one_relation.ensures in
     let refer = c.if-not-all_refer_to_staying.ensures.0 refl in
     let name_is : c.name_at.result.now ≡ c.requires.kept.name = c.name_at.ensures _ c.requires.kept.there in
-    let h : ClaimIsInRange c.args.admitted.now.spec.sig (proves c.name_at.result.now c.in_ok-rest.rest.items) = rest_in_range (g.O.TermOrder.above c.args.admitted.now.order) one c.args.admitted.now.spec fine c.args.report.now c.args.number c.args.block.now c.requires.kept c.args.node c.requires.node c.args.fit.now (c.requires.fits c.requires.kept) c.as_slice-steps.result.now c.as_slice-steps.ensures.value c.as_slice-links.result.now c.as_slice-links.ensures.value c.in_ok-stays.stays.items c.in_ok-stays.ensures c.as_slice-stays.result.now c.as_slice-stays.ensures.value refer c.name_at.result.now name_is c.in_ok-rest.rest.items c.in_ok-rest.ensures in
+    let h : ClaimIsInRange c.args.admitted.now.spec.sig (proves c.name_at.result.now c.in_ok-rest.rest.items) =
+    rest_in_range above one spec fine report number block c.requires.kept c.args.node c.requires.node
+    c.args.fit.now (c.requires.fits c.requires.kept) c.as_slice-steps.result.now c.as_slice-steps.ensures.value
+    c.as_slice-links.result.now c.as_slice-links.ensures.value c.in_ok-stays.stays.items c.in_ok-stays.ensures
+    c.as_slice-stays.result.now c.as_slice-stays.ensures.value refer c.name_at.result.now name_is
+    c.in_ok-rest.rest.items c.in_ok-rest.ensures in
     let sig_is : c.admitted.inside.spec.sig ≡ c.args.admitted.now.spec.sig = rw (← c.admitted.view_is) refl in
     subst (λ s. ClaimIsInRange s (proves c.name_at.result.now c.in_ok-rest.rest.items)) (sym sig_is) h
 
 pub returns : goal.returns
 returns g c =
+    let above = g.O.TermOrder.above c.args.admitted.now.order in
+    let spec = c.args.admitted.now.spec in
+    let report = c.args.place.now.report.now in
+    let number = c.args.place.now.number in
+    let block = c.args.block.now in
     let fine : IsWellSorted c.args.admitted.now.spec = rw (← c.admitted.view_is) c.admitted.invariant.0 in
-    let one : OneRelation (g.O.TermOrder.above c.args.admitted.now.order) = rw (← c.admitted.view_is) c.one_relation.ensures in
+    let one : OneRelation (g.O.TermOrder.above c.args.admitted.now.order) = rw (← c.admitted.view_is)
+    c.one_relation.ensures in
     let refer = c.if-not-all_refer_to_staying.ensures.0 refl in
     let e : c.in_ok-are_allowed.field-0 ≡ true = search rules in
-    let tells : TellsAllowed (flag_of c.as_slice-stays.result.now) c.as_slice-links.result.now c.args.node c.args.fit.now.made true = subst (λ b. TellsAllowed (flag_of c.as_slice-stays.result.now) c.as_slice-links.result.now c.args.node c.args.fit.now.made b) e c.in_ok-are_allowed.ensures in
+    let tells : TellsAllowed (flag_of c.as_slice-stays.result.now) c.as_slice-links.result.now c.args.node
+    c.args.fit.now.made true = subst (λ b. TellsAllowed (flag_of c.as_slice-stays.result.now)
+    c.as_slice-links.result.now c.args.node c.args.fit.now.made b) e c.in_ok-are_allowed.ensures in
     let sig_is : c.admitted.inside.spec.sig ≡ c.args.admitted.now.spec.sig = rw (← c.admitted.view_is) refl in
-    let short = subst (λ s. IfOk c.if_short.result (λ o. MatchOption o (length (claim_text s (proves c.name_at.result.now c.in_ok-rest.rest.items)) ≤ 300000 → ⊥) (λ found. (found.items ≡ c.in_ok-rest.rest.items) × (length (claim_text s (proves c.name_at.result.now c.in_ok-rest.rest.items)) ≤ 300000)))) sig_is c.if_short.ensures in
-    if_ok_map c.if_short.result _ _ (λ o h kept. rest_told (g.O.TermOrder.above c.args.admitted.now.order) one c.args.admitted.now.spec fine c.args.report.now c.args.number c.args.block.now kept c.args.node c.requires.node c.args.fit.now (c.requires.fits kept) c.as_slice-steps.result.now c.as_slice-steps.ensures.value c.as_slice-links.result.now c.as_slice-links.ensures.value c.in_ok-stays.stays.items c.in_ok-stays.ensures c.as_slice-stays.result.now c.as_slice-stays.ensures.value refer c.name_at.result.now (c.name_at.ensures _ kept.there) c.in_ok-rest.rest.items c.in_ok-rest.ensures tells (λ found. found.items) o h) short
+    let short = subst (λ s. IfOk c.if_short.result
+    (λ o. MatchOption o (length (claim_text s (proves c.name_at.result.now c.in_ok-rest.rest.items)) ≤ 300000 → ⊥)
+    (λ found. (found.items ≡ c.in_ok-rest.rest.items) ×
+    (length (claim_text s (proves c.name_at.result.now c.in_ok-rest.rest.items)) ≤ 300000)))) sig_is
+    c.if_short.ensures in
+    if_ok_map c.if_short.result _ _ (λ o h kept. rest_told above one spec fine report number block kept c.args.node
+    c.requires.node c.args.fit.now (c.requires.fits kept) c.as_slice-steps.result.now
+    c.as_slice-steps.ensures.value c.as_slice-links.result.now c.as_slice-links.ensures.value
+    c.in_ok-stays.stays.items c.in_ok-stays.ensures c.as_slice-stays.result.now c.as_slice-stays.ensures.value
+    refer c.name_at.result.now (c.name_at.ensures _ kept.there) c.in_ok-rest.rest.items c.in_ok-rest.ensures tells
+    (λ found. found.items) o h) short

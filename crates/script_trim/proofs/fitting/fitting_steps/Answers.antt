@@ -9,12 +9,12 @@ use Rattle.script_trim.proofs.fitting.fitting_steps.Goals as goal
 
 pub new-spot-requires-clause-nodes : goal.new-spot-requires-clause-nodes
 new-spot-requires-clause-nodes g c =
-    first_nodes c.admitted.inside.spec.sig c.args.block_nodes.now c.args.before
+    first_nodes c.admitted.inside.spec.sig c.args.block_nodes.now c.args.at.before
     (rw (← c.admitted.view_is) at c.requires.nodes)
 
 pub all_fits-requires-clause-keys : goal.all_fits-requires-clause-keys
 all_fits-requires-clause-keys g c =
-    first_keys c.args.keys.now c.args.block_nodes.now c.new-spot.result.nodes.now c.args.before c.requires.keys
+    first_keys c.args.keys.now c.args.block_nodes.now c.new-spot.result.nodes.now c.args.at.before c.requires.keys
     c.new-spot.ensures.nodes
 
 pub returns : goal.returns
@@ -25,8 +25,8 @@ returns g c =
     let nodes = c.args.block_nodes.now in
     rw (← c.admitted.view_is)
     (if_ok_map c.all_fits.result (λ fits. AreFits above c.new-spot.result fits.items)
-    (λ fits. AreFitting above spec (Contains numbers) (clauses_of nodes) c.args.before c.args.node fits.items)
-    (λ fits h. fits_in_block above c.new-spot.result spec numbers nodes c.args.before c.args.node fits.items
+    (λ fits. AreFitting above spec (Contains numbers) (clauses_of nodes) c.args.at.before c.args.at.number fits.items)
+    (λ fits h. fits_in_block above c.new-spot.result spec numbers nodes c.args.at.before c.args.at.number fits.items
     c.new-spot.ensures.is c.new-spot.ensures.spec (c.new-spot.ensures.proved ∙ c.as_slice-proved.ensures.value)
     c.new-spot.ensures.nodes c.new-spot.ensures.number c.requires.before c.requires.node h)
     c.all_fits.ensures)
