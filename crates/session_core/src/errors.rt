@@ -1,0 +1,60 @@
+use clause_core::Why;
+use term_core::OutOfMemory;
+
+/// Why a command isn't carried out.
+#[derive(Clone, Copy, Debug, PartialEq, Eq)]
+pub enum SessionError {
+    /// A goal is under work already.
+    GoalUnderWork,
+    /// The specification has no goal of this name.
+    UnknownGoal,
+    /// The goal is proved already.
+    GoalTwice,
+    /// No goal is under work.
+    NoGoal,
+    /// The step isn't defined at its node.
+    Step(Why),
+    /// A child or a reference isn't allowed.
+    NotSmaller,
+    /// The goal's clause passes a limit of clauses, or the text of its claim its limit.
+    Limit,
+    OutOfMemory,
+}
+
+impl From<OutOfMemory> for SessionError {
+    ghost use Rattle.std.specs.Prelude.{◌≡◌};
+    ghost use Rattle.session_core.specs.declared.errors.SessionError.TheVariants.{OutOfMemory as no_memory};
+
+    ghost from_gives = { λ _ e. e ≡ no_memory };
+
+    fn from(_error: OutOfMemory) -> SessionError {
+        SessionError::OutOfMemory
+    }
+}
+
+/// Why nothing is taken back.
+#[derive(Clone, Copy, Debug, PartialEq, Eq)]
+pub enum UndoError {
+    /// No command is accepted that isn't taken back.
+    Nothing,
+}
+
+/// Why bytes aren't read as commands.
+#[derive(Clone, Copy, Debug, PartialEq, Eq)]
+pub enum CommandError {
+    /// The number of the first line that isn't a command or isn't ended, from 1, or of the line after
+    /// the last one that is allowed.
+    Line { line: u32 },
+    OutOfMemory,
+}
+
+impl From<OutOfMemory> for CommandError {
+    ghost use Rattle.std.specs.Prelude.{◌≡◌};
+    ghost use Rattle.session_core.specs.declared.errors.CommandError.TheVariants.{OutOfMemory as no_memory};
+
+    ghost from_gives = { λ _ e. e ≡ no_memory };
+
+    fn from(_error: OutOfMemory) -> CommandError {
+        CommandError::OutOfMemory
+    }
+}
