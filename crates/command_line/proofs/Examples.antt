@@ -9,91 +9,88 @@ use Rattle.clap.specs.Walk.{is_empty}
 use Rattle.clap.proofs.OnLiterals.{clap_on_literals}
 use Rattle.command_line.specs.declared.ranges.NumberRange.{NumberRange}
 use Rattle.command_line.specs.declared.ranges.TheConstants.{DEPTHS, TRIES, STEPS, PLAIN, NODES, GOALS}
-use Rattle.command_line.specs.Apps.{refute_app, prove_app, eval_app, check_app, replay_app, upgrade_app, load_app}
+use Rattle.command_line.specs.Apps.{refute_app, prove_app, eval_app, check_app, load_app}
 use Rattle.command_line.specs.Matches.{HasNumber, IsGiven}
-use Rattle.command_line.specs.Tasks.{commands, AreRefusedBy, refuting, proving, evaluating, checking, replaying, upgrading, Asks, AsksToLoad, AskNothing, AreBounds, AreProofBounds}
+use Rattle.command_line.specs.Tasks.{commands, AreRefusedBy, refuting, proving, evaluating, checking, replaying, upgrading, trimming, Asks, AsksToLoad, AskNothing, AreBounds, AreProofBounds}
 use Rattle.command_line.specs.Usual.{usual_search, usual_bounds}
-use Rattle.command_line.specs.Examples.{Asking, Refused, refute, prove, eval, check, replay, upgrade, load, given, given_proof, least_words, least_numbers, greatest_words, greatest_numbers}
+use Rattle.command_line.specs.Examples.{Asking, Refused, refute, prove, eval, check, replay, upgrade, load, trim, given, given_proof, least_words, least_numbers, greatest_words, greatest_numbers}
 use Rattle.command_line.proofs.OwnNames.{differs}
 use Rattle.command_line.proofs.ReadLemmas.{text_compared}
-use Rattle.command_line.proofs.Askings.{nothing_asked, refute_alone, prove_alone, eval_alone, check_alone, replay_alone, upgrade_alone, load_alone}
+use Rattle.command_line.proofs.Entries.{nothing_asked, unnamed}
+use Rattle.command_line.specs.Entries.{app_of_word}
+use Rattle.command_line.specs.declared.table.CommandWord.{CommandWord}
+use Rattle.command_line.specs.declared.table.CommandWord.TheVariants.{Check, Eval, Prove, Refute, Replay, Load, Upgrade, Trim}
 
 faulty : (ks : Kinds) → is_empty ks ≡ false → ks ≡ [] → ⊥
 faulty [] some none = cc
 faulty (k ∷ ks) some none = cc
 
-no_refute : (words : List Text) → is_empty (fault_of refute_app (codes "refute" ∷ words)) ≡ false → AskNothing (codes "refute" ∷ words)
-no_refute words fault = nothing_asked refute_app refute_app (codes "refute" ∷ words) refl refl refute_alone (faulty _ fault)
-
-no_prove : (words : List Text) → is_empty (fault_of prove_app (codes "prove" ∷ words)) ≡ false → AskNothing (codes "prove" ∷ words)
-no_prove words fault = nothing_asked prove_app prove_app (codes "prove" ∷ words) refl refl prove_alone (faulty _ fault)
-
-no_eval : (words : List Text) → is_empty (fault_of eval_app (codes "eval" ∷ words)) ≡ false → AskNothing (codes "eval" ∷ words)
-no_eval words fault = nothing_asked eval_app eval_app (codes "eval" ∷ words) refl refl eval_alone (faulty _ fault)
-
-no_check : (words : List Text) → is_empty (fault_of check_app (codes "check" ∷ words)) ≡ false → AskNothing (codes "check" ∷ words)
-no_check words fault = nothing_asked check_app check_app (codes "check" ∷ words) refl refl check_alone (faulty _ fault)
-
-no_replay : (words : List Text) → is_empty (fault_of replay_app (codes "replay" ∷ words)) ≡ false → AskNothing (codes "replay" ∷ words)
-no_replay words fault = nothing_asked replay_app replay_app (codes "replay" ∷ words) refl refl replay_alone (faulty _ fault)
-
-no_upgrade :
-    (words : List Text) → is_empty (fault_of upgrade_app (codes "upgrade" ∷ words)) ≡ false →
-    AskNothing (codes "upgrade" ∷ words)
-no_upgrade words fault =
-    nothing_asked upgrade_app upgrade_app (codes "upgrade" ∷ words) refl refl upgrade_alone (faulty _ fault)
-
-no_load : (words : List Text) → is_empty (fault_of load_app (codes "load" ∷ words)) ≡ false → AskNothing (codes "load" ∷ words)
-no_load words fault = nothing_asked load_app load_app (codes "load" ∷ words) refl refl load_alone (faulty _ fault)
-
--- the words begin with a word that names none of the commands
-abbrev AreNoName : Text → List App → Type 0
-AreNoName word apps = AllByRecursion (λ (app : App). not (bytes_eq word app.top.name) ≡ true) apps
-
-unnamed : (word : Text) (words : List Text) (apps : List App) → AreNoName word apps → AllByRecursion (AreRefusedBy (word ∷ words)) apps
-unnamed word words [] apart = tt
-unnamed word words (app ∷ apps) apart =
-    ((λ named _. differs word app.top.name apart.0 named), unnamed word words apps apart.1)
+-- words with a fault ask for nothing
+no_words_of :
+    (word : CommandWord) (words : List Text) →
+    is_empty (fault_of (app_of_word word) ((app_of_word word).top.name ∷ words)) ≡ false →
+    AskNothing ((app_of_word word).top.name ∷ words)
+no_words_of word words fault =
+    nothing_asked word ((app_of_word word).top.name ∷ words) refl (faulty _ fault)
 
 no_words : (apps : List App) → AllByRecursion (AreRefusedBy []) apps
 no_words [] = tt
 no_words (app ∷ apps) = ((λ named _. named), no_words apps)
 
 no_command : AskNothing (codes "help" ∷ codes "a" ∷ [])
-no_command = record { refused = unnamed (codes "help") (codes "a" ∷ []) commands (refl, (refl, (refl, (refl, (refl, (refl, (refl, tt))))))) }
+no_command =
+    let other = λ (name : Text) (apart : not (bytes_eq (codes "help") name) ≡ true).
+    differs (codes "help") name apart in
+    unnamed (codes "help" ∷ codes "a" ∷ []) (codes "help") refl (
+      other _ refl,
+      (
+        other _ refl,
+        (
+          other _ refl,
+          (
+            other _ refl,
+            (other _ refl, (other _ refl, (other _ refl, (other _ refl, tt)))),
+          ),
+        ),
+      ),
+    )
 
 pub refused : Refused
 unfolding clap_on_literals
 refused = record {
   no_words = record { refused = no_words commands };
   no_command = no_command;
-  no_file = no_refute _ refl;
-  two_files = no_refute _ refl;
-  help = no_refute _ refl;
-  too_deep = no_refute _ refl;
-  no_tries = no_refute _ refl;
-  too_many_tries = no_refute _ refl;
-  twice = no_refute _ refl;
-  no_number = no_refute _ refl;
-  below_zero = no_refute _ refl;
-  too_long = no_prove _ refl;
-  too_many_nodes = no_prove _ refl;
-  option_of_prove = no_refute _ refl;
-  another_option = no_eval _ refl;
-  no_steps = no_eval _ refl;
-  too_many_steps = no_eval _ refl;
-  no_term = no_eval _ refl;
-  flag_with_text = no_check _ refl;
-  no_report = no_replay _ refl;
-  no_goals = no_load _ refl;
-  too_many_goals = no_load _ refl;
-  no_number_of_goals = no_load _ refl;
-  two_numbers = no_load _ refl;
-  option_of_load = no_load _ refl;
-  nothing_to_upgrade = no_upgrade _ refl;
-  two_to_upgrade = no_upgrade _ refl;
-  option_of_upgrade = no_upgrade _ refl;
-  two_reports = no_replay _ refl;
+  no_file = no_words_of Refute _ refl;
+  two_files = no_words_of Refute _ refl;
+  help = no_words_of Refute _ refl;
+  too_deep = no_words_of Refute _ refl;
+  no_tries = no_words_of Refute _ refl;
+  too_many_tries = no_words_of Refute _ refl;
+  twice = no_words_of Refute _ refl;
+  no_number = no_words_of Refute _ refl;
+  below_zero = no_words_of Refute _ refl;
+  too_long = no_words_of Prove _ refl;
+  too_many_nodes = no_words_of Prove _ refl;
+  option_of_prove = no_words_of Refute _ refl;
+  another_option = no_words_of Eval _ refl;
+  no_steps = no_words_of Eval _ refl;
+  too_many_steps = no_words_of Eval _ refl;
+  no_term = no_words_of Eval _ refl;
+  flag_with_text = no_words_of Check _ refl;
+  no_report = no_words_of Replay _ refl;
+  no_goals = no_words_of Load _ refl;
+  too_many_goals = no_words_of Load _ refl;
+  no_number_of_goals = no_words_of Load _ refl;
+  two_numbers = no_words_of Load _ refl;
+  option_of_load = no_words_of Load _ refl;
+  nothing_to_upgrade = no_words_of Upgrade _ refl;
+  two_to_upgrade = no_words_of Upgrade _ refl;
+  option_of_upgrade = no_words_of Upgrade _ refl;
+  two_reports = no_words_of Replay _ refl;
+  nothing_to_trim = no_words_of Trim _ refl;
+  trim_by_no_report = no_words_of Trim _ refl;
+  two_to_trim = no_words_of Trim _ refl;
+  option_of_trim = no_words_of Trim _ refl;
 }
 
 -- a text of digits has the number that it writes
@@ -227,6 +224,10 @@ upgraded : Asks (upgrade (codes "a" ∷ [])) (codes "a") upgrading
 unfolding clap_on_literals
 upgraded = record { named = refl; taken = refl; file_is = refl; task_is = tt }
 
+trimmed : Asks (trim (codes "a" ∷ codes "b" ∷ [])) (codes "a") (trimming (codes "b"))
+unfolding clap_on_literals
+trimmed = record { named = refl; taken = refl; file_is = refl; task_is = refl }
+
 loaded : AsksToLoad (load (codes "+0200" ∷ [])) 200
 unfolding clap_on_literals
 loaded = record {
@@ -262,6 +263,7 @@ asking = record {
   unprinted = unprinted;
   replayed = replayed;
   upgraded = upgraded;
+  trimmed = trimmed;
   loaded = loaded;
   one_goal = one_goal;
 }

@@ -3,6 +3,7 @@ mod OwnNames
 mod FlatApps
 mod ReadLemmas
 mod Refusals
+mod Entries
 mod Askings
 pub mod OneRequest
 mod Examples

@@ -56,3 +56,8 @@ upgrade_app = with_rules (new_app (codes "upgrade")) (word_rule (codes "FILE") �
 -- `load N`
 abbrev pub load_app : App
 load_app = with_rules (new_app (codes "load")) (numeral_rule (codes "N") goals_range ∷ [])
+
+-- `trim FILE REPORT`
+abbrev pub trim_app : App
+trim_app = with_rules (new_app (codes "trim"))
+    (word_rule (codes "FILE") ∷ word_rule (codes "REPORT") ∷ [])

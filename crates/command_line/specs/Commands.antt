@@ -1,10 +1,10 @@
 -- What words ask for, as a value of the code.
 use Rattle.std.specs.Prelude.{ℕ, List, Option, Some, None}
 use Rattle.command_line.specs.declared.commands.Command.{Command}
-use Rattle.command_line.specs.declared.commands.Command.TheVariants.{Refute, Prove, Eval, Check, Replay, Upgrade}
+use Rattle.command_line.specs.declared.commands.Command.TheVariants.{Refute, Prove, Eval, Check, Replay, Upgrade, Trim}
 use Rattle.command_line.specs.declared.commands.Request.{Request}
 use Rattle.command_line.specs.declared.commands.Request.TheVariants.{OnFile, Load}
-use Rattle.command_line.specs.Tasks.{Task, refuting, proving, evaluating, checking, replaying, upgrading, Asks, AsksToLoad, AskNothing}
+use Rattle.command_line.specs.Tasks.{Task, refuting, proving, evaluating, checking, replaying, upgrading, trimming, Asks, AsksToLoad, AskNothing}
 
 abbrev pub file_of : Command → List ℕ
 file_of (Refute file bounds) = file.now
@@ -13,6 +13,7 @@ file_of (Eval file term steps) = file.now
 file_of (Check file print) = file.now
 file_of (Replay file report) = file.now
 file_of (Upgrade file) = file.now
+file_of (Trim file report) = file.now
 
 abbrev pub task_of : Command → Task
 task_of (Refute file bounds) = refuting bounds
@@ -21,6 +22,7 @@ task_of (Eval file term steps) = evaluating term.now steps
 task_of (Check file print) = checking print
 task_of (Replay file report) = replaying report.now
 task_of (Upgrade file) = upgrading
+task_of (Trim file report) = trimming report.now
 
 -- the words ask for this, or for nothing
 abbrev pub IsAsked : List (List ℕ) → Option Request → Type 0

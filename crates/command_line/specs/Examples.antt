@@ -3,7 +3,7 @@ use Rattle.std.specs.Prelude.{List, [], ◌∷◌, true, false, codes}
 use Rattle.clap.specs.Words.{Text}
 use Rattle.command_line.specs.declared.bounds.SearchBounds.{SearchBounds}
 use Rattle.command_line.specs.declared.bounds.ProofBounds.{ProofBounds}
-use Rattle.command_line.specs.Tasks.{refuting, proving, evaluating, checking, replaying, upgrading, Asks, AsksToLoad, AskNothing}
+use Rattle.command_line.specs.Tasks.{refuting, proving, evaluating, checking, replaying, upgrading, trimming, Asks, AsksToLoad, AskNothing}
 use Rattle.command_line.specs.Usual.{usual_search, usual_bounds}
 
 abbrev pub refute : List Text → List Text
@@ -23,6 +23,9 @@ replay words = codes "replay" ∷ words
 
 abbrev pub upgrade : List Text → List Text
 upgrade words = codes "upgrade" ∷ words
+
+abbrev pub trim : List Text → List Text
+trim words = codes "trim" ∷ words
 
 abbrev pub load : List Text → List Text
 load words = codes "load" ∷ words
@@ -57,10 +60,10 @@ greatest_numbers = record {
 pub record Asking : Type 0 where
   -- the usual numbers where no word gives one
   pub plain : Asks (refute (codes "a" ∷ [])) (codes "a") (refuting usual_search)
-  -- numbers before and behind the file, with a plus, leading zeros and `=`
+  -- numbers before and after the file, with a plus, leading zeros and `=`
   pub numbers : Asks (refute (codes "--depth" ∷ codes "+0" ∷ codes "--tries=007" ∷ codes "a"
       ∷ codes "--steps" ∷ codes "2000" ∷ [])) (codes "a") (refuting given)
-  -- behind `--` no word is an option
+  -- after `--` no word is an option
   pub behind_dashes : Asks (refute (codes "--" ∷ codes "--help" ∷ [])) (codes "--help")
       (refuting usual_search)
   pub proved : Asks (prove (codes "a" ∷ [])) (codes "a") (proving usual_bounds)
@@ -77,9 +80,11 @@ pub record Asking : Type 0 where
   pub empty : Asks (eval (codes "" ∷ codes "help" ∷ [])) (codes "") (evaluating (codes "help") 1000)
   pub printed : Asks (check (codes "--print" ∷ codes "a" ∷ [])) (codes "a") (checking true)
   pub unprinted : Asks (check (codes "a" ∷ [])) (codes "a") (checking false)
-  -- the report stands behind the file
+  -- the report comes after the file
   pub replayed : Asks (replay (codes "a" ∷ codes "b" ∷ [])) (codes "a") (replaying (codes "b"))
   pub upgraded : Asks (upgrade (codes "a" ∷ [])) (codes "a") upgrading
+  -- so does the one that is made shorter
+  pub trimmed : Asks (trim (codes "a" ∷ codes "b" ∷ [])) (codes "a") (trimming (codes "b"))
   -- a plus and leading zeros, up to the greatest number
   pub loaded : AsksToLoad (load (codes "+0200" ∷ [])) 200
   pub one_goal : AsksToLoad (load (codes "1" ∷ [])) 1
@@ -116,6 +121,10 @@ pub record Refused : Type 0 where
   pub two_to_upgrade : AskNothing (upgrade (codes "a" ∷ codes "b" ∷ []))
   pub option_of_upgrade : AskNothing (upgrade (codes "a" ∷ codes "--print" ∷ []))
   pub two_reports : AskNothing (replay (codes "a" ∷ codes "b" ∷ codes "c" ∷ []))
+  pub nothing_to_trim : AskNothing (trim [])
+  pub trim_by_no_report : AskNothing (trim (codes "a" ∷ []))
+  pub two_to_trim : AskNothing (trim (codes "a" ∷ codes "b" ∷ codes "c" ∷ []))
+  pub option_of_trim : AskNothing (trim (codes "a" ∷ codes "b" ∷ codes "--print" ∷ []))
 
 pub record WorkedExamples : Type 0 where
   pub asking : Asking

@@ -5,9 +5,11 @@ pub mod Apps
 pub mod Usual
 pub mod Matches
 pub mod Tasks
+pub mod Usage
 pub mod Commands
 pub mod Laws
 pub mod Examples
 -- What only this crate's own contracts speak of.
 pub mod FlatApps
+pub mod Entries
 pub mod Readings

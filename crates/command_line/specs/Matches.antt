@@ -12,7 +12,7 @@ Takes app words = fault_of app words ≡ []
 abbrev pub HasWord : List Row → Text → Text → Type 0
 HasWord rows name word = first_of name rows ≡ Some word
 
--- the text is digits, behind a `+` at most, that write this number
+-- the text is digits, after a `+` at most, that write this number
 pub record Writes (text : Text) (n : ℕ) : Type 0 where
   pub digits : IsNumeral 10 (without_leading_plus text)
   pub value : digits_value 10 (without_leading_plus text) ≡ n

@@ -3,7 +3,7 @@ use Rattle.std.specs.Prelude.{◌≡◌, ◌≤◌, ℕ, List, Some, codes, is_s
 use Rattle.std.specs.Str.Parse.{IsNumeral, digits_value, without_leading_plus}
 use Rattle.clap.specs.Words.{App, Row, Text, first_of, matches_of, one_of}
 use Rattle.command_line.specs.declared.ranges.NumberRange.{NumberRange}
-use Rattle.command_line.specs.Ranges.{depth_range, tries_range, steps_range}
+use Rattle.command_line.specs.Ranges.{depth_range, tries_range, steps_range, plain_range, nodes_range}
 use Rattle.command_line.specs.Rules.{number_rule, numeral_rule, word_rule}
 use Rattle.command_line.specs.Matches.{Takes}
 
@@ -25,10 +25,14 @@ pub record HasSomeBounds (rows : List Row) : Type 0 where
   pub tries : HasSomeNumber rows (codes "tries") tries_range
   pub steps : HasSomeNumber rows (codes "steps") steps_range
 
--- the matches are those of the command in words without a fault, and all its arguments are there
-pub record AreMatches (app : App) (words : List Text) (rows : List Row) : Type 0 where
-  pub taken : Takes app words
-  pub are : rows ≡ matches_of app words
+-- the matches have the five numbers of a search for counterexamples and then for proofs
+pub record HasSomeProofBounds (rows : List Row) : Type 0 where
+  pub search : HasSomeBounds rows
+  pub plain : HasSomeNumber rows (codes "plain") plain_range
+  pub nodes : HasSomeNumber rows (codes "nodes") nodes_range
+
+-- all arguments of the command are there
+pub record HasArguments (app : App) (rows : List Row) : Type 0 where
   pub has_words : (k : ℕ) (name : Text) → slice_get app.top.rules k ≡ Some (word_rule name)
       → HasSomeWord rows name
   pub has_numbers : (k : ℕ) (name usual : Text) (range : NumberRange)
@@ -37,3 +41,9 @@ pub record AreMatches (app : App) (words : List Text) (rows : List Row) : Type 0
   pub has_numerals : (k : ℕ) (name : Text) (range : NumberRange)
       → slice_get app.top.rules k ≡ Some (numeral_rule name range)
       → HasSomeNumber rows name range
+
+-- the matches are those of the command in words without a fault, and all its arguments are there
+pub record AreMatches (app : App) (words : List Text) (rows : List Row) : Type 0 where
+  pub taken : Takes app words
+  pub are : rows ≡ matches_of app words
+  pub arguments : HasArguments app rows

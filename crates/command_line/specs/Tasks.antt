@@ -5,7 +5,7 @@ use Rattle.clap.specs.Words.{App, Row, Text, fault_of, matches_of}
 use Rattle.command_line.specs.declared.bounds.SearchBounds.{SearchBounds}
 use Rattle.command_line.specs.declared.bounds.ProofBounds.{ProofBounds}
 use Rattle.command_line.specs.Ranges.{depth_range, tries_range, steps_range, plain_range, nodes_range, goals_range}
-use Rattle.command_line.specs.Apps.{refute_app, prove_app, eval_app, check_app, replay_app, upgrade_app, load_app}
+use Rattle.command_line.specs.Apps.{refute_app, prove_app, eval_app, check_app, replay_app, upgrade_app, load_app, trim_app}
 use Rattle.command_line.specs.Matches.{HasNumber, HasWord, IsGiven, Takes}
 
 -- what is done with the specification of a file
@@ -16,6 +16,7 @@ pub data Task : Type 0 where
   checking : (print : Bool) → Task
   replaying : (report : List ℕ) → Task
   upgrading : Task
+  trimming : (report : List ℕ) → Task
 
 -- the simple command that reads the words of a task
 abbrev pub app_for : Task → App
@@ -25,6 +26,7 @@ app_for (evaluating term steps) = eval_app
 app_for (checking print) = check_app
 app_for (replaying report) = replay_app
 app_for upgrading = upgrade_app
+app_for (trimming report) = trim_app
 
 -- how far the search for counterexamples goes
 pub record AreBounds (rows : List Row) (bounds : SearchBounds) : Type 0 where
@@ -47,6 +49,7 @@ Say rows (evaluating term steps) =
 Say rows (checking print) = IsTrue print ↔ IsGiven rows (codes "print")
 Say rows (replaying report) = HasWord rows (codes "REPORT") report
 Say rows upgrading = Unit {0}
+Say rows (trimming report) = HasWord rows (codes "REPORT") report
 
 -- the first word is this one
 abbrev pub IsNamed : Text → List Text → Type 0
@@ -60,7 +63,7 @@ pub record Asks (words : List (List ℕ)) (file : List ℕ) (task : Task) : Type
   pub file_is : HasWord (matches_of (app_for task) words) (codes "FILE") file
   pub task_is : Say (matches_of (app_for task) words) task
 
--- the words ask for so many goals, generated, proved and replayed
+-- the words ask for this many goals, generated, proved and replayed
 pub record AsksToLoad (words : List (List ℕ)) (goals : ℕ) : Type 0 where
   pub named : IsNamed load_app.top.name words
   pub taken : Takes load_app words
@@ -68,7 +71,8 @@ pub record AsksToLoad (words : List (List ℕ)) (goals : ℕ) : Type 0 where
 
 -- the commands, each as `clap` sees it
 abbrev pub commands : List App
-commands = check_app ∷ eval_app ∷ prove_app ∷ refute_app ∷ replay_app ∷ upgrade_app ∷ load_app ∷ []
+commands =
+    check_app ∷ eval_app ∷ prove_app ∷ refute_app ∷ replay_app ∷ load_app ∷ upgrade_app ∷ trim_app ∷ []
 
 -- where the first word names the command, `clap` finds a fault in the words, help among them
 abbrev pub AreRefusedBy : List Text → App → Type 0

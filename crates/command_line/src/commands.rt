@@ -1,14 +1,16 @@
-ghost use Rattle.std.specs.Prelude.{◌≡◌, IfOk, codes, map, string_bytes};
+ghost use Rattle.std.specs.Prelude.{◌≡◌, IfOk, map, string_bytes};
 ghost use Rattle.clap.specs.Words.{found_of, rows_of};
-ghost use Rattle.command_line.specs.Tasks.{AreBounds, IsNamed};
-ghost use Rattle.command_line.specs.Readings.{HasSomeBounds};
+ghost use Rattle.command_line.specs.Tasks.{AreBounds, AreProofBounds};
+ghost use Rattle.command_line.specs.Readings.{HasArguments, HasSomeBounds, HasSomeProofBounds};
 ghost use Rattle.command_line.specs.Commands.{IsAsked, file_of};
+ghost use Rattle.command_line.specs.Entries.{IsRequestOf, app_of_word};
 
-use crate::apps::{check_app, eval_app, load_app, prove_app, refute_app, replay_app, upgrade_app};
+use crate::apps::app;
 use crate::arguments::{is_given, number_of, word_of};
 use crate::bounds::{ProofBounds, SearchBounds};
 use crate::matching::matches_of;
 use crate::ranges::{DEPTHS, GOALS, NODES, PLAIN, STEPS, TRIES};
+use crate::table::{CommandWord, command_named};
 use clap::ArgMatches;
 use std::alloc::Global;
 use term_core::{OutOfMemory, front};
@@ -18,7 +20,7 @@ use term_core::{OutOfMemory, front};
 pub enum Request<'a> {
     /// A command on a file.
     OnFile(Command<'a>),
-    /// Generates so many goals, proves them and replays the report.
+    /// Generates this many goals, proves them and replays the report.
     Load(u32),
 }
 
@@ -35,7 +37,7 @@ pub enum Command<'a> {
         file: &'a str,
         bounds: ProofBounds,
     },
-    /// Evaluates a term within so many rule uses.
+    /// Evaluates a term within this many rule uses.
     Eval {
         file: &'a str,
         term: &'a str,
@@ -55,6 +57,11 @@ pub enum Command<'a> {
     Upgrade {
         file: &'a str,
     },
+    /// Makes an accepted report on a file shorter.
+    Trim {
+        file: &'a str,
+        report: &'a str,
+    },
 }
 
 impl<'a> Command<'a> {
@@ -69,6 +76,7 @@ impl<'a> Command<'a> {
             Command::Check { file, .. } => file,
             Command::Replay { file, .. } => file,
             Command::Upgrade { file } => file,
+            Command::Trim { file, .. } => file,
         }
     }
 }
@@ -81,69 +89,68 @@ pub fn request_of<'a>(
 ) -> Result<Option<Request<'a>>, OutOfMemory>
     ensures { IfOk result (IsAsked (map string_bytes words.now)) }
 {
-    let Some((name, _)) = front(words) else {
+    let Some((word, _)) = front(words) else {
         return Ok(None);
     };
-    if name.as_str() == "refute" {
-        return refute_command(alloc, words);
-    }
-    if name.as_str() == "prove" {
-        return prove_command(alloc, words);
-    }
-    if name.as_str() == "eval" {
-        return eval_command(alloc, words);
-    }
-    if name.as_str() == "check" {
-        return check_command(alloc, words);
-    }
-    if name.as_str() == "replay" {
-        return replay_command(alloc, words);
-    }
-    if name.as_str() == "upgrade" {
-        return upgrade_command(alloc, words);
-    }
-    if name.as_str() == "load" {
-        return load_request(alloc, words);
-    }
-    Ok(None)
-}
-
-/// The command of the words of `refute`.
-fn refute_command<'a>(
-    alloc: Global,
-    words: &'a [String],
-) -> Result<Option<Request<'a>>, OutOfMemory>
-    requires { IsNamed (codes "refute") (map string_bytes words.now) }
-    ensures { IfOk result (IsAsked (map string_bytes words.now)) }
-{
-    let app = refute_app(alloc)?;
+    let name = word.as_str();
+    let Some((command, takes)) = command_named(name) else {
+        return Ok(None);
+    };
+    let app = app(alloc, name, takes)?;
     let Some(matches) = matches_of(app, words)? else {
         return Ok(None);
     };
-    Ok(Some(Request::OnFile(Command::Refute {
-        file: word_of(&matches, "FILE"),
-        bounds: search_bounds_of(&matches),
-    })))
+    Ok(Some(asked(command, &matches)))
 }
 
-/// The command of the words of `prove`.
-fn prove_command<'a>(alloc: Global, words: &'a [String]) -> Result<Option<Request<'a>>, OutOfMemory>
-    requires { IsNamed (codes "prove") (map string_bytes words.now) }
-    ensures { IfOk result (IsAsked (map string_bytes words.now)) }
+/// What the matches of a command ask for.
+fn asked<'a>(command: CommandWord, matches: &ArgMatches<'a>) -> Request<'a>
+    requires { HasArguments (app_of_word command) (rows_of (found_of matches.now)) }
+    ensures { IsRequestOf command (rows_of (found_of matches.now)) result }
 {
-    let app = prove_app(alloc)?;
-    let Some(matches) = matches_of(app, words)? else {
-        return Ok(None);
-    };
-    let bounds = ProofBounds {
-        search: search_bounds_of(&matches),
-        plain: number_of(&matches, "plain", PLAIN),
-        nodes: number_of(&matches, "nodes", NODES),
-    };
-    Ok(Some(Request::OnFile(Command::Prove {
-        file: word_of(&matches, "FILE"),
-        bounds,
-    })))
+    match command {
+        CommandWord::Check => Request::OnFile(Command::Check {
+            file: word_of(matches, "FILE"),
+            print: is_given(matches, "print"),
+        }),
+        CommandWord::Eval => Request::OnFile(Command::Eval {
+            file: word_of(matches, "FILE"),
+            term: word_of(matches, "TERM"),
+            steps: number_of(matches, "steps", STEPS),
+        }),
+        CommandWord::Prove => Request::OnFile(Command::Prove {
+            file: word_of(matches, "FILE"),
+            bounds: proof_bounds_of(matches),
+        }),
+        CommandWord::Refute => Request::OnFile(Command::Refute {
+            file: word_of(matches, "FILE"),
+            bounds: search_bounds_of(matches),
+        }),
+        CommandWord::Replay => Request::OnFile(Command::Replay {
+            file: word_of(matches, "FILE"),
+            report: word_of(matches, "REPORT"),
+        }),
+        CommandWord::Load => Request::Load(number_of(matches, "N", GOALS)),
+        CommandWord::Upgrade => Request::OnFile(Command::Upgrade {
+            file: word_of(matches, "FILE"),
+        }),
+        CommandWord::Trim => Request::OnFile(Command::Trim {
+            file: word_of(matches, "FILE"),
+            report: word_of(matches, "REPORT"),
+        }),
+    }
+}
+
+/// How far the search for counterexamples and then for proofs goes.
+fn proof_bounds_of(matches: &ArgMatches<'_>) -> ProofBounds
+    requires { HasSomeProofBounds (rows_of (found_of matches.now)) }
+    ensures { AreProofBounds (rows_of (found_of matches.now)) result }
+{
+    ProofBounds {
+        search: search_bounds_of(matches),
+        plain: number_of(matches, "plain", PLAIN),
+        nodes: number_of(matches, "nodes", NODES),
+    }
 }
 
 /// How far the search for counterexamples goes.
@@ -156,82 +163,4 @@ fn search_bounds_of(matches: &ArgMatches<'_>) -> SearchBounds
         tries: number_of(matches, "tries", TRIES),
         steps: number_of(matches, "steps", STEPS),
     }
-}
-
-/// The command of the words of `eval`.
-fn eval_command<'a>(alloc: Global, words: &'a [String]) -> Result<Option<Request<'a>>, OutOfMemory>
-    requires { IsNamed (codes "eval") (map string_bytes words.now) }
-    ensures { IfOk result (IsAsked (map string_bytes words.now)) }
-{
-    let app = eval_app(alloc)?;
-    let Some(matches) = matches_of(app, words)? else {
-        return Ok(None);
-    };
-    Ok(Some(Request::OnFile(Command::Eval {
-        file: word_of(&matches, "FILE"),
-        term: word_of(&matches, "TERM"),
-        steps: number_of(&matches, "steps", STEPS),
-    })))
-}
-
-/// The command of the words of `check`.
-fn check_command<'a>(alloc: Global, words: &'a [String]) -> Result<Option<Request<'a>>, OutOfMemory>
-    requires { IsNamed (codes "check") (map string_bytes words.now) }
-    ensures { IfOk result (IsAsked (map string_bytes words.now)) }
-{
-    let app = check_app(alloc)?;
-    let Some(matches) = matches_of(app, words)? else {
-        return Ok(None);
-    };
-    Ok(Some(Request::OnFile(Command::Check {
-        file: word_of(&matches, "FILE"),
-        print: is_given(&matches, "print"),
-    })))
-}
-
-/// The command of the words of `replay`.
-fn replay_command<'a>(
-    alloc: Global,
-    words: &'a [String],
-) -> Result<Option<Request<'a>>, OutOfMemory>
-    requires { IsNamed (codes "replay") (map string_bytes words.now) }
-    ensures { IfOk result (IsAsked (map string_bytes words.now)) }
-{
-    let app = replay_app(alloc)?;
-    let Some(matches) = matches_of(app, words)? else {
-        return Ok(None);
-    };
-    Ok(Some(Request::OnFile(Command::Replay {
-        file: word_of(&matches, "FILE"),
-        report: word_of(&matches, "REPORT"),
-    })))
-}
-
-/// The command of the words of `upgrade`.
-fn upgrade_command<'a>(
-    alloc: Global,
-    words: &'a [String],
-) -> Result<Option<Request<'a>>, OutOfMemory>
-    requires { IsNamed (codes "upgrade") (map string_bytes words.now) }
-    ensures { IfOk result (IsAsked (map string_bytes words.now)) }
-{
-    let app = upgrade_app(alloc)?;
-    let Some(matches) = matches_of(app, words)? else {
-        return Ok(None);
-    };
-    Ok(Some(Request::OnFile(Command::Upgrade {
-        file: word_of(&matches, "FILE"),
-    })))
-}
-
-/// The request of the words of `load`.
-fn load_request<'a>(alloc: Global, words: &'a [String]) -> Result<Option<Request<'a>>, OutOfMemory>
-    requires { IsNamed (codes "load") (map string_bytes words.now) }
-    ensures { IfOk result (IsAsked (map string_bytes words.now)) }
-{
-    let app = load_app(alloc)?;
-    let Some(matches) = matches_of(app, words)? else {
-        return Ok(None);
-    };
-    Ok(Some(Request::Load(number_of(&matches, "N", GOALS))))
 }

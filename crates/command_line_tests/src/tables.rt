@@ -309,6 +309,39 @@ const UPGRADE: [(&str, &str); 26] = [
     ("upgrades a", "nothing"),
 ];
 
+const TRIM: [(&str, &str); 30] = [
+    ("trim a b", "trim [a] [b]"),
+    ("trim b a", "trim [b] [a]"),
+    ("trim a a", "trim [a] [a]"),
+    ("trim - -", "trim [-] [-]"),
+    ("trim '' ''", "trim [] []"),
+    ("trim help help", "trim [help] [help]"),
+    ("trim a b --", "trim [a] [b]"),
+    ("trim a -- b", "trim [a] [b]"),
+    ("trim -- a b", "trim [a] [b]"),
+    ("trim -- -a --help", "trim [-a] [--help]"),
+    ("trim -- -- --", "trim [--] [--]"),
+    ("trim", "nothing"),
+    ("trim a", "nothing"),
+    ("trim a --", "nothing"),
+    ("trim -- a", "nothing"),
+    ("trim a b c", "nothing"),
+    ("trim a b ''", "nothing"),
+    ("trim a b -- c", "nothing"),
+    ("trim a -b", "nothing"),
+    ("trim a b --print", "nothing"),
+    ("trim a b --steps 5", "nothing"),
+    ("trim a b --nodes=0", "nothing"),
+    ("trim a b --report=b", "nothing"),
+    ("trim a b --help", "nothing"),
+    ("trim --help", "nothing"),
+    ("trim a -h", "nothing"),
+    ("trim a b --version", "nothing"),
+    ("trim a b -V", "nothing"),
+    ("Trim a b", "nothing"),
+    ("trims a b", "nothing"),
+];
+
 /// First words that are no command of the program, and commands without their words.
 const NO_COMMAND: [(&str, &str); 26] = [
     ("''", "nothing"),
@@ -384,6 +417,7 @@ fn words_ask_for_what_the_usage_says(rt: HostRuntime) -> Result<(), Fail> {
         &CHECK,
         &REPLAY,
         &UPGRADE,
+        &TRIM,
         &LOAD,
         &NO_COMMAND,
     ] {

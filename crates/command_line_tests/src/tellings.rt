@@ -38,6 +38,9 @@ pub fn asked(alloc: Global, line: &str) -> Result<String, Fail> {
         Some(Request::OnFile(Command::Upgrade { file })) => {
             format!(in alloc; "upgrade [{file}]")?
         }
+        Some(Request::OnFile(Command::Trim { file, report })) => {
+            format!(in alloc; "trim [{file}] [{report}]")?
+        }
         Some(Request::Load(goals)) => format!(in alloc; "load {goals}")?,
         None => "nothing".to_string(alloc)?,
     };

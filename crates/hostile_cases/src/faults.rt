@@ -70,7 +70,7 @@ fn pieces_before_a_failing_write_are_written(rt: HostRuntime) -> Result<(), Fail
         (
             "check",
             BAD,
-            &["usage: spike check|eval|prove|refute|replay|load|upgrade\n"],
+            &["usage: spike check|eval|prove|refute|replay|load|upgrade|trim\n"],
             Status::Usage,
         ),
         ("load 1", "", &[load], Status::Done),

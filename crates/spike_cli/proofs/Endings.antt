@@ -12,11 +12,13 @@ use Rattle.spike_cli.specs.declared.statuses.Status.TheVariants as status
 use Rattle.spike_cli.specs.declared.stops.Stop.{Stop}
 use Rattle.spike_cli.specs.declared.stops.Stop.TheVariants.{ReadFault, WriteFault, OutOfMemory}
 use Rattle.clause_core.specs.declared.reports.Claim.{Claim}
+use Rattle.clause_core.specs.declared.reports.Report.{Report}
 use Rattle.spike_cli.specs.Claims.{IsStatusOfClaims}
-use Rattle.command_line.specs.Tasks.{Task, checking, refuting, proving, evaluating, replaying, upgrading, Asks, AsksToLoad}
+use Rattle.command_line.specs.Tasks.{Task, checking, refuting, proving, evaluating, replaying, upgrading, trimming, Asks, AsksToLoad}
 use Rattle.spike_cli.specs.Evaluations.{IsEvaluation, valued, spent, refused}
 use Rattle.spike_cli.specs.Reads.{AreTextOf}
-use Rattle.spike_cli.specs.Replays.{IsFileReplay, IsReplay, accepted as accepted_report, no_report, refused as refused_report, replayed, too_long_report}
+use Rattle.spike_cli.specs.Replays.{IsFileReply, IsReply, IsYesLine, accepted as accepted_report, no_report, refused as refused_report, replied, too_long_report}
+use Rattle.spike_cli.specs.Trims.{IsTrimmedText}
 use Rattle.spike_cli.specs.Parts.{AppendsPartOf}
 use Rattle.accepted_spec.specs.Meanings.{IsAcceptedAs}
 use Rattle.accepted_spec.specs.Refusals.{IsRefusalOf}
@@ -72,22 +74,26 @@ no_claims claims status.Refuted n h = n
 no_claims claims status.Open n h = n
 no_claims claims status.Refused n h = n
 
-no_replay : (spec : Spec) (bytes text : List ℕ) (s : Status) → IsNoEnd s → IsReplay spec bytes text s → ⊥
-no_replay spec bytes text s n (accepted_report report is ok true) = n
-no_replay spec bytes text s n (no_report line fault) = n
-no_replay spec bytes text s n (refused_report report line why is first) = n
+module _ (IsYes : Spec → Report → List ℕ → Type 0) (spec : Spec) where
+  no_reply : (bytes text : List ℕ) (s : Status) → IsNoEnd s → IsReply IsYes spec bytes text s → ⊥
+  no_reply bytes text s n (accepted_report report is ok true said) = n
+  no_reply bytes text s n (no_report line fault) = n
+  no_reply bytes text s n (refused_report report line why is first) = n
 
-no_file_replay : (spec : Spec) (held : Option (List ℕ)) (text : List ℕ) (s : Status) → IsNoEnd s → IsFileReplay spec held text s → ⊥
-no_file_replay spec held text s n (replayed bytes read is) = no_replay spec bytes text s n is
-no_file_replay spec held text s n (too_long_report long) = n
+  no_file_reply :
+      (held : Option (List ℕ)) (text : List ℕ) (s : Status) → IsNoEnd s →
+      IsFileReply IsYes spec held text s → ⊥
+  no_file_reply held text s n (replied bytes read is) = no_reply bytes text s n is
+  no_file_reply held text s n (too_long_report long) = n
 
 no_end : (held : List ℕ → Option (List ℕ)) (task : Task) (raw : RawSpec) (spec : Spec) (text : List ℕ) (s : Status) → IsNoEnd s → IsEnd held task raw spec text s → ⊥
 no_end held (checking print) raw spec text s n is = subst (λ (u : Status). IsNoEnd u) is.1 n
 no_end held (refuting search) raw spec text s n is = no_claims is.claims s n is.answers
 no_end held (proving bounds) raw spec text s n is = no_claims is.claims s n is.answers
 no_end held (evaluating term steps) raw spec text s n is = no_evaluation spec term steps text s n is
-no_end held (replaying report) raw spec text s n is = no_file_replay spec (held report) text s n is
+no_end held (replaying report) raw spec text s n is = no_file_reply IsYesLine spec (held report) text s n is
 no_end held upgrading raw spec text s n is = subst (λ (u : Status). IsNoEnd u) is.1 n
+no_end held (trimming report) raw spec text s n is = no_file_reply IsTrimmedText spec (held report) text s n is
 
 module _ (held : List ℕ → Option (List ℕ)) (task : Task) (bytes : List ℕ) (reads reads' : ℕ) (old new : Option (List ℕ)) (writes writes' : ℕ) where
   -- the line of a refusal

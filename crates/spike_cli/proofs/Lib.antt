@@ -12,6 +12,8 @@ pub mod OneText
 pub mod OneEnding
 pub mod OneReplay
 pub mod FinishedReports
+pub mod FewClaims
+pub mod TrimmedReports
 mod ReplayRuns
 pub mod RunsTwice
 mod UpgradedRuns

@@ -10,7 +10,11 @@ use Rattle.io_core.specs.declared.faults.WriteError.{WriteError}
 use Rattle.io_core.specs.declared.faults.WriteError.TheVariants as write
 use Rattle.spec_core.specs.declared.records.Spec.{Spec}
 use Rattle.spec_grammar.specs.Limits.{file_limit}
-use Rattle.command_line.specs.Tasks.{Task, replaying, Asks}
+use Rattle.clause_core.specs.declared.reports.Report.{Report}
+use Rattle.spec_grammar.specs.declared.raw.RawSpec.{RawSpec}
+use Rattle.command_line.specs.Commands.{task_of}
+use Rattle.command_line.specs.Tasks.{Task, Asks}
+use Rattle.command_line.specs.declared.commands.Command.{Command}
 use Rattle.spike_cli.specs.Reads.{most_report_bytes, AreBytesOf, AreTextOf, IsLonger}
 use Rattle.accepted_spec.specs.Meanings.{IsAccepted}
 use Rattle.spike_cli.specs.declared.statuses.Status.{Status}
@@ -18,9 +22,9 @@ use Rattle.spike_cli.specs.declared.statuses.Status.TheVariants.{Refused}
 use Rattle.spike_cli.specs.declared.stops.Stop.{Stop}
 use Rattle.spike_cli.specs.declared.stops.Stop.TheVariants.{ReadFault, WriteFault, OutOfMemory}
 use Rattle.spike_cli.specs.Parts.{AppendsPartOf}
-use Rattle.spike_cli.specs.Replays.{IsFileReplay, IsFileReplayText, IsReplay, IsReplayText, replayed, too_long_report, too_long_report_line}
-use Rattle.spike_cli.specs.Runs.{AreAsked, no_file, one_file, file_and_report, AsksFiles}
-use Rattle.spike_cli.specs.Stops.{AsksForOn, further_files, Finishes, FinishesReading, stop_of}
+use Rattle.spike_cli.specs.Replays.{IsFileReply, IsFileReplyText, IsReply, IsReplyText, replied, too_long_report, too_long_report_line}
+use Rattle.spike_cli.specs.Runs.{AreAsked, no_file, one_file, all_files, further_files, AsksFiles, IsEnd, MayWriteOn}
+use Rattle.spike_cli.specs.Stops.{AsksForOn, Finishes, FinishesReading, stop_of}
 use Rattle.spike_cli.proofs.Pieces.{part_of, piece_stopped, at_error}
 
 module _ (old new : Option (List ℕ)) (writes writes' reads reads' : ℕ) where
@@ -32,25 +36,61 @@ module _ (old new : Option (List ℕ)) (writes writes' reads reads' : ℕ) where
   reads_nothing IsWhole IsPart (Err OutOfMemory) h = h
 
   -- what was written for the bytes of a report is what is written for its file
-  module _ (spec : Spec) (held : Option (List ℕ)) (bytes : List ℕ) (told : AreBytesOf held most_report_bytes bytes) where
-    part : AppendsPartOf (IsReplayText spec bytes) old new → AppendsPartOf (IsFileReplayText spec held) old new
-    part p = part_of (IsReplayText spec bytes) (IsFileReplayText spec held) old new (λ t is. (is.0, replayed bytes told is.1)) p
+  module _ (IsYes : Spec → Report → List ℕ → Type 0) (spec : Spec) (held : Option (List ℕ)) where
+    abbrev pub IsWhole : List ℕ → Status → Type 0
+    IsWhole = IsFileReply IsYes spec held
 
-    pub replays_bytes : (result : Result Status Stop) → Finishes old new writes writes' (IsReplay spec bytes) (IsReplayText spec bytes) result → FinishesReading old new writes writes' reads reads' (IsFileReplay spec held) (IsFileReplayText spec held) result
-    replays_bytes (Ok s) h = (h.0, replayed bytes told h.1, h.2)
-    replays_bytes (Err ReadFault) h = absurd h
-    replays_bytes (Err WriteFault) h = (h.0, part h.1)
-    replays_bytes (Err OutOfMemory) h = part h
+    abbrev pub IsPart : List ℕ → Type 0
+    IsPart = IsFileReplyText IsYes spec held
 
-  -- the line of a report that is too long was to be written
-  pub too_long_stopped : (spec : Spec) (held : Option (List ℕ)) → IsLonger held most_report_bytes → (error : WriteError) (result : Result Status Stop) → IsErrAnd result (λ s. s ≡ stop_of error) → AppendedPrefix old new too_long_report_line → (◌≡◌ {A = Result Unit WriteError} (Err error) (Err write.Failed) → Rose writes writes') → FinishesReading old new writes writes' reads reads' (IsFileReplay spec held) (IsFileReplayText spec held) result
-  too_long_stopped spec held long error result is prefix failed =
-      let stopped = piece_stopped (IsFileReplayText spec held) old new writes writes' too_long_report_line error (Refused, too_long_report long) prefix failed in
-      at_error (FinishesReading old new writes writes' reads reads' (IsFileReplay spec held) (IsFileReplayText spec held)) result (stop_of error) is (reads_nothing (IsFileReplay spec held) (IsFileReplayText spec held) (Err (stop_of error)) stopped)
+    module _ (bytes : List ℕ) (told : AreBytesOf held most_report_bytes bytes) where
+      part : AppendsPartOf (IsReplyText IsYes spec bytes) old new → AppendsPartOf IsPart old new
+      part p =
+          part_of (IsReplyText IsYes spec bytes) IsPart old new
+          (λ t is. (is.0, replied bytes told is.1)) p
+
+      pub replies_to_bytes :
+          (result : Result Status Stop) →
+          Finishes old new writes writes' (IsReply IsYes spec bytes) (IsReplyText IsYes spec bytes)
+          result → FinishesReading old new writes writes' reads reads' IsWhole IsPart result
+      replies_to_bytes (Ok s) h = (h.0, replied bytes told h.1, h.2)
+      replies_to_bytes (Err ReadFault) h = absurd h
+      replies_to_bytes (Err WriteFault) h = (h.0, part h.1)
+      replies_to_bytes (Err OutOfMemory) h = part h
+
+    -- the line of a report that is too long was to be written
+    pub too_long_stopped :
+        IsLonger held most_report_bytes → (error : WriteError) (result : Result Status Stop) →
+        IsErrAnd result (λ s. s ≡ stop_of error) → AppendedPrefix old new too_long_report_line →
+        (◌≡◌ {A = Result Unit WriteError} (Err error) (Err write.Failed) → Rose writes writes') →
+        FinishesReading old new writes writes' reads reads' IsWhole IsPart result
+    too_long_stopped long error result is prefix failed =
+        let stopped =
+        piece_stopped IsPart old new writes writes' too_long_report_line error
+        (Refused, too_long_report long) prefix failed in
+        at_error (FinishesReading old new writes writes' reads reads' IsWhole IsPart) result
+        (stop_of error) is (reads_nothing IsWhole IsPart (Err (stop_of error)) stopped)
+
+-- what a command did, where it is this one
+pub of_command :
+    (held : List ℕ → Option (List ℕ)) (raw : RawSpec) (spec : Spec) (command other : Command) →
+    command ≡ other → (old new : Option (List ℕ)) (writes writes' reads reads' : ℕ)
+    (result : Result Status Stop) →
+    FinishesReading old new writes writes' reads reads' (IsEnd held (task_of other) raw spec)
+    (MayWriteOn held (task_of other) raw spec) result →
+    FinishesReading old new writes writes' reads reads' (IsEnd held (task_of command) raw spec)
+    (MayWriteOn held (task_of command) raw spec) result
+of_command held raw spec command other is old new writes writes' reads reads' result finishes =
+    subst (λ (k : Command). FinishesReading old new writes writes' reads reads'
+    (IsEnd held (task_of k) raw spec) (MayWriteOn held (task_of k) raw spec) result)
+    (sym is) finishes
 
 -- a reply whose text is this line
-pub reply_told : (spec : Spec) (bytes text line : List ℕ) (s : Status) → text ≡ line → IsReplay spec bytes line s → IsReplay spec bytes text s
-reply_told spec bytes text line s is reply = subst (λ t. IsReplay spec bytes t s) (sym is) reply
+pub reply_told :
+    (IsYes : Spec → Report → List ℕ → Type 0) (spec : Spec) (bytes text line : List ℕ) (s : Status) →
+    text ≡ line → IsReply IsYes spec bytes line s → IsReply IsYes spec bytes text s
+reply_told IsYes spec bytes text line s is reply =
+    subst (λ t. IsReply IsYes spec bytes t s) (sym is) reply
 
 -- a read that failed, or found too much, isn't one that wanted memory
 pub too_long_read : (e : ReadError) → e ≡ read.TooLong → e ≢ read.OutOfMemory
@@ -81,12 +121,6 @@ module _ (words : List (List ℕ)) (held : List ℕ → Option (List ℕ)) where
     asked_or_not (inl added) = asked_first added
     asked_or_not (inr none) = asks_no_file old new none.0
 
-  all_asked :
-      (file : List ℕ) (task : Task) → Asks words file task → (bytes : List ℕ) →
-      AreTextOf (held file) bytes → IsAccepted bytes → AreAsked words held (file ∷ further_files task)
-  all_asked file (replaying report) asks bytes read is = file_and_report file report bytes asks read is
-  all_asked file task asks bytes read is = one_file file task asks
-
   pub asked_further :
       (file : List ℕ) (task : Task) (asks : Asks words file task) (old middle new : List (List ℕ)) (bytes : List ℕ) →
       AreTextOf (held file) bytes → AddsName old middle file →
@@ -95,4 +129,4 @@ module _ (words : List (List ℕ)) (held : List ℕ → Option (List ℕ)) where
   asked_further file task asks old middle new bytes read added (inr all) =
       let whole : new ≡ old ++ (file ∷ further_files task) =
       all.1 ∙ ap (λ xs. xs ++ further_files task) added ∙ append_assoc old (file ∷ []) (further_files task) in
-      (file ∷ further_files task, all_asked file task asks bytes read all.0, whole)
+      (file ∷ further_files task, all_files file task bytes asks read all.0, whole)

@@ -112,7 +112,7 @@ claims_bytes sig (c ∷ claims) h =
           (claims_text sig claims),
     )
 
-header_bytes :
+pub header_bytes :
     (sig : Sig) (steps : ℕ) → IsShort steps → length (lines_text sig (header_lines steps)) ≤ 100
 header_bytes sig steps h =
     let first : Line = record { head = codes "spike-report"; words = fixed (codes "1") ∷ [] } in

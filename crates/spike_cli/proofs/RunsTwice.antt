@@ -5,17 +5,19 @@ use Rattle.std.proofs.lemmas.List.{append_cancel_left}
 use Rattle.io_core.specs.Count.{Rose}
 use Rattle.io_core.specs.Piece.{Appended}
 use Rattle.spec_core.specs.declared.records.Spec.{Spec}
+use Rattle.spec_core.specs.WellSorted.{IsWellSorted}
 use Rattle.spec_grammar.specs.Limits.{file_limit}
 use Rattle.spec_grammar.specs.declared.raw.RawSpec.{RawSpec}
 use Rattle.clause_core.specs.declared.reports.Claim.{Claim}
 use Rattle.command_line.specs.Laws.{OneRequest}
-use Rattle.command_line.specs.Tasks.{Task, checking, refuting, proving, evaluating, replaying, upgrading, Asks}
-use Rattle.command_line.specs.declared.bounds.ProofBounds.{ProofBounds}
+use Rattle.command_line.specs.Tasks.{Task, checking, refuting, proving, evaluating, replaying, upgrading, trimming, Asks}
 use Rattle.reply_lines.specs.Lines.{yes_line}
 use Rattle.accepted_spec.specs.Meanings.{IsAcceptedAs}
 use Rattle.spike_cli.specs.declared.statuses.Status.{Status}
 use Rattle.spike_cli.specs.declared.statuses.Status.TheVariants.{Done, Refuted, Open, Refused, No, ReadFault, WriteFault, Usage, OutOfMemory}
-use Rattle.spike_cli.specs.Reports.{IsReport, search_alone}
+use Rattle.spike_cli.specs.Replays.{accepted as accepted_report, no_report, refused as refused_report, replied, too_long_report}
+use Rattle.spike_cli.specs.Reports.{search_alone}
+use Rattle.spike_cli.specs.Trims.{IsFileTrim}
 use Rattle.spike_cli.specs.FinishedReports.{FinishedReportsAreAccepted, IsAnsweredByYes}
 use Rattle.spike_cli.specs.Outcomes.{OneEnding}
 use Rattle.spike_cli.specs.Runs.{IsEnd, Ended, Means}
@@ -23,14 +25,12 @@ use Rattle.spike_cli.specs.RunsTwice.{IsFinished, WritesReport, FinishedRun, Fin
 use Rattle.spike_cli.proofs.OneEnding.{well_sorted_meaning}
 use Rattle.spike_cli.proofs.ReplayRuns.{of_file, replay_ends, replay_told}
 
--- a report of the specification that the bytes stand for
+-- a report that is answered by yes on the specification that the bytes stand for
 record ReportOf (bytes report : List ℕ) : Type 0 where
   raw : RawSpec
   spec : Spec
   accepted : IsAcceptedAs bytes raw spec
-  bounds : ProofBounds
-  status : Status
-  is : IsReport bounds spec report status
+  yes : IsAnsweredByYes spec report
 
 same_some : (x y : List ℕ) → Some x ≡ Some y → x ≡ y
 same_some x y e = let q : Some x ≡ Some y = e in cc
@@ -58,16 +58,31 @@ module _ (ending : OneEnding) (request : OneRequest) (finished : FinishedReports
     ended reads reads' writes writes' old new Usage f h = absurd f
     ended reads reads' writes writes' old new OutOfMemory f h = absurd f
 
-  report_of_end :
-      (held : List ℕ → Option (List ℕ)) (task : Task) (raw : RawSpec) (spec : Spec) (text : List ℕ)
-      (status : Status) → WritesReport task → IsEnd held task raw spec text status →
-      (bounds : ProofBounds) × IsReport bounds spec text status
-  report_of_end held (checking print) raw spec text status w e = absurd w
-  report_of_end held (refuting search) raw spec text status w e = (search_alone search, e)
-  report_of_end held (proving bounds) raw spec text status w e = (bounds, e)
-  report_of_end held (evaluating term steps) raw spec text status w e = absurd w
-  report_of_end held (replaying report) raw spec text status w e = absurd w
-  report_of_end held upgrading raw spec text status w e = absurd w
+  module _ (spec : Spec) (fine : IsWellSorted spec) where
+    -- a reply of `trim` that finished is a trimmed report
+    trimmed_answered :
+        (told : Option (List ℕ)) (text : List ℕ) (status : Status) → IsFinished status →
+        IsFileTrim spec told text status → IsAnsweredByYes spec text
+    trimmed_answered told text status f (replied bytes are (accepted_report report is ok true said)) =
+        finished.trimmed spec report text fine said
+    trimmed_answered told text status f (replied bytes are (no_report line fault)) = absurd f
+    trimmed_answered told text status f (replied bytes are (refused_report report line why is first)) = absurd f
+    trimmed_answered told text status f (too_long_report long) = absurd f
+
+    end_answered :
+        (held : List ℕ → Option (List ℕ)) (task : Task) (raw : RawSpec) (text : List ℕ)
+        (status : Status) → WritesReport task → IsFinished status →
+        IsEnd held task raw spec text status → IsAnsweredByYes spec text
+    end_answered held (checking print) raw text status w f e = absurd w
+    end_answered held (refuting search) raw text status w f e =
+        finished.made (search_alone search) spec text status fine e
+    end_answered held (proving bounds) raw text status w f e =
+        finished.made bounds spec text status fine e
+    end_answered held (evaluating term steps) raw text status w f e = absurd w
+    end_answered held (replaying report) raw text status w f e = absurd w
+    end_answered held upgrading raw text status w f e = absurd w
+    end_answered held (trimming report) raw text status w f e =
+        trimmed_answered (held report) text status f e
 
   written :
       (bytes report : List ℕ) → FinishedRun bytes report →
@@ -81,17 +96,17 @@ module _ (ending : OneEnding) (request : OneRequest) (finished : FinishedReports
       let same : report ≡ end.text =
       append_cancel_left run.before report end.text
       (same_some (run.before ++ report) (run.before ++ end.text) end.appended) in
-      let is =
-      report_of_end run.held run.task end.raw end.spec end.text run.status run.writes_report
-      end.is_end in (
+      let fine =
+      well_sorted_meaning bytes end.spec (end.raw, end.accepted.derived, end.accepted.stands) in
+      let yes =
+      end_answered end.spec fine run.held run.task end.raw end.text run.status run.writes_report
+      run.finished end.is_end in (
         e.0,
         record {
           raw = end.raw;
           spec = end.spec;
           accepted = end.accepted;
-          bounds = is.0;
-          status = run.status;
-          is = subst (λ t. IsReport is.0 end.spec t run.status) (sym same) is.1;
+          yes = subst (λ t. IsAnsweredByYes end.spec t) (sym same) yes;
         },
       )
 
@@ -104,11 +119,6 @@ module _ (ending : OneEnding) (request : OneRequest) (finished : FinishedReports
     abbrev SaysYes : Status → Type 0
     SaysYes s = (s ≡ Done) × ((claims : List Claim) × Appended old new (yes_line claims))
 
-    yes : IsAnsweredByYes r.spec report
-    yes =
-        finished r.bounds r.spec report r.status
-        (well_sorted_meaning bytes r.spec (r.raw, r.accepted.derived, r.accepted.stands)) r.is
-
     says_yes :
         (reads reads' writes writes' : ℕ) (s : Status) →
         Means words held reads reads' old new writes writes' s → (Rose reads reads' → ⊥) →
@@ -120,8 +130,8 @@ module _ (ending : OneEnding) (request : OneRequest) (finished : FinishedReports
         let now =
         replay_told ending request bytes r.raw r.spec r.accepted short words held file name asks told
         old new report told_report s e in
-        let is = yes.only e.text s now in
-        (is.1, (yes.claims, subst (λ t. Appended old new t) is.0 e.appended))
+        let is = r.yes.only e.text s now in
+        (is.1, (r.yes.claims, subst (λ t. Appended old new t) is.0 e.appended))
 
   pub runs_replayed : FinishedRunsAreReplayed
   runs_replayed bytes report run words held file name reads reads' writes writes' old new status

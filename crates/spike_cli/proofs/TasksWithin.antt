@@ -1,6 +1,6 @@
 -- The words give each number within its range.
 use Rattle.std.specs.Prelude.{ℕ, List}
-use Rattle.command_line.specs.Tasks.{Task, checking, refuting, proving, evaluating, replaying, upgrading, Asks}
+use Rattle.command_line.specs.Tasks.{Task, checking, refuting, proving, evaluating, replaying, upgrading, trimming, Asks}
 use Rattle.spike_cli.specs.Within.{TaskIsWithin}
 
 pub task_within : (words : List (List ℕ)) (file : List ℕ) (task : Task) → Asks words file task → TaskIsWithin task
@@ -22,3 +22,4 @@ task_within words file (evaluating term steps) asks = tt
 task_within words file (checking print) asks = tt
 task_within words file (replaying report) asks = tt
 task_within words file upgrading asks = tt
+task_within words file (trimming report) asks = tt

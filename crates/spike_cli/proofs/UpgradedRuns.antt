@@ -15,7 +15,7 @@ use Rattle.accepted_spec.specs.Meanings.{IsAcceptedAs}
 use Rattle.spike_cli.specs.declared.statuses.Status.{Status}
 use Rattle.spike_cli.specs.Reads.{most_report_bytes, AreBytesOf, IsLonger}
 use Rattle.spike_cli.specs.Outcomes.{OneEnding, OneReplay}
-use Rattle.spike_cli.specs.Replays.{IsReplay, IsFileReplay, replayed, too_long_report}
+use Rattle.spike_cli.specs.Replays.{IsReplay, IsFileReplay, replied, too_long_report}
 use Rattle.spike_cli.specs.UpgradedRuns.{ReplayRun, UpgradedRunsAnswerTheSame}
 use Rattle.spike_cli.specs.Upgrades.{UpgradesKeepMeaning}
 use Rattle.spike_cli.proofs.OneEnding.{well_sorted_meaning}
@@ -47,12 +47,12 @@ module _ (replay : OneReplay) (spec : Spec) (fine : IsWellSorted spec) (report :
 
   one_reply : (text other : List ℕ) (s again : Status) → IsFileReplay spec (Some report) text s →
       IsFileReplay spec (Some report) other again → (text ≡ other) × (s ≡ again)
-  one_reply text other s again (replayed bytes are is) (replayed read told it) =
+  one_reply text other s again (replied bytes are is) (replied read told it) =
       let here : IsReplay spec report text s = subst (λ b. IsReplay spec b text s) are.told is in
       let there : IsReplay spec report other again = subst (λ b. IsReplay spec b other again) told.told it in
       replay.one spec report text other s again fine here there
-  one_reply text other s again (replayed bytes are is) (too_long_report long) = absurd (not_longer bytes are long)
-  one_reply text other s again (too_long_report long) (replayed read told it) = absurd (not_longer read told long)
+  one_reply text other s again (replied bytes are is) (too_long_report long) = absurd (not_longer bytes are long)
+  one_reply text other s again (too_long_report long) (replied read told it) = absurd (not_longer read told long)
   one_reply text other s again (too_long_report long) (too_long_report far) = (refl, refl)
 
 module _ (ending : OneEnding) (request : OneRequest) (replay : OneReplay) where

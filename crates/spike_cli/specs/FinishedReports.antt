@@ -1,12 +1,14 @@
--- What `replay` answers for a report that `prove` or `refute` finished.
+-- What `replay` answers for a report that `prove`, `refute` or `trim` finished.
 use Rattle.std.specs.Prelude.{◌≡◌, ℕ, List, Some}
 use Rattle.spec_core.specs.declared.records.Spec.{Spec}
 use Rattle.spec_core.specs.WellSorted.{IsWellSorted}
 use Rattle.clause_core.specs.declared.reports.Claim.{Claim}
+use Rattle.clause_core.specs.declared.reports.Report.{Report}
 use Rattle.command_line.specs.declared.bounds.ProofBounds.{ProofBounds}
 use Rattle.spike_cli.specs.declared.statuses.Status.{Status}
 use Rattle.spike_cli.specs.declared.statuses.Status.TheVariants.{Done}
 use Rattle.spike_cli.specs.Replays.{IsFileReplay}
+use Rattle.spike_cli.specs.Trims.{IsTrimmedText}
 use Rattle.reply_lines.specs.Lines.{yes_line}
 use Rattle.spike_cli.specs.Reports.{IsReport}
 
@@ -19,8 +21,11 @@ pub record IsAnsweredByYes (spec : Spec) (bytes : List ℕ) : Type 0 where
       (text : List ℕ) (status : Status) → IsFileReplay spec (Some bytes) text status →
       (text ≡ yes_line claims) × (status ≡ Done)
 
--- each finished report is, on the same specification
-abbrev pub FinishedReportsAreAccepted : Type 0
-FinishedReportsAreAccepted =
-    (bounds : ProofBounds) (spec : Spec) (text : List ℕ) (status : Status) →
-    IsWellSorted spec → IsReport bounds spec text status → IsAnsweredByYes spec text
+-- each finished report is, on the same specification, and so is each that is trimmed
+pub record FinishedReportsAreAccepted : Type 0 where
+  pub made :
+      (bounds : ProofBounds) (spec : Spec) (text : List ℕ) (status : Status) →
+      IsWellSorted spec → IsReport bounds spec text status → IsAnsweredByYes spec text
+  pub trimmed :
+      (spec : Spec) (report : Report) (text : List ℕ) →
+      IsWellSorted spec → IsTrimmedText spec report text → IsAnsweredByYes spec text

@@ -6,6 +6,7 @@ pub mod Reports
 pub mod SearchAlone
 pub mod Evaluations
 pub mod Replays
+pub mod Trims
 pub mod FinishedReports
 pub mod Loads
 pub mod Upgrades
@@ -19,4 +20,5 @@ pub mod Codes
 -- What only this crate's own contracts speak of.
 pub mod Within
 pub mod Lemmas
+pub mod Replies
 pub mod Stops

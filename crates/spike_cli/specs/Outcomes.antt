@@ -14,7 +14,8 @@ use Rattle.spike_cli.specs.declared.statuses.Status.{Status}
 use Rattle.spike_cli.specs.declared.statuses.Status.TheVariants.{Done}
 use Rattle.accepted_spec.specs.Meanings.{IsAcceptedAs, TermTextStandsFor}
 use Rattle.accepted_spec.specs.Refusals.{IsRefusalOf, IsTermRefusal}
-use Rattle.spike_cli.specs.Replays.{IsReplay}
+use Rattle.spike_cli.specs.Replays.{IsReply, IsYesLine}
+use Rattle.spike_cli.specs.Trims.{IsTrimmedText}
 
 -- over a declared signature a term's text stands for one term at most, and none where it has a line
 -- of refusal; it has one such line at most
@@ -40,10 +41,17 @@ pub record OneEnding : Type 0 where
 
 -- on a well sorted specification the bytes of a report get one text and one status at most, and Done
 -- where they are a report that is accepted
-pub record OneReplay : Type 0 where
+pub record OneReply (IsYes : Spec → Report → List ℕ → Type 0) : Type 0 where
   pub one : (spec : Spec) (bytes text other : List ℕ) (status again : Status) → IsWellSorted spec
-      → IsReplay spec bytes text status → IsReplay spec bytes other again
+      → IsReply IsYes spec bytes text status → IsReply IsYes spec bytes other again
       → (text ≡ other) × (status ≡ again)
   pub done : (spec : Spec) (bytes text : List ℕ) (status : Status) (report : Report)
       → IsWellSorted spec → IsReportText spec.sig bytes report → IsAccepted (above_of spec) spec report
-      → IsReplay spec bytes text status → status ≡ Done
+      → IsReply IsYes spec bytes text status → status ≡ Done
+
+-- so it is of `replay`, and of `trim`
+abbrev pub OneReplay : Type 0
+OneReplay = OneReply IsYesLine
+
+abbrev pub OneTrim : Type 0
+OneTrim = OneReply IsTrimmedText

@@ -1,5 +1,5 @@
--- What `replay` writes for a report on an admitted specification.
-use Rattle.std.specs.Prelude.{ℕ, List, Option, codes}
+-- What is written for a report on an admitted specification, and what `replay` writes for it.
+use Rattle.std.specs.Prelude.{◌≡◌, ℕ, List, Option, codes}
 use Rattle.spec_core.specs.declared.records.Spec.{Spec}
 use Rattle.spec_order.specs.Orders.{above_of}
 use Rattle.clause_core.specs.declared.reports.ReplayWhy.{ReplayWhy}
@@ -18,32 +18,46 @@ use Rattle.spike_cli.specs.Reads.{most_report_bytes, AreBytesOf, IsLonger}
 abbrev pub too_long_report_line : List ℕ
 too_long_report_line = codes "refused report length\n"
 
-module _ (spec : Spec) where
+-- of a command that is answered by yes with such a text where a report is accepted
+module _ (IsYes : Spec → Report → List ℕ → Type 0) (spec : Spec) where
   -- what is written for the bytes of a report, and the status: they are a report that is accepted,
   -- and true; they are none; or they are one that isn't accepted
-  pub data IsReplay (bytes : List ℕ) : List ℕ → Status → Type 0 where
-    accepted : (report : Report) → IsReportText spec.sig bytes report
-        → IsAccepted (above_of spec) spec report → ReportIsTrue spec report
-        → IsReplay bytes (yes_line report.claims) status.Done
+  pub data IsReply (bytes : List ℕ) : List ℕ → Status → Type 0 where
+    accepted : (report : Report) {text : List ℕ} → IsReportText spec.sig bytes report
+        → IsAccepted (above_of spec) spec report → ReportIsTrue spec report → IsYes spec report text
+        → IsReply bytes text status.Done
     no_report : (line : ℕ) → IsFaultyLine spec.sig bytes line
-        → IsReplay bytes (no_line line (codes "not a report")) status.No
+        → IsReply bytes (no_line line (codes "not a report")) status.No
     refused : (report : Report) (line : ℕ) (why : ReplayWhy)
         → IsReportText spec.sig bytes report
         → IsFirstRefusal (above_of spec) spec report line why
-        → IsReplay bytes (no_line line (why_text why)) status.No
+        → IsReply bytes (no_line line (why_text why)) status.No
 
   -- the text alone
-  abbrev pub IsReplayText : List ℕ → List ℕ → Type 0
-  IsReplayText bytes text = (s : Status) × IsReplay bytes text s
+  abbrev pub IsReplyText : List ℕ → List ℕ → Type 0
+  IsReplyText bytes text = (s : Status) × IsReply bytes text s
 
   -- what is written for the report of a file, and the status: that of its bytes, or the line where
   -- there are too many
-  pub data IsFileReplay (held : Option (List ℕ)) : List ℕ → Status → Type 0 where
-    replayed : (bytes : List ℕ) {text : List ℕ} {s : Status}
-        → AreBytesOf held most_report_bytes bytes → IsReplay bytes text s
-        → IsFileReplay held text s
+  pub data IsFileReply (held : Option (List ℕ)) : List ℕ → Status → Type 0 where
+    replied : (bytes : List ℕ) {text : List ℕ} {s : Status}
+        → AreBytesOf held most_report_bytes bytes → IsReply bytes text s
+        → IsFileReply held text s
     too_long_report : IsLonger held most_report_bytes
-        → IsFileReplay held too_long_report_line status.Refused
+        → IsFileReply held too_long_report_line status.Refused
 
-  abbrev pub IsFileReplayText : Option (List ℕ) → List ℕ → Type 0
-  IsFileReplayText held text = (s : Status) × IsFileReplay held text s
+  abbrev pub IsFileReplyText : Option (List ℕ) → List ℕ → Type 0
+  IsFileReplyText held text = (s : Status) × IsFileReply held text s
+
+-- where a report is accepted, `replay` says how many claims of each kind it has
+abbrev pub IsYesLine : Spec → Report → List ℕ → Type 0
+IsYesLine spec report text = text ≡ yes_line report.claims
+
+abbrev pub IsReplay : Spec → List ℕ → List ℕ → Status → Type 0
+IsReplay = IsReply IsYesLine
+
+abbrev pub IsFileReplay : Spec → Option (List ℕ) → List ℕ → Status → Type 0
+IsFileReplay = IsFileReply IsYesLine
+
+abbrev pub IsFileReplayText : Spec → Option (List ℕ) → List ℕ → Type 0
+IsFileReplayText = IsFileReplyText IsYesLine

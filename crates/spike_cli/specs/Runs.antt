@@ -7,7 +7,8 @@ use Rattle.io_core.specs.Piece.{Appended}
 use Rattle.spike_cli.specs.declared.statuses.Status.{Status}
 use Rattle.spike_cli.specs.declared.statuses.Status.TheVariants.{Done, Refuted, Open, Refused, No, ReadFault, WriteFault, Usage, OutOfMemory}
 use Rattle.spike_cli.specs.Parts.{AppendsPartOf}
-use Rattle.command_line.specs.Tasks.{Task, checking, refuting, proving, evaluating, replaying, upgrading, Asks, AsksToLoad, AskNothing}
+use Rattle.command_line.specs.Tasks.{Task, checking, refuting, proving, evaluating, replaying, upgrading, trimming, Asks, AsksToLoad, AskNothing}
+use Rattle.command_line.specs.Usage.{usage_line}
 use Rattle.spike_cli.specs.Reads.{AreTextOf, PassesItsLimit}
 use Rattle.accepted_spec.specs.Meanings.{IsAccepted, IsAcceptedAs}
 use Rattle.accepted_spec.specs.Refusals.{IsRefusalOf}
@@ -15,18 +16,21 @@ use Rattle.spike_cli.specs.Checks.{check_text, IsCheck}
 use Rattle.spike_cli.specs.Reports.{BeginsReport, IsReport, search_alone}
 use Rattle.spike_cli.specs.Evaluations.{IsEvaluation, IsEvaluationText}
 use Rattle.spike_cli.specs.Replays.{IsFileReplay, IsFileReplayText}
+use Rattle.spike_cli.specs.Trims.{IsFileTrim, IsFileTrimText}
 use Rattle.spike_cli.specs.Loads.{IsLoad}
 use Rattle.spike_cli.specs.Upgrades.{IsUpgrade}
 use Rattle.spec_printing.specs.Printed.{printed}
 use Rattle.spec_printing.specs.Upgraded.{upgraded}
 
--- the line for words that are no command
-abbrev pub usage_line : List ℕ
-usage_line = codes "usage: spike check|eval|prove|refute|replay|load|upgrade\n"
-
 -- the line for a file that is too long
 abbrev pub too_long_line : List ℕ
 too_long_line = codes "refused length\n"
+
+-- the files that a task reads beside its own
+abbrev pub further_files : Task → List (List ℕ)
+further_files (replaying report) = report ∷ []
+further_files (trimming report) = report ∷ []
+further_files _ = []
 
 module _ (held : List ℕ → Option (List ℕ)) where
   -- the whole text of a task on a specification, and its status
@@ -37,6 +41,7 @@ module _ (held : List ℕ → Option (List ℕ)) where
   IsEnd (evaluating term steps) raw spec text status = IsEvaluation spec term steps text status
   IsEnd (replaying report) raw spec text status = IsFileReplay spec (held report) text status
   IsEnd upgrading raw spec text status = IsUpgrade raw text status
+  IsEnd (trimming report) raw spec text status = IsFileTrim spec (held report) text status
 
   -- a text that a task may write on a specification: what a report begins with, or the whole text
   -- of another task
@@ -47,6 +52,7 @@ module _ (held : List ℕ → Option (List ℕ)) where
   MayWriteOn (evaluating term steps) raw spec text = IsEvaluationText spec term steps text
   MayWriteOn (replaying report) raw spec text = IsFileReplayText spec (held report) text
   MayWriteOn upgrading raw spec text = text ≡ printed (upgraded raw)
+  MayWriteOn (trimming report) raw spec text = IsFileTrimText spec (held report) text
 
   module _ (task : Task) (bytes : List ℕ) where
     -- a text that a task may write for the bytes of its file
@@ -124,14 +130,14 @@ module _ (words : List (List ℕ)) (held : List ℕ → Option (List ℕ)) where
   Means reads reads' old new writes writes' Usage = AskNothing words × Appended old new usage_line
   Means reads reads' old new writes writes' OutOfMemory = AppendsPartOf MayWrite old new
 
-  -- the names that a call asks for, in their order: none; the file of a task; or the file and the
-  -- report that is replayed on it, where the file's text is accepted
+  -- the names that a call asks for, in their order: none; the file of a task; or the file and those
+  -- that the task reads beside it, where the file's text is accepted
   pub data AreAsked : List (List ℕ) → Type 0 where
     no_file : AreAsked []
     one_file : (file : List ℕ) (task : Task) → Asks words file task → AreAsked (file ∷ [])
-    file_and_report : (file report bytes : List ℕ) → Asks words file (replaying report)
+    all_files : (file : List ℕ) (task : Task) (bytes : List ℕ) → Asks words file task
         → AreTextOf (held file) bytes → IsAccepted bytes
-        → AreAsked (file ∷ report ∷ [])
+        → AreAsked (file ∷ further_files task)
 
   -- such names were added to those that were asked for before
   abbrev pub AsksFiles : List (List ℕ) → List (List ℕ) → Type 0

@@ -3,7 +3,7 @@ use Rattle.std.specs.Prelude.{◌≡◌, ◌≢◌, ℕ, List, ◌++◌, Option,
 use Rattle.io_core.specs.Count.{Rose}
 use Rattle.io_core.specs.Piece.{Appended}
 use Rattle.clause_core.specs.declared.reports.Claim.{Claim}
-use Rattle.command_line.specs.Tasks.{Task, checking, refuting, proving, evaluating, replaying, Asks}
+use Rattle.command_line.specs.Tasks.{Task, checking, refuting, proving, evaluating, replaying, trimming, Asks}
 use Rattle.reply_lines.specs.Lines.{yes_line}
 use Rattle.spike_cli.specs.declared.statuses.Status.{Status}
 use Rattle.spike_cli.specs.declared.statuses.Status.TheVariants.{Done, Refuted, Open, OutOfMemory}
@@ -20,6 +20,7 @@ IsFinished _ = ⊥
 abbrev pub WritesReport : Task → Type 0
 WritesReport (refuting bounds) = Unit {0}
 WritesReport (proving bounds) = Unit {0}
+WritesReport (trimming report) = Unit {0}
 WritesReport _ = ⊥
 
 -- a call finished this report for a file of these bytes, where the store tells the bytes and the

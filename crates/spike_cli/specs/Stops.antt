@@ -19,7 +19,7 @@ use Rattle.proof_script.specs.Claims.{claim_text, header_lines}
 use Rattle.command_line.specs.declared.bounds.ProofBounds.{ProofBounds}
 use Rattle.spike_cli.specs.Claims.{IsClaimOn}
 use Rattle.spike_cli.specs.Parts.{AppendsPartOf}
-use Rattle.command_line.specs.Tasks.{Task, replaying}
+use Rattle.command_line.specs.Tasks.{Task}
 use Rattle.accepted_spec.specs.Meanings.{IsAccepted}
 use Rattle.spike_cli.specs.Runs.{Ended, RefusedBytes, MayWriteFor}
 
@@ -110,11 +110,6 @@ module _
       Rose writes writes' × AppendsPartOf (MayWriteFor held task bytes) old new
   MeansFor status.Usage = ⊥
   MeansFor status.OutOfMemory = AppendsPartOf (MayWriteFor held task bytes) old new
-
--- the files that a task reads beside its own
-abbrev pub further_files : Task → List (List ℕ)
-further_files (replaying report) = report ∷ []
-further_files _ = []
 
 -- these names were asked for, or none was
 abbrev pub AsksFor : List (List ℕ) → List (List ℕ) → List (List ℕ) → Type 0

@@ -18,7 +18,7 @@ use spec_core::{Signature, Spec};
 use std::alloc::Global;
 use term_core::{OutOfMemory, Term};
 
-/// Writes what the evaluation of a term within so many rule uses gives.
+/// Writes what the evaluation of a term within this many rule uses gives.
 pub fn evaluate<S: Sink>(
     alloc: Global,
     spec: &Spec,

@@ -1,7 +1,7 @@
 ghost use Rattle.spike_cli.specs.FinishedReports.{FinishedReportsAreAccepted};
 ghost use Rattle.spike_cli.specs.Loads.{OneLoad};
 ghost use Rattle.spike_cli.specs.OneReport.{OneRightReport};
-ghost use Rattle.spike_cli.specs.Outcomes.{OneEnding, OneReplay};
+ghost use Rattle.spike_cli.specs.Outcomes.{OneEnding, OneReplay, OneTrim};
 ghost use Rattle.spike_cli.specs.RunsTwice.{FinishedRunsAreReplayed};
 ghost use Rattle.spike_cli.specs.SearchAlone.{SearchAlone};
 ghost use Rattle.spike_cli.specs.UpgradedRuns.{UpgradedRunsAnswerTheSame};
@@ -35,20 +35,29 @@ pub fn one_replay()
     one_verdict::<AnyOrder>();
 }
 
+/// So it is for `trim`: the report to which cuts lead is one.
+pub fn one_trim()
+    ensures { OneTrim }
+{
+    one_report();
+    one_faulty_line();
+    one_verdict::<AnyOrder>();
+}
+
 /// A search for counterexamples alone proves nothing: its claims are those of the search, and it
 /// leaves each goal open that it doesn't refute.
 pub fn search_alone_proves_nothing()
     ensures { SearchAlone }
 {}
 
-/// Each report that was finished is accepted by `replay` on the same specification.
+/// Each report that was finished, or trimmed, is accepted by `replay` on the same specification.
 pub fn finished_reports_are_accepted()
     ensures { FinishedReportsAreAccepted }
 {
     one_replay();
 }
 
-/// What `load` writes for so many goals is one text.
+/// What `load` writes for a number of goals is one text.
 pub fn one_load()
     ensures { OneLoad }
 {}

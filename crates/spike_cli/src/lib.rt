@@ -5,11 +5,12 @@
 //! say, then for plain proofs of at most the length `--plain`, and then for routine proofs of at
 //! most `--nodes` nodes, with the goals proved before as lemmas; `refute FILE` looks for
 //! counterexamples alone. `replay FILE REPORT` says whether a report is accepted, or the line at
-//! which it first isn't. `check FILE` says that the file is accepted, or with `--print` writes its
+//! which it first isn't; `trim FILE REPORT` answers the same, or writes an accepted report made
+//! shorter. `check FILE` says that the file is accepted, or with `--print` writes its
 //! printed form, and `upgrade FILE` writes that form in format 2. `eval FILE TERM` evaluates a term
 //! without variables within `--steps` rule uses.
 //! A file that isn't accepted, or a term that isn't one, gets a line of refusal, which says what its
-//! first fault is. `load N` generates so many goals, proves them and replays the report, and writes
+//! first fault is. `load N` generates this many goals, proves them and replays the report, and writes
 //! how many are proved, refuted and left open.
 //!
 //! It stands on all the other crates. [`run`] is the whole program over a store of files and a
@@ -22,7 +23,7 @@ mod claims;
 mod evaluating;
 mod laws;
 mod loading;
-mod replaying;
+mod replying;
 mod reporting;
 mod running;
 mod statuses;
@@ -30,9 +31,9 @@ mod stops;
 
 pub use laws::{
     finished_reports_are_accepted, finished_runs_are_replayed, one_ending, one_load, one_replay,
-    one_right_report, search_alone_proves_nothing, upgraded_runs_answer_the_same,
+    one_right_report, one_trim, search_alone_proves_nothing, upgraded_runs_answer_the_same,
     upgrades_keep_meaning,
 };
-pub use replaying::MAX_REPORT_BYTES;
+pub use replying::MAX_REPORT_BYTES;
 pub use running::run;
 pub use statuses::Status;

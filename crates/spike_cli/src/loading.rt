@@ -28,7 +28,7 @@ use spec_order::AnyOrder;
 use std::alloc::Global;
 use term_core::OutOfMemory;
 
-/// Generates so many goals, proves them and replays the report, and writes how many are proved,
+/// Generates this many goals, proves them and replays the report, and writes how many are proved,
 /// refuted and left open.
 pub fn load<S: Sink>(alloc: Global, goals: u32, out: &mut S) -> Result<Status, Stop>
     requires some { 1 ≤ goals }

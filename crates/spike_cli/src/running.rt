@@ -8,21 +8,21 @@ ghost use Rattle.spec_order.specs.Orders.{order_of};
 ghost use Rattle.command_line.specs.Commands.{file_of, task_of};
 ghost use Rattle.command_line.specs.Tasks.{Asks};
 ghost use Rattle.spike_cli.specs.Reads.{PassesItsLimit};
-ghost use Rattle.spike_cli.specs.Runs.{AsksFiles, IsEnd, MayWriteOn, Means};
+ghost use Rattle.spike_cli.specs.Runs.{AsksFiles, IsEnd, MayWriteOn, Means, further_files};
 ghost use Rattle.spike_cli.specs.Stops.{AsksFor, AsksForOn, FinishesReading, MeansFor, Refuses};
-ghost use Rattle.spike_cli.specs.Stops.{further_files, status_ended};
+ghost use Rattle.spike_cli.specs.Stops.{status_ended};
 ghost use Rattle.accepted_spec.specs.Tellings.{IsLineOf};
 ghost use Rattle.spike_cli.specs.Within.{HasReports, TaskIsWithin};
 
 use crate::checking::{check, upgrade};
 use crate::evaluating::evaluate;
 use crate::loading::load;
-use crate::replaying::replay_file;
+use crate::replying::{Yes, reply_to_file};
 use crate::reporting::{search_alone, write_report};
 use crate::statuses::Status;
 use crate::stops::Stop;
 use accepted_spec::{Accepted, Refusal, specification};
-use command_line::{Command, Request, request_of};
+use command_line::{Command, Request, request_of, usage_line};
 use io_core::{Files, ReadError, Sink, WriteError, write_all};
 use spec_grammar::{MAX_FILE_BYTES, file_limit};
 use std::alloc::Global;
@@ -46,11 +46,7 @@ pub fn run<F: Files, S: Sink>(alloc: Global, words: &[String], files: &mut F, ou
             Err(stop) => stop.status(),
         },
         Ok(None) => {
-            let wrote = write_all(
-                out,
-                alloc,
-                b"usage: spike check|eval|prove|refute|replay|load|upgrade\n",
-            );
+            let wrote = write_all(out, alloc, usage_line());
             ended(Status::Usage, wrote)
         }
         Err(_) => Status::OutOfMemory,
@@ -175,9 +171,12 @@ fn finish<F: Files, S: Sink>(
             evaluate(alloc, accepted.spec(), term.as_bytes(), *steps, out)
         }
         Command::Replay { report, .. } => {
-            replay_file(alloc, &accepted.admitted, report, files, out)
+            reply_to_file(alloc, &accepted.admitted, Yes::Counts, report, files, out)
         }
         Command::Upgrade { .. } => upgrade(alloc, &accepted.raw, out),
+        Command::Trim { report, .. } => {
+            reply_to_file(alloc, &accepted.admitted, Yes::Trimmed, report, files, out)
+        }
     }
 }
 

@@ -12,9 +12,11 @@ returns-in-Ok c =
     record {
       taken = c.in-Ok.ensures.kinds flat.simple;
       are = (c.in-Ok.ensures.matches (is_simple_too (app_of c.args.app) flat)).0;
-      has_words = word_there c.args.app c.in-Ok.matches flat c.in-Ok.ensures.parsed;
-      has_numbers = number_there c.args.app c.in-Ok.matches flat c.in-Ok.ensures.parsed;
-      has_numerals = numeral_there c.args.app c.in-Ok.matches flat c.in-Ok.ensures.parsed;
+      arguments = record {
+        has_words = word_there c.args.app c.in-Ok.matches flat c.in-Ok.ensures.parsed;
+        has_numbers = number_there c.args.app c.in-Ok.matches flat c.in-Ok.ensures.parsed;
+        has_numerals = numeral_there c.args.app c.in-Ok.matches flat c.in-Ok.ensures.parsed;
+      };
     }
 
 pub returns : goal.returns

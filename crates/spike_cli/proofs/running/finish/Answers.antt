@@ -9,8 +9,8 @@ use Rattle.spec_order.specs.Orders.{above_of}
 use Rattle.spike_cli.specs.Evaluations.{IsEvaluation, IsEvaluationText}
 use Rattle.spike_cli.specs.Reports.{BeginsReport, IsReport, search_alone}
 use Rattle.spike_cli.specs.Runs.{IsEnd, MayWriteOn}
-use Rattle.spike_cli.specs.Stops.{Finishes, FinishesReading}
-use Rattle.spike_cli.proofs.Readings.{reads_nothing}
+use Rattle.spike_cli.specs.Stops.{Finishes}
+use Rattle.spike_cli.proofs.Readings.{of_command, reads_nothing}
 use Rattle.spike_cli.proofs.running.finish.Goals as goal
 
 pub returns-in-Check-clause-finishes : goal.returns-in-Check-clause-finishes
@@ -47,10 +47,23 @@ returns-in-Eval-clause-finishes g c =
 
 pub returns-in-Replay-clause-finishes : goal.returns-in-Replay-clause-finishes
 returns-in-Replay-clause-finishes g c =
-    let held = g.F.Files.held c.args.files.now in
     let raw = c.args.accepted.now.raw in
     let spec = c.args.accepted.now.admitted.spec in
-    subst (λ (k : Command). FinishesReading (g.S.Sink.written c.args.out.now) (g.S.Sink.written c.replay_file.new.out) (g.S.Sink.faults c.args.out.now) (g.S.Sink.faults c.replay_file.new.out) (g.F.Files.faults c.args.files.now) (g.F.Files.faults c.replay_file.new.files) (IsEnd held (task_of k) raw spec) (MayWriteOn held (task_of k) raw spec) c.replay_file.result) (sym c.in-Replay.is) c.replay_file.ensures.finishes
+    of_command (g.F.Files.held c.args.files.now) raw spec c.args.command.now _ c.in-Replay.is
+    (g.S.Sink.written c.args.out.now) (g.S.Sink.written c.reply_to_file.new.out)
+    (g.S.Sink.faults c.args.out.now) (g.S.Sink.faults c.reply_to_file.new.out)
+    (g.F.Files.faults c.args.files.now) (g.F.Files.faults c.reply_to_file.new.files)
+    c.reply_to_file.result c.reply_to_file.ensures.finishes
+
+pub returns-in-Trim-clause-finishes : goal.returns-in-Trim-clause-finishes
+returns-in-Trim-clause-finishes g c =
+    let raw = c.args.accepted.now.raw in
+    let spec = c.args.accepted.now.admitted.spec in
+    of_command (g.F.Files.held c.args.files.now) raw spec c.args.command.now _ c.in-Trim.is
+    (g.S.Sink.written c.args.out.now) (g.S.Sink.written c.reply_to_file-in-Trim.new.out)
+    (g.S.Sink.faults c.args.out.now) (g.S.Sink.faults c.reply_to_file-in-Trim.new.out)
+    (g.F.Files.faults c.args.files.now) (g.F.Files.faults c.reply_to_file-in-Trim.new.files)
+    c.reply_to_file-in-Trim.result c.reply_to_file-in-Trim.ensures.finishes
 
 pub returns-in-Upgrade-clause-finishes : goal.returns-in-Upgrade-clause-finishes
 returns-in-Upgrade-clause-finishes g c =
