@@ -6,7 +6,8 @@ use Rattle.spec_core.specs.WellSorted.{IsWellSorted}
 use Rattle.clause_core.specs.ClauseLaws.{OneRelation}
 use Rattle.session_core.specs.declared.commands.Command.{Command}
 use Rattle.session_core.specs.declared.errors.SessionError.{SessionError}
-use Rattle.session_core.specs.declared.errors.SessionError.TheVariants.{GoalUnderWork, UnknownGoal, GoalTwice, NoGoal, Step as undefined}
+use Rattle.session_core.specs.declared.errors.SessionError.TheVariants.{GoalUnderWork, UnknownGoal, GoalTwice, NoGoal}
+use Rattle.session_core.specs.declared.errors.SessionError.TheVariants.{Step as undefined}
 use Rattle.session_core.specs.declared.errors.SessionError.TheVariants.{NotSmaller, Limit, OutOfMemory}
 use Rattle.session_core.specs.States.{State, start}
 use Rattle.session_core.specs.Kept.{Kept}

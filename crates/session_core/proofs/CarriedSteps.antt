@@ -1,5 +1,6 @@
 -- A step that is taken or refused at the goal under work, in its state.
-use Rattle.std.proofs.Common.{◌≡◌, ℕ, zero, suc, ◌+◌, ◌-◌, ◌≤◌, List, [], ◌∷◌, ◌++◌, Some, None, Ok, Err, inl, inr, refl, sym, ◌∙◌, ap}
+use Rattle.std.proofs.Common.{◌≡◌, ℕ, zero, suc, ◌+◌, ◌-◌, ◌≤◌, List, [], ◌∷◌, ◌++◌, Some, None, Ok, Err, inl, inr}
+use Rattle.std.proofs.Common.{refl, sym, ◌∙◌, ap}
 use Rattle.std.proofs.Common.{subst, arith, length, length-append}
 use Rattle.std.proofs.lemmas.List.{length-map}
 use Rattle.term_core.specs.Tree.{Tree}
@@ -19,7 +20,8 @@ use Rattle.clause_core.specs.Steps.{row_of}
 use Rattle.acceptance.proofs.NoRefusal.{each_clean}
 use Rattle.session_core.specs.declared.commands.Command.TheVariants.{Step as of_step}
 use Rattle.session_core.specs.declared.errors.SessionError.{SessionError}
-use Rattle.session_core.specs.declared.errors.SessionError.TheVariants.{GoalUnderWork, UnknownGoal, GoalTwice, NoGoal, Step as undefined}
+use Rattle.session_core.specs.declared.errors.SessionError.TheVariants.{GoalUnderWork, UnknownGoal, GoalTwice, NoGoal}
+use Rattle.session_core.specs.declared.errors.SessionError.TheVariants.{Step as undefined}
 use Rattle.session_core.specs.declared.errors.SessionError.TheVariants.{NotSmaller, Limit, OutOfMemory}
 use Rattle.session_core.specs.States.{State, Work, nodes_at, pending, settled, settled_by, with_step, without_step}
 use Rattle.session_core.specs.Accepting.{TakesStep, NextMakes}

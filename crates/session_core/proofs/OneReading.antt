@@ -1,5 +1,6 @@
 -- A text of commands has one list of commands or one faulty line.
-use Rattle.std.proofs.Common.{◌≡◌, ◌⊎◌, ℕ, ◌≤◌, ◌<◌, List, [], ◌∷◌, ◌++◌, inl, inr, refl, sym, ◌∙◌, ap, subst, arith, length, append_assoc}
+use Rattle.std.proofs.Common.{◌≡◌, ◌⊎◌, ℕ, ◌≤◌, ◌<◌, List, [], ◌∷◌, ◌++◌, inl, inr, refl, sym, ◌∙◌, ap, subst, arith}
+use Rattle.std.proofs.Common.{length, append_assoc}
 use Rattle.std.specs.Prelude.{codes}
 use Rattle.std.specs.List.{AllByRecursion, AllZip}
 use Rattle.std.proofs.lemmas.List.{append-nil}
@@ -7,7 +8,8 @@ use Rattle.term_core.proofs.Numbers.{below_or_not}
 use Rattle.spec_core.specs.Declarations.{IsDeclared}
 use Rattle.spec_core.specs.Sig.{Sig}
 use Rattle.clause_core.specs.declared.steps.Step.{Step}
-use Rattle.clause_core.specs.declared.steps.Step.TheVariants.{Trivial, Match, Absurd, Subsume, ByLemma, Rule, Case, Decompose, Clash, Drop}
+use Rattle.clause_core.specs.declared.steps.Step.TheVariants.{Trivial, Match, Absurd, Subsume, ByLemma, Rule, Case}
+use Rattle.clause_core.specs.declared.steps.Step.TheVariants.{Decompose, Clash, Drop}
 use Rattle.clause_core.specs.declared.steps.Step.TheVariants.{Solve, Cover, Generalize, Context, Hyp, Lemma}
 use Rattle.proof_script.specs.Faults.{IsOneLine, whole_lines}
 use Rattle.proof_script.specs.LineWords.{IsStepLine}
@@ -17,7 +19,8 @@ use Rattle.proof_script.proofs.SameTerms.{names_differ}
 use Rattle.proof_script.proofs.StepReads.{step_reads}
 use Rattle.session_core.specs.declared.commands.Command.{Command}
 use Rattle.session_core.specs.declared.commands.Command.TheVariants.{Goal, Step as of_step, Undo}
-use Rattle.session_core.specs.CommandText.{most_commands, Spells, SpellsSome, AreCommands, IsStuck, not_ended, strange, too_many}
+use Rattle.session_core.specs.CommandText.{most_commands, Spells, SpellsSome, AreCommands, IsStuck, not_ended, strange}
+use Rattle.session_core.specs.CommandText.{too_many}
 use Rattle.session_core.specs.CommandText.{IsFaultyCommand}
 
 -- the first line is one

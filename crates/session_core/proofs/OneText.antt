@@ -12,7 +12,8 @@ use Rattle.session_core.specs.declared.errors.SessionError.{SessionError}
 use Rattle.session_core.specs.States.{State, start, pending}
 use Rattle.session_core.specs.Accepting.{Accepts}
 use Rattle.session_core.specs.Refusals.{IsRefusedFor, tests}
-use Rattle.session_core.specs.SessionText.{error_text, ok_line, refused_line, is_open, Replies, accepted, refused, taken_back}
+use Rattle.session_core.specs.SessionText.{error_text, ok_line, refused_line, is_open, Replies, accepted, refused}
+use Rattle.session_core.specs.SessionText.{taken_back}
 use Rattle.session_core.specs.SessionText.{nothing_to_undo, RepliesAll, no_more, then, IsSessionText}
 use Rattle.session_core.specs.Sessions.{IsStateOf}
 use Rattle.session_core.specs.Sound.{report_of}

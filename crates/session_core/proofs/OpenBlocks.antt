@@ -41,7 +41,8 @@ use Rattle.session_core.specs.States.{Work, nodes_at, with_step, without_step}
 use Rattle.session_core.specs.Accepting.{NextMakes}
 use Rattle.session_core.specs.Kept.{Kept}
 use Rattle.session_core.specs.declared.errors.SessionError.{SessionError}
-use Rattle.session_core.specs.declared.errors.SessionError.TheVariants.{GoalUnderWork, UnknownGoal, GoalTwice, NoGoal, Step as undefined}
+use Rattle.session_core.specs.declared.errors.SessionError.TheVariants.{GoalUnderWork, UnknownGoal, GoalTwice, NoGoal}
+use Rattle.session_core.specs.declared.errors.SessionError.TheVariants.{Step as undefined}
 use Rattle.session_core.specs.declared.errors.SessionError.TheVariants.{NotSmaller, Limit, OutOfMemory}
 use Rattle.session_core.specs.Taking.{IsOpenGoal, IsStopped, MakesRelated}
 use Rattle.session_core.proofs.OpenGoals.{all_last, open_counts}

@@ -1,5 +1,6 @@
 -- Whether a goal is under work, by what is kept of the goals, and which goals are proved.
-use Rattle.std.proofs.Common.{◌≡◌, ◌⊎◌, ℕ, List, [], ◌∷◌, ◌++◌, Some, None, inl, inr, refl, sym, ◌∙◌, ap, subst, arith, length, get_or, take, ◌-◌}
+use Rattle.std.proofs.Common.{◌≡◌, ◌⊎◌, ℕ, List, [], ◌∷◌, ◌++◌, Some, None, inl, inr, refl, sym, ◌∙◌, ap, subst, arith}
+use Rattle.std.proofs.Common.{length, get_or, take, ◌-◌}
 use Rattle.std.proofs.Common.{map, append_assoc}
 use Rattle.std.specs.Prelude.{Option, Contains, slice_get}
 use Rattle.std.specs.List.{AllByRecursion}
@@ -231,7 +232,8 @@ module _ (above : Tree → Tree → Type 0) (spec : Spec) (fine : IsWellSorted s
     ]
 
     -- the goal that is read at the last place is the one under work, and the goals before it are proved
-    pub record OpenedGoal (state : State) (goals : List Kept) (o : OpenAt state goals) (its : KeptGoal) (numbers : List ℕ) :
+    pub record OpenedGoal (state : State) (goals : List Kept) (o : OpenAt state goals) (its : KeptGoal)
+        (numbers : List ℕ) :
         Type 0 where
       pub is : kept_of its ≡ o.last
       pub under : IsOpenGoal above spec state.claims o.work (kept_of its)
@@ -249,5 +251,6 @@ module _ (above : Tree → Tree → Type 0) (spec : Spec) (fine : IsWellSorted s
         record {
           is = is;
           under = subst (λ x. IsOpenGoal above spec state.claims o.work x) (sym is) o.open_goal;
-          proved = subst (λ ns. AreProved spec state.claims ns) (sym same) (numbers_proved state.claims o.front o.finished);
+          proved = subst (λ ns. AreProved spec state.claims ns) (sym same)
+              (numbers_proved state.claims o.front o.finished);
         }

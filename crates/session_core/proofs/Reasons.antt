@@ -2,7 +2,8 @@
 use Rattle.std.proofs.Common.{◌≡◌, ℕ, ◌<◌, inl, inr, refl, ap, arith}
 use Rattle.spec_core.specs.Findings.{test, each, First}
 use Rattle.clause_core.specs.declared.answers.Why.{Why}
-use Rattle.clause_core.specs.declared.answers.Why.TheVariants.{NoSuchNode, NoSuchPlace, NoSuchRule, DoesNotFit, NotProvedBefore, Sort}
+use Rattle.clause_core.specs.declared.answers.Why.TheVariants.{NoSuchNode, NoSuchPlace, NoSuchRule, DoesNotFit}
+use Rattle.clause_core.specs.declared.answers.Why.TheVariants.{NotProvedBefore, Sort}
 use Rattle.clause_core.specs.declared.answers.Why.TheVariants.{NotCovering, Limit}
 use Rattle.acceptance.specs.Refusals.{all_reasons}
 use Rattle.session_core.specs.declared.errors.SessionError.{SessionError}

@@ -1,5 +1,6 @@
 -- The claims that commands begin with, one by one.
-use Rattle.std.proofs.Common.{◌≡◌, ℕ, zero, suc, ◌+◌, ◌<◌, List, [], ◌∷◌, ◌++◌, refl, sym, ◌∙◌, ap, subst, arith, length}
+use Rattle.std.proofs.Common.{◌≡◌, ℕ, zero, suc, ◌+◌, ◌<◌, List, [], ◌∷◌, ◌++◌, refl, sym, ◌∙◌, ap, subst, arith}
+use Rattle.std.proofs.Common.{length}
 use Rattle.std.proofs.Common.{length-append, get_or, take, drop, append_assoc}
 use Rattle.std.specs.Prelude.{flat_map}
 use Rattle.std.proofs.lemmas.List.{append-nil, length-map}
@@ -10,7 +11,8 @@ use Rattle.session_core.specs.declared.commands.Command.{Command}
 use Rattle.session_core.specs.declared.commands.Command.TheVariants.{Goal, Step as of_step}
 use Rattle.session_core.specs.Kept.{Kept}
 use Rattle.session_core.specs.States.{proves_named}
-use Rattle.session_core.specs.Written.{AreWritten, BeginWithClaims, BeginsWithGoal, claim_commands, goal_commands, step_commands, steps_in}
+use Rattle.session_core.specs.Written.{AreWritten, BeginWithClaims, BeginsWithGoal, claim_commands, goal_commands}
+use Rattle.session_core.specs.Written.{step_commands, steps_in}
 
 -- commands tell their steps
 pub same_steps : (xs ys : List Step) → step_commands xs ≡ step_commands ys → xs ≡ ys

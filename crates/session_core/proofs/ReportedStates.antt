@@ -1,5 +1,6 @@
 -- A session's state: its report, and the node that the next step belongs to.
-use Rattle.std.proofs.Common.{◌≡◌, ℕ, List, [], ◌∷◌, ◌++◌, Some, None, inl, inr, refl, sym, ◌∙◌, ap, subst, arith, length}
+use Rattle.std.proofs.Common.{◌≡◌, ℕ, List, [], ◌∷◌, ◌++◌, Some, None, inl, inr, refl, sym, ◌∙◌, ap, subst, arith}
+use Rattle.std.proofs.Common.{length}
 use Rattle.std.specs.Prelude.{MatchOption, Option, slice_get}
 use Rattle.std.proofs.lemmas.List.{length-map}
 use Rattle.term_core.specs.Tree.{Tree}

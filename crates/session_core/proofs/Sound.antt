@@ -1,5 +1,6 @@
 -- Each state has claims that make an accepted report, and a goal under work that can go on.
-use Rattle.std.proofs.Common.{◌≡◌, ℕ, zero, suc, ◌+◌, ◌≤◌, List, [], ◌∷◌, ◌++◌, Some, refl, sym, ◌∙◌, ap, subst, arith, length}
+use Rattle.std.proofs.Common.{◌≡◌, ℕ, zero, suc, ◌+◌, ◌≤◌, List, [], ◌∷◌, ◌++◌, Some, refl, sym, ◌∙◌, ap, subst, arith}
+use Rattle.std.proofs.Common.{length}
 use Rattle.std.proofs.Common.{length-append}
 use Rattle.std.specs.Prelude.{flat_map, codes, map}
 use Rattle.std.proofs.lemmas.Grind.{flat_map-append}
@@ -18,7 +19,8 @@ use Rattle.proof_script.specs.Steps.{step_line}
 use Rattle.proof_script.specs.Words.{fixed, name, number, lines_text}
 use Rattle.session_core.specs.declared.commands.Command.{Command}
 use Rattle.session_core.specs.declared.commands.Command.TheVariants.{Goal, Step as of_step, Undo}
-use Rattle.session_core.specs.States.{Work, State, start, pending, proves, settled_by, settled, with_step, without_step, nodes_at}
+use Rattle.session_core.specs.States.{Work, State, start, pending, proves, settled_by, settled, with_step, without_step}
+use Rattle.session_core.specs.States.{nodes_at}
 use Rattle.session_core.specs.Accepting.{TakesGoal, TakesStep, Accepts, NextMakes}
 use Rattle.session_core.specs.Sessions.{Lead, IsStateOf}
 use Rattle.session_core.specs.Sound.{IsUnderWork, AreUnderWork, IsSound}

@@ -1,5 +1,6 @@
 -- A step that is added to the goal under work, after its tests.
-use Rattle.std.proofs.Common.{◌≡◌, ℕ, ◌+◌, ◌-◌, ◌<◌, List, [], ◌∷◌, ◌++◌, Ok, Err, inl, inr, refl, sym, ◌∙◌, ap, subst, arith, length}
+use Rattle.std.proofs.Common.{◌≡◌, ℕ, ◌+◌, ◌-◌, ◌<◌, List, [], ◌∷◌, ◌++◌, Ok, Err, inl, inr, refl, sym, ◌∙◌, ap, subst}
+use Rattle.std.proofs.Common.{arith, length}
 use Rattle.std.proofs.Common.{length-append, get_or, map, take}
 use Rattle.std.specs.Prelude.{Some, slice_get}
 use Rattle.std.proofs.lemmas.List.{length-map}
@@ -25,7 +26,8 @@ use Rattle.inference_rules.specs.Answers.{clauses_of as clauses_in}
 use Rattle.proof_script.specs.Steps.{step_line}
 use Rattle.proof_script.specs.Words.{line_text, lines_text}
 use Rattle.session_core.specs.declared.errors.SessionError.{SessionError}
-use Rattle.session_core.specs.declared.errors.SessionError.TheVariants.{GoalUnderWork, UnknownGoal, GoalTwice, NoGoal, Step as undefined}
+use Rattle.session_core.specs.declared.errors.SessionError.TheVariants.{GoalUnderWork, UnknownGoal, GoalTwice, NoGoal}
+use Rattle.session_core.specs.declared.errors.SessionError.TheVariants.{Step as undefined}
 use Rattle.session_core.specs.declared.errors.SessionError.TheVariants.{NotSmaller, Limit, OutOfMemory}
 use Rattle.session_core.specs.States.{Work, nodes_at, with_step}
 use Rattle.session_core.specs.Accepting.{IsNeither, NextMakes, text_length}
@@ -34,7 +36,8 @@ use Rattle.session_core.specs.Lengths.{proved_line, steps_length}
 use Rattle.session_core.specs.Refusals.{IsNotSmaller}
 use Rattle.session_core.specs.Taking.{IsOpenGoal, IsStopped, IsTaken, TestsLast, with_made}
 use Rattle.session_core.proofs.LastEntries.{shorter}
-use Rattle.session_core.proofs.OpenBlocks.{allowed_after, finished_without, links_are_allowed, nodes_after, none_without, whole_after}
+use Rattle.session_core.proofs.OpenBlocks.{allowed_after, finished_without, links_are_allowed, nodes_after}
+use Rattle.session_core.proofs.OpenBlocks.{none_without, whole_after}
 
 -- the goal that is read at a place
 pub goal_read : (goals : List Goal) (n : ℕ) (g h : Goal) → n < length goals → g ≡ get_or goals n g →

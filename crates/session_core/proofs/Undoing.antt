@@ -1,6 +1,7 @@
 -- What a session keeps of a state, by what it keeps of the state after one more command: the last goal
 -- is dropped, or the last link and the nodes of its children are.
-use Rattle.std.proofs.Common.{◌≡◌, inl, inr, ℕ, zero, suc, ◌+◌, ◌-◌, ◌≤◌, List, [], ◌∷◌, ◌++◌, Some, None, refl, sym, ◌∙◌, ap, subst, arith}
+use Rattle.std.proofs.Common.{◌≡◌, inl, inr, ℕ, zero, suc, ◌+◌, ◌-◌, ◌≤◌, List, [], ◌∷◌, ◌++◌, Some, None, refl, sym}
+use Rattle.std.proofs.Common.{◌∙◌, ap, subst, arith}
 use Rattle.std.proofs.Common.{length, map, append_assoc}
 use Rattle.std.specs.Prelude.{flat_map, Ok, Err}
 use Rattle.std.proofs.lemmas.Grind.{flat_map-append}
@@ -25,7 +26,8 @@ use Rattle.clause_core.specs.declared.answers.Why.TheVariants.{Limit}
 use Rattle.acceptance.proofs.OneBlock.{steps_one}
 use Rattle.acceptance.proofs.WholeBlocks.{as_many}
 use Rattle.block_links.specs.Links.{links_of}
-use Rattle.session_core.specs.States.{Work, State, pending, pending_of, proves, settled_by, with_step, without_step, nodes_at}
+use Rattle.session_core.specs.States.{Work, State, pending, pending_of, proves, settled_by, with_step, without_step}
+use Rattle.session_core.specs.States.{nodes_at}
 use Rattle.session_core.specs.Accepting.{TakesGoal, TakesStep}
 use Rattle.session_core.specs.Sound.{IsUnderWork, AreUnderWork, IsSound}
 use Rattle.session_core.specs.Value.{LastStep, without_last}

@@ -1,5 +1,6 @@
 -- The sessions of the examples, command by command.
-use Rattle.std.proofs.Common.{◌≡◌, ◌⊎◌, ℕ, ◌<◌, List, [], ◌∷◌, ◌++◌, ◌∙◌, true, Some, None, ap, inl, inr, refl, subst, arith, false, zero}
+use Rattle.std.proofs.Common.{◌≡◌, ◌⊎◌, ℕ, ◌<◌, List, [], ◌∷◌, ◌++◌, ◌∙◌, true, Some, None, ap, inl, inr, refl, subst}
+use Rattle.std.proofs.Common.{arith, false, zero}
 use Rattle.std.proofs.Common.{suc}
 use Rattle.std.specs.Prelude.{codes, slice_get, take}
 use Rattle.std.specs.Fmt.{digits}
@@ -7,7 +8,8 @@ use Rattle.std.specs.List.{AllByRecursion}
 use Rattle.std.proofs.lemmas.List.Sorted.{IsPermutation-refl}
 use Rattle.term_core.specs.Tree.{var, app, none, some, instance}
 use Rattle.term_core.proofs.Items.{all_at}
-use Rattle.spec_core.specs.Naturals.{naturals, naturals_sig, plus_succ_rule, plus_term, same_goal, unit_goal, zero_term, succ_term}
+use Rattle.spec_core.specs.Naturals.{naturals, naturals_sig, plus_succ_rule, plus_term, same_goal, unit_goal, zero_term}
+use Rattle.spec_core.specs.Naturals.{succ_term}
 use Rattle.spec_core.specs.Findings.{test}
 use Rattle.spec_core.specs.declared.records.Equation.{Equation}
 use Rattle.term_core.specs.Contexts.{hole}
@@ -41,15 +43,18 @@ use Rattle.acceptance.specs.Examples.{by_cases, by_rule, proves_unit, unit_steps
 use Rattle.session_core.specs.declared.commands.Command.{Command}
 use Rattle.session_core.specs.declared.commands.Command.TheVariants.{Goal, Step as step_of}
 use Rattle.session_core.specs.States.{Work, State, start, with_step}
-use Rattle.session_core.specs.declared.errors.SessionError.TheVariants.{GoalUnderWork, NoGoal, NotSmaller, Step as undefined, UnknownGoal}
+use Rattle.session_core.specs.declared.errors.SessionError.TheVariants.{GoalUnderWork, NoGoal, NotSmaller}
+use Rattle.session_core.specs.declared.errors.SessionError.TheVariants.{Step as undefined, UnknownGoal}
 use Rattle.session_core.specs.Accepting.{IsNeither, NextMakes, Accepts}
 use Rattle.session_core.specs.Refusals.{IsUndefined, IsRefusedFor}
-use Rattle.session_core.specs.SessionText.{ok_line, refused_line, accepted, refused, taken_back, nothing_to_undo, no_more, then}
+use Rattle.session_core.specs.SessionText.{ok_line, refused_line, accepted, refused, taken_back, nothing_to_undo}
+use Rattle.session_core.specs.SessionText.{no_more, then}
 use Rattle.session_core.specs.SessionText.{IsSessionText}
 use Rattle.session_core.specs.Examples.{by_first, with_undo, circular, refusals}
 use Rattle.session_core.specs.Sessions.{IsStateOf}
 use Rattle.acceptance.proofs.OneBlock.{steps_one}
-use Rattle.acceptance.proofs.UnitProof.{at_zero, at_succ, both_cases, by_goal, makes_clauses, zero_within, succ_within, made, makes, shown}
+use Rattle.acceptance.proofs.UnitProof.{at_zero, at_succ, both_cases, by_goal, makes_clauses, zero_within, succ_within}
+use Rattle.acceptance.proofs.UnitProof.{made, makes, shown}
 use Rattle.acceptance.proofs.UnitProof.{start_within}
 use Rattle.session_core.proofs.OneState.{lead_more, reason_one, made_not_undefined}
 use Rattle.session_core.proofs.Reasons.{first_reason}

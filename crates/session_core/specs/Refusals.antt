@@ -16,7 +16,8 @@ use Rattle.acceptance.specs.Strict.{AllAreAllowed}
 use Rattle.session_core.specs.declared.commands.Command.{Command}
 use Rattle.session_core.specs.declared.commands.Command.TheVariants.{Goal as of_goal, Step as of_step, Undo}
 use Rattle.session_core.specs.declared.errors.SessionError.{SessionError}
-use Rattle.session_core.specs.declared.errors.SessionError.TheVariants.{GoalUnderWork, UnknownGoal, GoalTwice, NoGoal, Step as undefined, NotSmaller, Limit}
+use Rattle.session_core.specs.declared.errors.SessionError.TheVariants.{GoalUnderWork, UnknownGoal, GoalTwice, NoGoal}
+use Rattle.session_core.specs.declared.errors.SessionError.TheVariants.{Step as undefined, NotSmaller, Limit}
 use Rattle.session_core.specs.States.{Work, State, nodes_at, without_step, with_step}
 use Rattle.session_core.specs.Accepting.{IsNeither, NextMakes, text_length}
 

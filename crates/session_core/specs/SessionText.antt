@@ -8,7 +8,8 @@ use Rattle.proof_script.specs.Claims.{report_text}
 use Rattle.session_core.specs.declared.commands.Command.{Command}
 use Rattle.session_core.specs.declared.commands.Command.TheVariants.{Undo}
 use Rattle.session_core.specs.declared.errors.SessionError.{SessionError}
-use Rattle.session_core.specs.declared.errors.SessionError.TheVariants.{GoalUnderWork, UnknownGoal, GoalTwice, NoGoal, Step, NotSmaller, Limit, OutOfMemory}
+use Rattle.session_core.specs.declared.errors.SessionError.TheVariants.{GoalUnderWork, UnknownGoal, GoalTwice, NoGoal}
+use Rattle.session_core.specs.declared.errors.SessionError.TheVariants.{Step, NotSmaller, Limit, OutOfMemory}
 use Rattle.session_core.specs.States.{State, Work, pending}
 use Rattle.session_core.specs.Accepting.{Accepts}
 use Rattle.session_core.specs.Refusals.{IsRefusedFor}

@@ -15,7 +15,8 @@ use Rattle.block_links.specs.Links.{links_of}
 use Rattle.proof_script.specs.Words.{line_text}
 use Rattle.session_core.specs.declared.commands.Command.{Command}
 use Rattle.session_core.specs.declared.errors.SessionError.{SessionError}
-use Rattle.session_core.specs.declared.errors.SessionError.TheVariants.{Step as undefined, NotSmaller, Limit, OutOfMemory}
+use Rattle.session_core.specs.declared.errors.SessionError.TheVariants.{Step as undefined, NotSmaller, Limit}
+use Rattle.session_core.specs.declared.errors.SessionError.TheVariants.{OutOfMemory}
 use Rattle.session_core.specs.States.{State, Work, pending, nodes_at, with_step, without_step}
 use Rattle.session_core.specs.Accepting.{Accepts, IsNeither, NextMakes, text_length}
 use Rattle.session_core.specs.Refusals.{IsNotSmaller, IsTooLong, IsRefusedFor}

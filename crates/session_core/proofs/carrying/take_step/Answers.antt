@@ -24,7 +24,8 @@ returns-then-not-is_open g c = λ state k.
     let one : OneRelation (g.O.TermOrder.above c.args.admitted.now.order) =
     rw (← c.admitted.view_is) c.one_relation.ensures in
     let items = c.args.goals.now.items in
-    let closed : HasOpenLast (map kept_of c.args.goals.now.items) → ⊥ = λ h. (let q : false ≡ true = sym c.if-not-is_open.true ∙
+    let closed : HasOpenLast (map kept_of c.args.goals.now.items) → ⊥ = λ h.
+    (let q : false ≡ true = sym c.if-not-is_open.true ∙
     c.is_open.ensures.1 (subst (λ gs. HasOpenLast (map kept_of gs)) (sym c.as_slice.ensures.value) h) in cc) in
     (refl, inl ((idle above spec fine one state (map kept_of items) k [] closed).none, refl))
 
@@ -38,7 +39,8 @@ overflow_sub-last g c =
     let one : OneRelation (g.O.TermOrder.above c.args.admitted.now.order) =
     rw (← c.admitted.view_is) c.one_relation.ensures in
     let items = c.args.goals.now.items in
-    let seen = subst (λ gs. HasOpenLast (map kept_of gs)) c.as_slice.ensures.value (c.is_open.ensures.0 c.if-not-is_open.false) in
+    let seen = subst (λ gs. HasOpenLast (map kept_of gs)) c.as_slice.ensures.value
+    (c.is_open.ensures.0 c.if-not-is_open.false) in
     let o = open_by above spec fine one state (map kept_of items) k seen in
     omega (
       arith,
@@ -50,7 +52,13 @@ overflow_sub-last g c =
 
 pub slice_bounds-numbers_of-end : goal.slice_bounds-numbers_of-end
 slice_bounds-numbers_of-end g c =
-    omega (arith, c.len-last.ensures, c.as_slice-2.ensures.len, length-take (c.len-last.result - 1) c.as_slice-2.result.now)
+    omega (
+      arith,
+      c.len-last.ensures,
+      c.as_slice-2.ensures.len,
+      length-take (c.len-last.result - 1)
+          c.as_slice-2.result.now,
+    )
 
 pub returns-in_err-proved : goal.returns-in_err-proved
 returns-in_err-proved g c = λ state k.
@@ -67,7 +75,8 @@ index_mut-goal-requires g c =
     let one : OneRelation (g.O.TermOrder.above c.args.admitted.now.order) =
     rw (← c.admitted.view_is) c.one_relation.ensures in
     let items = c.args.goals.now.items in
-    let seen = subst (λ gs. HasOpenLast (map kept_of gs)) c.as_slice.ensures.value (c.is_open.ensures.0 c.if-not-is_open.false) in
+    let seen = subst (λ gs. HasOpenLast (map kept_of gs)) c.as_slice.ensures.value
+    (c.is_open.ensures.0 c.if-not-is_open.false) in
     let o = open_by above spec fine one state (map kept_of items) k seen in
     omega (
       arith,
@@ -87,7 +96,8 @@ take-requires g c =
     let one : OneRelation (g.O.TermOrder.above c.args.admitted.now.order) =
     rw (← c.admitted.view_is) c.one_relation.ensures in
     let items = c.args.goals.now.items in
-    let seen = subst (λ gs. HasOpenLast (map kept_of gs)) c.as_slice.ensures.value (c.is_open.ensures.0 c.if-not-is_open.false) in
+    let seen = subst (λ gs. HasOpenLast (map kept_of gs)) c.as_slice.ensures.value
+    (c.is_open.ensures.0 c.if-not-is_open.false) in
     let o = open_by above spec fine one state (map kept_of items) k seen in
     let n : c.len-last.result - 1 ≡ length items - 1 = omega (arith, c.len-last.ensures) in
     let numbers =
@@ -105,7 +115,8 @@ returns-in_err-take g c = λ state k.
     let one : OneRelation (g.O.TermOrder.above c.args.admitted.now.order) =
     rw (← c.admitted.view_is) c.one_relation.ensures in
     let items = c.args.goals.now.items in
-    let seen = subst (λ gs. HasOpenLast (map kept_of gs)) c.as_slice.ensures.value (c.is_open.ensures.0 c.if-not-is_open.false) in
+    let seen = subst (λ gs. HasOpenLast (map kept_of gs)) c.as_slice.ensures.value
+    (c.is_open.ensures.0 c.if-not-is_open.false) in
     let o = open_by above spec fine one state (map kept_of items) k seen in
     let n : c.len-last.result - 1 ≡ length items - 1 = omega (arith, c.len-last.ensures) in
     let numbers =
@@ -117,7 +128,8 @@ returns-in_err-take g c = λ state k.
     let p = err_from_is_err_and c.from_residual-in_err-take.result c.from_residual-in_err-take.ensures.1 in
     let stops = c.in_err-take.ensures state.claims o.work w.under w.proved in
     let same = set ∙ ap (λ x. o.front ++ x ∷ []) (stops.0 ∙ w.is) ∙ sym o.is in
-    rw (p.1, p.2) (carried_error above spec fine one state (map kept_of items) k o c.args.step.now c.in_err-take.field-0.0
+    rw (p.1, p.2) (carried_error above spec fine one state (map kept_of items) k o c.args.step.now
+    c.in_err-take.field-0.0
     (map kept_of (slice_set items (c.len-last.result - 1) c.take.new.self)) same stops.1)
 
 pub overflow_sub-result : goal.overflow_sub-result
@@ -130,7 +142,8 @@ overflow_sub-result g c =
     let one : OneRelation (g.O.TermOrder.above c.args.admitted.now.order) =
     rw (← c.admitted.view_is) c.one_relation.ensures in
     let items = c.args.goals.now.items in
-    let seen = subst (λ gs. HasOpenLast (map kept_of gs)) c.as_slice.ensures.value (c.is_open.ensures.0 c.if-not-is_open.false) in
+    let seen = subst (λ gs. HasOpenLast (map kept_of gs)) c.as_slice.ensures.value
+    (c.is_open.ensures.0 c.if-not-is_open.false) in
     let o = open_by above spec fine one state (map kept_of items) k seen in
     let n : c.len-last.result - 1 ≡ length items - 1 = omega (arith, c.len-last.ensures) in
     let numbers =
@@ -141,7 +154,8 @@ overflow_sub-result g c =
     let t = subst (λ x. IsTaken above spec state.claims o.work c.args.step.now x (kept_of c.take.new.self)) w.is
     (c.in_ok-take.ensures state.claims o.work w.under w.proved) in
     let many = length-map c.take.new.self.taken.nodes.items (λ (x : Node). x.clause) in
-    let few = taken_counts above spec fine one state (map kept_of items) k o c.args.step.now (kept_of c.take.new.self) t in
+    let few = taken_counts above spec fine one state (map kept_of items) k o c.args.step.now (kept_of c.take.new.self)
+    t in
     omega (arith, c.len.ensures, c.len-2.ensures, many, few.0)
 
 pub overflow_cast-result : goal.overflow_cast-result
@@ -154,7 +168,8 @@ overflow_cast-result g c =
     let one : OneRelation (g.O.TermOrder.above c.args.admitted.now.order) =
     rw (← c.admitted.view_is) c.one_relation.ensures in
     let items = c.args.goals.now.items in
-    let seen = subst (λ gs. HasOpenLast (map kept_of gs)) c.as_slice.ensures.value (c.is_open.ensures.0 c.if-not-is_open.false) in
+    let seen = subst (λ gs. HasOpenLast (map kept_of gs)) c.as_slice.ensures.value
+    (c.is_open.ensures.0 c.if-not-is_open.false) in
     let o = open_by above spec fine one state (map kept_of items) k seen in
     let n : c.len-last.result - 1 ≡ length items - 1 = omega (arith, c.len-last.ensures) in
     let numbers =
@@ -165,7 +180,8 @@ overflow_cast-result g c =
     let t = subst (λ x. IsTaken above spec state.claims o.work c.args.step.now x (kept_of c.take.new.self)) w.is
     (c.in_ok-take.ensures state.claims o.work w.under w.proved) in
     let many = length-map c.take.new.self.taken.nodes.items (λ (x : Node). x.clause) in
-    let few = taken_counts above spec fine one state (map kept_of items) k o c.args.step.now (kept_of c.take.new.self) t in
+    let few = taken_counts above spec fine one state (map kept_of items) k o c.args.step.now (kept_of c.take.new.self)
+    t in
     omega (arith, c.len.ensures, c.len-2.ensures, many, few.1)
 
 pub returns : goal.returns
@@ -176,7 +192,8 @@ returns g c = λ state k.
     let one : OneRelation (g.O.TermOrder.above c.args.admitted.now.order) =
     rw (← c.admitted.view_is) c.one_relation.ensures in
     let items = c.args.goals.now.items in
-    let seen = subst (λ gs. HasOpenLast (map kept_of gs)) c.as_slice.ensures.value (c.is_open.ensures.0 c.if-not-is_open.false) in
+    let seen = subst (λ gs. HasOpenLast (map kept_of gs)) c.as_slice.ensures.value
+    (c.is_open.ensures.0 c.if-not-is_open.false) in
     let o = open_by above spec fine one state (map kept_of items) k seen in
     let n : c.len-last.result - 1 ≡ length items - 1 = omega (arith, c.len-last.ensures) in
     let numbers =
@@ -190,5 +207,6 @@ returns g c = λ state k.
     let many = length-map c.take.new.self.taken.nodes.items (λ (x : Node). x.clause) in
     let done = carried above spec fine one state (map kept_of items) k o c.args.step.now (kept_of c.take.new.self)
     (c.len.result - c.len-2.result) t (omega (arith, c.len.ensures, c.len-2.ensures, many)) in
-    subst (λ gs. CarriesOut above spec state (of_step c.args.step.now) (map kept_of items) gs (Ok (c.len.result - c.len-2.result)))
+    subst (λ gs. CarriesOut above spec state (of_step c.args.step.now) (map kept_of items) gs
+    (Ok (c.len.result - c.len-2.result)))
     (sym set) done
