@@ -37,7 +37,7 @@ use Rattle.script_trim.specs.declared.blocks.Fit.{Fit}
 use Rattle.script_trim.specs.declared.blocks.KeptBlock.{KeptBlock}
 use Rattle.script_trim.specs.Closing.{closing_steps}
 use Rattle.script_trim.specs.Cut.{new_number, renumbered, staying, Descends, IsCut, RefersToStaying}
-use Rattle.script_trim.specs.Cutting.{ClosesAt, FitsAt, IsCuttable}
+use Rattle.script_trim.specs.Cutting.{ClosesAt, FitsAt, IsCuttable, RefersToItself}
 use Rattle.script_trim.specs.Flags.{flag_of, AreInOrder, RefersWithin, TellStaying}
 use Rattle.script_trim.specs.Kept.{kept_report, IsKept}
 use Rattle.script_trim.specs.Keys.{key_of}
@@ -57,7 +57,8 @@ use Rattle.script_trim.proofs.Prefixes.{RefersBelow, refers_below}
 use Rattle.script_trim.proofs.QuickTests.{finished, less_allowed, necessary, sufficient}
 use Rattle.script_trim.proofs.ReferredNodes.{made_there}
 use Rattle.block_steps.proofs.StepsInRange.{claim_in_range}
-use Rattle.script_trim.proofs.StayingChildren.{there}
+use Rattle.script_trim.proofs.StayingChildren.{there, stays_before}
+use Rattle.script_trim.proofs.Unclosable.{not_by_itself}
 
 -- the node that a step refers to stays by the test whether its number is below
 below_stays : (n : ℕ) (step : Step) → RefersBelow n step → RefersToStaying (λ j. ltb j n) step
@@ -201,6 +202,44 @@ module _
       refs = closed_refers;
     }
 
+    -- where the step closes the node, it makes what is kept of it, and not a reference to the node itself
+    module _ (rest : List Step) (c : Closes above spec whole number i fit.step rest) where
+      quick : CanClose above spec whole number i fit.step rest
+      quick = necessary above one spec fine whole kept.accepted number i fit.step rest c
+
+      same_goal : quick.claim.goal ≡ kept.claim.goal
+      same_goal = goal_same above one spec fine whole number number refl quick.claim kept.claim
+
+      same_made : quick.claim.made ≡ made
+      same_made = made_same above one spec fine whole number number refl quick.claim kept.claim
+
+      same_closed : quick.closed ≡ fit.made
+      same_closed =
+          let p : StepMakes above spec usable (nodes_of start (take i made)) i fit.step quick.closed =
+          subst (λ ns. StepMakes above spec usable ns i fit.step quick.closed)
+          (λ k. nodes_of (goal_clause (same_goal k)) (take i (same_made k))) quick.closes in
+          let e : quick.closed ∷ [] ≡ fit.made ∷ [] = steps_one above one spec fine usable
+          (nodes_of start (take i made)) i (fit.step ∷ []) (quick.closed ∷ []) (fit.made ∷ []) (p, tt)
+          (closes, tt) in
+          cc
+
+      pub not_itself : RefersToItself i fit.made.refs → ⊥
+      not_itself (a, r, get, node, sides) =
+          let long : length quick.claim.made ≡ length made = ap (λ ms. length ms) same_made in
+          let steps : length quick.claim.made ≡ length quick.claim.steps =
+          as_many above spec usable (goal_clause quick.claim.goal ∷ []) 0 quick.claim.steps quick.claim.made
+          quick.claim.makes in
+          let there : i < length quick.claim.steps = omega (arith, within, long, steps, long_links, many) in
+          let stay = stays_before quick.cut.stays i above spec usable (goal_clause quick.claim.goal)
+          quick.claim.steps quick.claim.made quick.claim.makes
+          (finished above one spec fine whole kept.accepted number quick.claim) quick.cut.which there i
+          (omega arith) in
+          not_by_itself quick.cut.stays quick.claim.made i quick.closed stay (omega (arith, there, steps)) a r
+          (subst (λ (x : Children). slice_get x.refs a ≡ Some r) (sym same_closed) get) node sides quick.allowed
+        where
+          many : length block.links.items ≡ length made
+          many = ap (λ ls. length ls) kept.links ∙ length-map made links_of
+
     module _ (flags : List Bool) (told : TellStaying block.links.items i flags) where
       abbrev pub stays : ℕ → Bool
       stays = flag_of flags
@@ -231,14 +270,17 @@ module _
 
       -- why the step can't close the node
       module _ (rest : List Step) (c : Closes above spec whole number i fit.step rest) where
-        can : CanClose above spec whole number i fit.step rest
-        can = necessary above one spec fine whole kept.accepted number i fit.step rest c
+        abbrev can : CanClose above spec whole number i fit.step rest
+        can = quick rest c
 
         g : can.claim.goal ≡ kept.claim.goal
-        g = goal_same above one spec fine whole number number refl can.claim kept.claim
+        g = same_goal rest c
 
         m : can.claim.made ≡ made
-        m = made_same above one spec fine whole number number refl can.claim kept.claim
+        m = same_made rest c
+
+        one_made : can.closed ≡ fit.made
+        one_made = same_closed rest c
 
         s : can.claim.steps ≡ block.steps.items
         s = steps_same above one spec fine whole number number refl can.claim kept.claim ∙ kept.steps
@@ -265,16 +307,6 @@ module _
         must_be =
             its_cut.is ∙ ap (λ (t : ℕ → Bool). map (renumbered t)
             (staying t 0 (slice_set block.steps.items i fit.step))) same
-
-        one_made : can.closed ≡ fit.made
-        one_made =
-            let p : StepMakes above spec usable (nodes_of start (take i made)) i fit.step can.closed =
-            subst (λ ns. StepMakes above spec usable ns i fit.step can.closed)
-            (λ k. nodes_of (goal_clause (g k)) (take i (m k))) can.closes in
-            let e : can.closed ∷ [] ≡ fit.made ∷ [] = steps_one above one spec fine usable
-            (nodes_of start (take i made)) i (fit.step ∷ []) (can.closed ∷ []) (fit.made ∷ []) (p, tt)
-            (closes, tt) in
-            cc
 
         its_stays : ◌≡◌ {A = ℕ → Bool} can.cut.stays stays
         its_stays = λ j k. stays_one can.claim.steps can.claim.made i can.cut.stays stays can.cut.which which_can k j

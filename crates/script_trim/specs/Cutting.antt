@@ -5,7 +5,7 @@ use Rattle.spec_core.specs.declared.records.Spec.{Spec}
 use Rattle.clause_core.specs.declared.answers.Children.{Children}
 use Rattle.clause_core.specs.declared.answers.Reference.{Reference}
 use Rattle.clause_core.specs.declared.clauses.Clause.{Clause}
-use Rattle.clause_core.specs.declared.clauses.Relation.TheVariants.{Less}
+use Rattle.clause_core.specs.declared.clauses.Relation.TheVariants.{Less, Same}
 use Rattle.clause_core.specs.declared.reports.Report.{Report}
 use Rattle.clause_core.specs.declared.steps.Step.{Step}
 use Rattle.acceptance.specs.AllowedAnswers.{IsWholeBlock}
@@ -46,6 +46,11 @@ pub record IsLeft
   pub links :
       new.links.items ≡ map links_of (cut_made (flag_of flags) block.links.items i closed)
   pub hopeful : new.hopeful.items ≡ staying (flag_of flags) 0 block.hopeful.items
+
+-- one of the references is to node i, with the same sides
+abbrev pub RefersToItself : ℕ → List Reference → Type 0
+RefersToItself i refs =
+    (a : ℕ) × (r : Reference) × (slice_get refs a ≡ Some r) × (r.node ≡ i) × (r.relation ≡ Same)
 
 -- the answer whether everything is allowed where node i is closed, and what closes it makes this, by
 -- the links of the block: it is in any case where each reference is Less

@@ -3,10 +3,10 @@ ghost use Rattle.std.specs.Prelude.{IfOk, IsTrue, length, map, slice_get};
 ghost use Rattle.clause_core.specs.declared.answers.Child.{Child as ChildOf};
 ghost use Rattle.clause_core.specs.declared.answers.Children.{Children as ChildrenOf};
 ghost use Rattle.clause_core.specs.declared.answers.Reference.{Reference as ReferenceOf};
-ghost use Rattle.clause_core.specs.declared.clauses.Relation.TheVariants.{Less as less};
+ghost use Rattle.clause_core.specs.declared.clauses.Relation.TheVariants.{Less as less, Same as same};
 ghost use Rattle.acceptance.specs.AllowedAnswers.{IsWholeBlock};
 ghost use Rattle.block_links.specs.Links.{links_of, without_sides};
-ghost use Rattle.script_trim.specs.Cutting.{TellsAllowed};
+ghost use Rattle.script_trim.specs.Cutting.{RefersToItself, TellsAllowed};
 ghost use Rattle.script_trim.specs.Flags.{flag_of, AreNewNumbers, RefersWithin};
 ghost use Rattle.script_trim.specs.Made.{cut_made, made_renumbered, reference_renumbered};
 
@@ -130,6 +130,26 @@ pub(crate) fn are_allowed(
         Allowed::All => Ok(true),
         Allowed::Not { .. } => Ok(false),
     }
+}
+
+/// Whether one of these references of the node is to the node itself, with the same sides. That is
+/// never allowed, whatever is cut.
+pub(crate) fn refers_to_itself(refs: &[Reference], node: usize) -> bool
+    ensures { IsTrue result → RefersToItself node refs.now }
+{
+    for reference in refs {
+        if is_same(reference, node) {
+            return true;
+        }
+    }
+    false
+}
+
+/// Whether the reference is to this node and Same.
+fn is_same(reference: &Reference, node: usize) -> bool
+    ensures { IsTrue result ↔ ((reference.now.node ≡ node) × (reference.now.relation ≡ same)) }
+{
+    reference.node as usize == node && reference.relation == Relation::Same
 }
 
 /// Whether each reference is Less.

@@ -15,7 +15,7 @@ ghost use Rattle.script_trim.specs.Trimmed.{proves};
 
 use crate::blocks::{Fit, KeptBlock, NodeCut};
 use crate::copying::copy_step;
-use crate::cut_links::{are_allowed, cut_links};
+use crate::cut_links::{are_allowed, cut_links, refers_to_itself};
 use crate::flags::{
     keep, new_numbers, refers_to_staying, staying_nodes, with_new_number, with_other,
 };
@@ -56,6 +56,9 @@ pub(crate) fn rest_of<O: TermOrder>(
     clause_core::one_relation(&admitted.order);
     let steps = block.steps.as_slice();
     let links = block.links.as_slice();
+    if refers_to_itself(fit.made.refs.as_slice(), node) {
+        return Ok(None);
+    }
     let stays = staying_nodes(alloc, links, node)?;
     let stays = stays.as_slice();
     if !all_refer_to_staying(steps, node, &fit.step, stays) {

@@ -7,13 +7,27 @@ use Rattle.clause_core.specs.ClauseLaws.{OneRelation}
 use Rattle.acceptance.specs.AllowedAnswers.{IsWholeBlock}
 use Rattle.proof_script.specs.Claims.{claim_text}
 use Rattle.proof_script.specs.Ranges.{ClaimIsInRange}
-use Rattle.script_trim.specs.Cutting.{TellsAllowed}
+use Rattle.script_trim.specs.Cutting.{RefersToItself, TellsAllowed}
 use Rattle.script_trim.specs.Flags.{flag_of, AreInOrder, AreNewNumbers}
 use Rattle.script_trim.specs.Trimmed.{proves}
-use Rattle.script_trim.proofs.BlockRests.{in_order, whole_linked}
+use Rattle.script_trim.proofs.BlockRests.{in_order, not_itself, whole_linked}
 use Rattle.script_trim.proofs.RestFacts.{closed_in, closes_allowed, closes_refer, flags_few, links_long, links_refer}
 use Rattle.script_trim.proofs.RestFacts.{rest_in_range, rest_told, steps_long, whole_left}
 use Rattle.script_trim.proofs.cutting.rest_of.Goals as goal
+
+pub returns-then-refers_to_itself : goal.returns-then-refers_to_itself
+returns-then-refers_to_itself g c = λ kept others closes.
+    let above = g.O.TermOrder.above c.args.admitted.now.order in
+    let spec = c.args.admitted.now.spec in
+    let report = c.args.place.now.report.now in
+    let number = c.args.place.now.number in
+    let block = c.args.block.now in
+    let fine : IsWellSorted c.args.admitted.now.spec = rw (← c.admitted.view_is) c.admitted.invariant.0 in
+    let one : OneRelation (g.O.TermOrder.above c.args.admitted.now.order) = rw (← c.admitted.view_is)
+    c.one_relation.ensures in
+    not_itself above one spec fine report number block kept c.args.node c.requires.node c.args.fit.now
+    (c.requires.fits kept) others closes
+    (subst (λ rs. RefersToItself c.args.node rs) c.as_slice.ensures (c.if-refers_to_itself.ensures refl))
 
 pub staying_nodes-requires : goal.staying_nodes-requires
 staying_nodes-requires g c =
