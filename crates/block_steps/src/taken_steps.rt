@@ -1,4 +1,4 @@
-ghost use Rattle.std.specs.Prelude.{◌≡◌, ◌≤◌, ◌++◌, [], ◌∷◌, IfOk, OnOk, Contains, length};
+ghost use Rattle.std.specs.Prelude.{◌≡◌, ◌≤◌, ◌++◌, [], ◌∷◌, IfOk, OnErr, OnOk, Contains, length};
 ghost use Rattle.inference_rules.specs.Answers.{clauses_of};
 ghost use Rattle.inference_rules.specs.Nodes.{AreNodes, clauses_made};
 ghost use Rattle.block_links.specs.Links.{links_of};
@@ -61,18 +61,26 @@ impl TakenSteps {
         Ok(())
     }
 
-    /// Adds the children that a step makes as nodes, and the links to them.
+    /// Adds the children that a step makes as nodes, and the links to them; or nothing.
     pub fn add(&mut self, alloc: Global, made: Children) -> Result<(), OutOfMemory>
         ensures nodes { OnOk result (clauses_of self.new.nodes.items
             ≡ clauses_of self.old.nodes.items ++ clauses_made made) }
         ensures links { OnOk result (self.new.links.items
             ≡ self.old.links.items ++ links_of made ∷ []) }
+        ensures same_nodes { OnErr result (self.new.nodes.items ≡ self.old.nodes.items) }
+        ensures same_links { OnErr result (self.new.links.items ≡ self.old.links.items) }
     {
         let (clauses, links) = apart(alloc, made)?;
+        let mut nodes = Vec::with_capacity(alloc, clauses.len())?;
         for clause in clauses {
-            self.nodes.push(Node { clause })?;
+            nodes.push(Node { clause })?;
         }
-        self.links.push(links)?;
+        let before = self.nodes.len();
+        self.nodes.append(&mut nodes)?;
+        if self.links.push(links).is_err() {
+            self.nodes.truncate(before);
+            return Err(OutOfMemory);
+        }
         Ok(())
     }
 

@@ -33,7 +33,7 @@ mod words;
 pub use errors::StepLineError;
 pub use laws::{fault_examples, one_fault, one_report, refused_steps, worked_examples};
 pub use limits::MOST_CLAIM_BYTES;
-pub use line_words::{next_name, next_number};
+pub use line_words::{next_name, next_number, split_line};
 pub use names::is_report_name;
 pub use printing::{print_claim, print_header, print_report};
 pub use step_lines::read_step;

@@ -1,5 +1,6 @@
-ghost use Rattle.std.specs.Prelude.{ℕ, List, Bool, false, IfOk, MatchOption};
+ghost use Rattle.std.specs.Prelude.{◌≡◌, ◌++◌, ℕ, List, Bool, false, IfOk, MatchOption, codes};
 ghost use Rattle.spec_core.specs.Sig.{Sig};
+ghost use Rattle.proof_script.specs.Faults.{IsOneLine};
 ghost use Rattle.proof_script.specs.LineWords.{IsPlainWordAt, IsWordAt};
 ghost use Rattle.proof_script.specs.Words.{equation, name, number, side, variable};
 
@@ -10,7 +11,16 @@ use crate::terms::{after, ends, split_word};
 use std::alloc::Global;
 use term_core::{Name, OutOfMemory, VarId};
 
-/// The bytes of the word behind the blank at the front, and what follows them.
+/// The bytes before the first newline, and those after it.
+pub fn split_line(bytes: &[u8]) -> Option<(&[u8], &[u8])>
+    ensures { MatchOption result (IsOneLine bytes.now)
+        (λ p. IsOneLine p.0.now × (bytes.now ≡ (p.0.now ++ codes "\n") ++ p.1.now)) }
+{
+    let end = bytes.iter().position(|byte| *byte == b'\n')?;
+    Some((&bytes[..end], &bytes[end + 1..]))
+}
+
+/// The bytes of the word after the blank at the front, and what follows them.
 pub fn next_word(bytes: &[u8]) -> Option<(&[u8], &[u8])>
     ensures { MatchOption result
         ((word rest : List ℕ) → IsPlainWordAt bytes.now word rest → ⊥)

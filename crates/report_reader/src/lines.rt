@@ -1,7 +1,7 @@
-ghost use Rattle.std.specs.Prelude.{◌≡◌, ◌≤◌, ◌<◌, ◌+◌, ◌*◌, ◌^◌, ◌++◌, MatchOption, MatchResult, codes, length};
-ghost use Rattle.proof_script.specs.Faults.{IsOneLine};
+ghost use Rattle.std.specs.Prelude.{◌≡◌, ◌≤◌, ◌<◌, ◌+◌, ◌*◌, ◌^◌, MatchResult, length};
 
 use crate::errors::ReportError;
+use proof_script::split_line;
 
 /// The lines of a text that are left.
 #[derive(Clone, Copy)]
@@ -38,7 +38,7 @@ impl<'a> Lines<'a> {
         ReportError::Line { line: self.number }
     }
 
-    /// The next line without its newline, and the lines behind it. No line of a report is empty.
+    /// The next line without its newline, and the lines after it. No line of a report is empty.
     pub fn next_line(self) -> Result<(&'a [u8], Lines<'a>), ReportError>
         ensures { MatchResult result
             (λ p. IsNext self.entry p.0.now p.1) (λ e. HasNoLine self.entry e) }
@@ -53,17 +53,4 @@ impl<'a> Lines<'a> {
         let number = self.number + 1;
         Ok((line, Lines { rest, read, number }))
     }
-}
-
-/// The bytes before the first newline, and those behind it.
-fn split_line(bytes: &[u8]) -> Option<(&[u8], &[u8])>
-    ensures { MatchOption result (IsOneLine bytes.now)
-        (λ p. IsOneLine p.0.now × (bytes.now ≡ (p.0.now ++ codes "\n") ++ p.1.now)) }
-{
-    for (end, byte) in bytes.iter().enumerate() {
-        if *byte == b'\n' {
-            return Some((&bytes[..end], &bytes[end + 1..]));
-        }
-    }
-    None
 }
