@@ -4,7 +4,7 @@ use Rattle.std.specs.Prelude.{slice_get, IsTrue}
 use Rattle.std.proofs.lemmas.Option.{slice_get_within, slice_get_read}
 use Rattle.term_core.specs.Tree.{Tree, Trees, var, app, some}
 use Rattle.value_bank.specs.Cells.{Cell, cell, IsTerm, AreTerms, AddsCells}
-use Rattle.value_bank.proofs.Terms.{one_term_at, term_kept}
+use Rattle.value_bank.proofs.Terms.{one_term_at, term_kept, same_cell}
 use Rattle.rule_code.proofs.Homes.{get_either}
 use Rattle.ground_eval.specs.Constants.{IsConstant, HasConstant, SomeHasConstant, HeadsAreApart, AreApart, IsMarked, AreMarks}
 
@@ -12,9 +12,7 @@ use Rattle.ground_eval.specs.Constants.{IsConstant, HasConstant, SomeHasConstant
 pub term_there : (cells : List Cell) (p f : ℕ) (ps : List ℕ) (t : Tree) → slice_get cells p ≡ Some (cell f ps) → IsTerm cells p t → (ts : Trees) × (t ≡ app f ts)
 term_there cells p f ps (var n) at h = absurd h
 term_there cells p f ps (app g ts) at h =
-    let q : Some (cell f ps) ≡ Some (cell g h.0) = sym at ∙ h.1 in
-    let k : cell f ps ≡ cell g h.0 = cc in
-    let e : f ≡ g = ap (λ (x : Cell). x.sym) k in
+    let e : f ≡ g = (same_cell cells p f g ps h.0 at h.1).0 in
     (ts, ap (λ n. app n ts) (sym e))
 
 module _ (c d : ℕ) where

@@ -2,14 +2,14 @@
 use Rattle.std.specs.Prelude.{◌≡◌, ℕ, ◌<◌, List, [], ◌∷◌, ◌++◌, Some, slice_get}
 use Rattle.std.specs.List.{AllByRecursion}
 use Rattle.term_core.specs.Tree.{Tree, Trees, var, app, none, some}
+use Rattle.bank_core.specs.Entries.{Entry, entry}
 
 -- a symbol, and the places of its arguments
-pub record Cell : Type 0 where
-  pub sym : ℕ
-  pub args : List ℕ
+abbrev pub Cell : Type 0
+Cell = Entry ℕ ℕ
 
 abbrev pub cell : ℕ → List ℕ → Cell
-cell f ps = record { sym = f; args = ps }
+cell f ps = entry f ps
 
 module _ (cells : List Cell) where
   -- the term at a place: the cell's symbol, applied to the terms at the cell's places
@@ -34,10 +34,6 @@ pub record IsBank (cells : List Cell) : Type 0 where
   pub distinct : (j k : ℕ) (c : Cell) → slice_get cells j ≡ Some c → slice_get cells k ≡ Some c
       → j ≡ k
 
--- no place has the cell
-abbrev pub IsNowhere : List Cell → Cell → Type 0
-IsNowhere cells c = (k : ℕ) → slice_get cells k ≡ Some c → ⊥
-
--- the old cells stay, and further ones may stand behind them
+-- the old cells stay, and further ones may follow
 abbrev pub AddsCells : List Cell → List Cell → Type 0
 AddsCells old new = (more : List Cell) × (new ≡ old ++ more)

@@ -7,6 +7,3 @@ pub mod Examples
 -- What only this crate's own contracts speak of.
 pub mod Placing
 pub mod Preorders
-pub mod Hashing
-pub mod Links
-pub mod Chains

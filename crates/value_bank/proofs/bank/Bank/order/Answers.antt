@@ -1,8 +1,9 @@
 use Rattle.std.proofs.Common.{◌<◌, [], ◌∷◌, ◌++◌, ap, subst, sym, ◌∙◌, length, arith}
 use Rattle.term_core.specs.Tree.{Tree, tree_size}
+use Rattle.bank_core.proofs.Ends.{nothing_left}
 use Rattle.value_bank.specs.Cells.{IsTerm}
 use Rattle.value_bank.specs.Preorders.{IsOrder}
-use Rattle.value_bank.proofs.Orders.{walk_begins, walk_next, walk_ends, walk_large, walk_low, nothing_left}
+use Rattle.value_bank.proofs.Orders.{walk_begins, walk_next, walk_ends, walk_large, walk_low}
 use Rattle.value_bank.proofs.bank.Bank.order.Goals as goal
 
 pub loop-next-init : goal.loop-next-init
