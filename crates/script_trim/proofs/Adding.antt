@@ -1,10 +1,12 @@
 -- Closing steps that are tried one after the other.
-use Rattle.std.proofs.Common.{◌≡◌, ℕ, ◌+◌, ◌<◌, ◌≤◌, List, [], ◌∷◌, ◌++◌, Some, sym, ◌∙◌, ap, subst, arith, length}
+use Rattle.std.proofs.Common.{◌≡◌, ℕ, ◌+◌, ◌<◌, ◌≤◌, List, [], ◌∷◌, ◌++◌, Some, sym, ◌∙◌, ap, subst, arith}
+use Rattle.std.proofs.Common.{length}
 use Rattle.std.proofs.Common.{map, take, append_assoc}
 use Rattle.std.specs.Prelude.{flat_map, slice_get, Contains}
 use Rattle.std.proofs.lemmas.List.{append-nil, take_all}
 use Rattle.std.proofs.lemmas.Option.{get_or_from_slice_get, slice_get_within, slice_get-get_or}
-use Rattle.std.proofs.lemmas.List.FromFn.{length-range_with_len, get_or-range_with_len, length-map-range_with_len}
+use Rattle.std.proofs.lemmas.List.FromFn.{length-range_with_len, get_or-range_with_len}
+use Rattle.std.proofs.lemmas.List.FromFn.{length-map-range_with_len}
 use Rattle.std.proofs.lemmas.List.FromFn.{get_or-map-range_with_len}
 use Rattle.std.proofs.lemmas.Grind.{flat_map-append}
 use Rattle.std.specs.List.{range_with_len}
@@ -15,7 +17,7 @@ use Rattle.clause_core.specs.declared.steps.Step.{Step}
 use Rattle.inference_rules.specs.Answers.{clauses_of}
 use Rattle.script_trim.specs.declared.blocks.Fit.{Fit}
 use Rattle.script_trim.specs.declared.fitting.Spot.{Spot}
-use Rattle.script_trim.specs.Fitting.{AreDefined, none, defined, undefined}
+use Rattle.script_trim.specs.Fitting.{AreDefined, IsByItself, none, defined, left_out}
 use Rattle.script_trim.specs.Trying.{MakesThere, Adds}
 
 -- the next item
@@ -49,7 +51,7 @@ module _ (above : Tree → Tree → Type 0) (spot : Spot) where
   joined [] ys [] gs none q = q
   joined [] ys (f ∷ fs) gs p q = elim p [ ]
   joined (x ∷ xs) ys (f ∷ fs) gs (defined is p) q = defined is (joined xs ys fs gs p q)
-  joined (x ∷ xs) ys fs gs (undefined isnt p) q = undefined isnt (joined xs ys fs gs p q)
+  joined (x ∷ xs) ys fs gs (left_out by p) q = left_out by (joined xs ys fs gs p q)
 
   pub adds_none : (fits : List Fit) → Adds above spot [] fits fits
   adds_none fits = record { more = []; is = sym (append-nil fits); defined = none }
@@ -74,7 +76,17 @@ module _ (above : Tree → Tree → Type 0) (spot : Spot) where
 
   pub adds_nothing : (step : Step) (fits : List Fit) → ((made : Children) → MakesThere above spot step made → ⊥) →
       Adds above spot (step ∷ []) fits fits
-  adds_nothing step fits isnt = record { more = []; is = sym (append-nil fits); defined = undefined isnt none }
+  adds_nothing step fits isnt = record {
+    more = [];
+    is = sym (append-nil fits);
+    defined = left_out (λ made makes. absurd (isnt made makes)) none;
+  }
+
+  -- and one that refers to the node itself
+  pub leaves_out :
+      (step : Step) (fits : List Fit) → IsByItself above spot.spec.now (Contains spot.proved.now)
+      (clauses_of spot.nodes.now) spot.number step → Adds above spot (step ∷ []) fits fits
+  leaves_out step fits by = record { more = []; is = sym (append-nil fits); defined = left_out by none }
 
   -- the steps up to the next one
   pub adds_next : (steps : List Step) (k : ℕ) (step : Step) (a b c : List Fit) → slice_get steps k ≡ Some step →

@@ -1,6 +1,7 @@
 -- What is left of a kept block where a closing step that is defined at a node closes it, and why
 -- nothing is.
-use Rattle.std.proofs.Common.{◌≡◌, ◌↔◌, ℕ, suc, ◌<◌, ◌≤◌, List, [], ◌∷◌, Bool, true, Some, take, ltb, refl, sym, ◌∙◌}
+use Rattle.std.proofs.Common.{◌≡◌, ◌↔◌, ℕ, suc, ◌<◌, ◌≤◌, List, [], ◌∷◌, Bool, true, Some, take, ltb, refl}
+use Rattle.std.proofs.Common.{sym, ◌∙◌}
 use Rattle.std.proofs.Common.{ap, subst, arith, length, map}
 use Rattle.std.specs.Prelude.{Contains, slice_get, slice_set, IsTrue}
 use Rattle.std.specs.List.{AllByRecursion}
@@ -37,7 +38,8 @@ use Rattle.script_trim.specs.declared.blocks.Fit.{Fit}
 use Rattle.script_trim.specs.declared.blocks.KeptBlock.{KeptBlock}
 use Rattle.script_trim.specs.Closing.{closing_steps}
 use Rattle.script_trim.specs.Cut.{new_number, renumbered, staying, Descends, IsCut, RefersToStaying}
-use Rattle.script_trim.specs.Cutting.{ClosesAt, FitsAt, IsCuttable, RefersToItself}
+use Rattle.script_trim.specs.Cutting.{ClosesAt, FitsAt, IsCuttable}
+use Rattle.script_trim.specs.Fitting.{RefersToItself}
 use Rattle.script_trim.specs.Flags.{flag_of, AreInOrder, RefersWithin, TellStaying}
 use Rattle.script_trim.specs.Kept.{kept_report, IsKept}
 use Rattle.script_trim.specs.Keys.{key_of}

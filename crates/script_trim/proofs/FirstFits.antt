@@ -1,12 +1,13 @@
 -- The first fit of a node that closes it.
-use Rattle.std.proofs.Common.{◌≡◌, ℕ, suc, ◌<◌, List, [], ◌∷◌, ◌++◌, Some, take, drop, map, get_or, refl, sym, ◌∙◌}
-use Rattle.std.proofs.Common.{ap, subst, arith, length}
-use Rattle.std.specs.Prelude.{◌↔◌, Contains, MatchOption, Option, None}
+use Rattle.std.proofs.Common.{◌≡◌, ℕ, suc, ◌<◌, List, [], ◌∷◌, ◌++◌, Some, take, drop, map, get_or, refl}
+use Rattle.std.proofs.Common.{sym, ◌∙◌}
+use Rattle.std.proofs.Common.{ap, subst, arith, length, append_assoc}
+use Rattle.std.specs.Prelude.{◌↔◌, Contains, MatchOption, Option, None, slice_get}
 use Rattle.std.specs.List.{AllByRecursion}
 use Rattle.std.proofs.lemmas.List.Elements.{Contains-append_right}
 use Rattle.term_core.specs.Tree.{Tree}
 use Rattle.std.proofs.lemmas.List.{map-id}
-use Rattle.term_core.proofs.Items.{all_at_or, parted_at}
+use Rattle.term_core.proofs.Items.{all_append, all_at_or, parted_at}
 use Rattle.spec_core.specs.declared.records.Spec.{Spec}
 use Rattle.spec_core.specs.WellSorted.{IsWellSorted}
 use Rattle.clause_core.specs.declared.answers.Children.{Children}
@@ -23,12 +24,14 @@ use Rattle.inference_rules.specs.declared.nodes.Node.{Node}
 use Rattle.inference_rules.specs.Answers.{clauses_of as clauses_in}
 use Rattle.script_trim.specs.declared.blocks.Fit.{Fit}
 use Rattle.script_trim.specs.declared.blocks.KeptBlock.{KeptBlock}
-use Rattle.script_trim.specs.Closing.{closing_steps}
+use Rattle.script_trim.specs.Closing.{trivials, matches, absurds, closing_steps}
 use Rattle.script_trim.specs.Cutting.{ClosesAt, FitsAt}
-use Rattle.script_trim.specs.Fitting.{AreDefined, AreFitting, none, defined, undefined}
+use Rattle.script_trim.specs.Fitting.{own_steps, other_steps, AreDefined, AreFitting, IsByItself, none}
+use Rattle.script_trim.specs.Fitting.{defined, left_out}
 use Rattle.script_trim.specs.Kept.{kept_report, IsKept}
 use Rattle.script_trim.specs.OneClaim.{IsFirstStep}
-use Rattle.script_trim.proofs.KeptClaims.{closing_makes, closing_there, node_there, steps_same}
+use Rattle.script_trim.proofs.KeptClaims.{closing_there, node_there, steps_same}
+use Rattle.script_trim.proofs.OnlyItself.{itself_isnt_closing}
 
 -- what is said of an option where it is known
 pub match_some :
@@ -66,13 +69,19 @@ module _ (above : Tree → Tree → Type 0) (spec : Spec) (usable other : ℕ �
   defined_there nodes i steps fits none = none
   defined_there nodes i (step ∷ steps) (fit ∷ fits) (defined p d) =
       defined (step_there nodes i step fit.made p) (defined_there nodes i steps fits d)
-  defined_there nodes i (step ∷ steps) fits (undefined n d) =
-      undefined (λ m p. n m (step_back nodes i step m p)) (defined_there nodes i steps fits d)
+  defined_there nodes i (step ∷ steps) fits (left_out by d) =
+      left_out (λ m p. by m (step_back nodes i step m p)) (defined_there nodes i steps fits d)
+
+  pub itself_there :
+      (nodes : List Clause) (i : ℕ) (steps : List Step) → AllByRecursion (IsByItself above spec usable nodes i) steps →
+      AllByRecursion (IsByItself above spec other nodes i) steps
+  itself_there nodes i [] h = tt
+  itself_there nodes i (step ∷ steps) h =
+      (λ m p. h.0 m (step_back nodes i step m p), itself_there nodes i steps h.1)
 
 module _ (above : Tree → Tree → Type 0) (spec : Spec) (usable : ℕ → Type 0) (nodes : List Clause) (i : ℕ)
-    (P : Step → Type 0) (not_defined : (step : Step) → ((m : Children) → StepMakes above spec usable nodes i step m →
-    ⊥) → P step) where
-  -- the steps up to one that is defined, where this holds of those that aren't
+    (P : Step → Type 0) (by_itself : (step : Step) → IsByItself above spec usable nodes i step → P step) where
+  -- the steps up to one that is defined, where this holds of those that are left out
   pub record Parts (steps : List Step) (fit : Fit) : Type 0 where
     pub before : List Step
     pub after : List Step
@@ -109,14 +118,14 @@ module _ (above : Tree → Tree → Type 0) (spec : Spec) (usable : ℕ → Type
             (subst (λ (f : Fit). P f.step) same h.0, r.all);
         makes = r.makes;
       }
-  parts_at (step ∷ steps) fits (undefined n d) seen later fit e h =
+  parts_at (step ∷ steps) fits (left_out by d) seen later fit e h =
       let r = parts_at steps fits d seen later fit e h in
       record {
         before = step ∷ r.before;
         after = r.after;
         is = ap (λ ss. step ∷ ss) r.is;
         all =
-            (not_defined step n, r.all);
+            (by_itself step by, r.all);
         makes = r.makes;
       }
 
@@ -126,7 +135,7 @@ module _ (above : Tree → Tree → Type 0) (spec : Spec) (usable : ℕ → Type
       AllByRecursion (λ (f : Fit). P f.step) fits → AllByRecursion P steps
   all_steps steps fits none h = tt
   all_steps (step ∷ steps) (first ∷ fits) (defined p d) h = (h.0, all_steps steps fits d h.1)
-  all_steps (step ∷ steps) fits (undefined n d) h = (not_defined step n, all_steps steps fits d h)
+  all_steps (step ∷ steps) fits (left_out by d) h = (by_itself step by, all_steps steps fits d h)
 
 -- no closing by this step is possible
 module _ (above : Tree → Tree → Type 0) (spec : Spec) (report : Report) (number : ℕ) (block : KeptBlock)
@@ -135,57 +144,78 @@ module _ (above : Tree → Tree → Type 0) (spec : Spec) (report : Report) (num
   NotBy step = (others : List Step) → ClosesAt above spec report number block k i step others → ⊥
 
 module _ (above : Tree → Tree → Type 0) (one : OneRelation above) (spec : Spec) (fine : IsWellSorted spec)
-    (report : Report) (number : ℕ) (block : KeptBlock) (k : IsKept above spec report number block) (i : ℕ)
-    (fits : List Fit) where
+    (report : Report) (number : ℕ) (block : KeptBlock) (k : IsKept above spec report number block) (i : ℕ) where
   abbrev Not : Step → Type 0
   Not step = NotBy above spec report number block k i step
 
-  not_by :
-      (step : Step) → ((m : Children) → StepMakes above spec (ProvedBefore spec (take number report.claims))
-      (take (first_child k.claim.made i) (clauses_in block.nodes.items)) i step m → ⊥) → Not step
-  not_by step n others c = let m = closing_makes above one spec fine report number block k i step others c in n m.0 m.1
+  abbrev nodes : List Clause
+  nodes = clauses_in block.nodes.items
+
+  abbrev before_nodes : List Clause
+  before_nodes = take (first_child k.claim.made i) nodes
+
+  abbrev usable : ℕ → Type 0
+  usable = ProvedBefore spec (take number report.claims)
+
+  not_by : (step : Step) → IsByItself above spec usable before_nodes i step → Not step
+  not_by step by others c = itself_isnt_closing above one spec fine report number block k i step by others c
 
   -- fits by the lemmas are fits by the goals that the claims before prove
   pub fitting_there :
-      (numbers : List ℕ) → AreProved spec (take number report.claims) numbers → (ns : List Node) (before : ℕ) →
+      (steps : Spec → List Clause → Clause → List Step) (fits : List Fit) (numbers : List ℕ) →
+      AreProved spec (take number report.claims) numbers → (ns : List Node) (before : ℕ) →
       ns ≡ block.nodes.items → before ≡ first_child k.claim.made i →
-      AreFitting above spec (Contains numbers) (clauses_in ns) before i fits
-      → AreFitting above spec (ProvedBefore spec (take number report.claims)) (clauses_in block.nodes.items)
-      (first_child k.claim.made i) i fits
-  fitting_there numbers proved ns before e f h c at =
-      let moved : AreFitting above spec (Contains numbers) (clauses_in block.nodes.items) (first_child k.claim.made i)
-      i fits = subst (λ n. AreFitting above spec (Contains numbers) (clauses_in block.nodes.items) n i fits) f
-      (subst (λ xs. AreFitting above spec (Contains numbers) (clauses_in xs) before i fits) e h) in
-      defined_there above spec (Contains numbers) (ProvedBefore spec (take number report.claims)) proved _ i _ fits
-      (moved c at)
+      AreFitting above spec (Contains numbers) steps (clauses_in ns) before i fits →
+      AreFitting above spec usable steps nodes (first_child k.claim.made i) i fits
+  fitting_there steps fits numbers proved ns before e f h c at =
+      let moved : AreFitting above spec (Contains numbers) steps nodes (first_child k.claim.made i) i fits =
+      subst (λ n. AreFitting above spec (Contains numbers) steps nodes n i fits) f
+      (subst (λ xs. AreFitting above spec (Contains numbers) steps (clauses_in xs) before i fits) e h) in
+      defined_there above spec (Contains numbers) usable proved _ i _ fits (moved c at)
 
-  -- these are the fits of the node, by the goals that the claims before prove
-  module _ (fitting : AreFitting above spec (ProvedBefore spec (take number report.claims))
-      (clauses_in block.nodes.items) (first_child k.claim.made i) i fits) where
-    -- no step closes the node where no fit does
-    pub none_closes :
-        AllByRecursion (λ (f : Fit). Not f.step) fits → (step : Step) (rest : List Step) →
-        ClosesAt above spec report number block k i step rest → ⊥
-    none_closes h step rest c =
-        let at = node_there above one spec fine report number block k i step rest c in
-        let member = closing_there above one spec fine report number block k i step rest c in
-        let all = all_steps above spec (ProvedBefore spec (take number report.claims))
-        (take (first_child k.claim.made i) (clauses_in block.nodes.items)) i Not not_by
-        (closing_steps spec (clauses_in block.nodes.items) c.node) fits (fitting c.node at) h in
-        let not : Not step = subst Not member.2 (all_at_or Not
-        (closing_steps spec (clauses_in block.nodes.items) c.node) member.0 step all member.1) in
-        not rest c
+  -- none of these steps closes the node where no fit does
+  pub none_of :
+      (steps : Spec → List Clause → Clause → List Step) (fits : List Fit) →
+      AreFitting above spec usable steps nodes (first_child k.claim.made i) i fits →
+      AllByRecursion (λ (f : Fit). Not f.step) fits → (c : Clause) → slice_get nodes i ≡ Some c →
+      AllByRecursion Not (steps spec nodes c)
+  none_of steps fits fitting h c at =
+      all_steps above spec usable before_nodes i Not not_by (steps spec nodes c) fits (fitting c at) h
+
+  -- and where no closing step does, none closes it
+  pub none_closes :
+      ((c : Clause) → slice_get nodes i ≡ Some c → AllByRecursion Not (closing_steps spec nodes c)) →
+      (step : Step) (rest : List Step) → ClosesAt above spec report number block k i step rest → ⊥
+  none_closes all step rest c =
+      let at = node_there above one spec fine report number block k i step rest c in
+      let member = closing_there above one spec fine report number block k i step rest c in
+      let not : Not step = subst Not member.2
+      (all_at_or Not (closing_steps spec nodes c.node) member.0 step (all c.node at) member.1) in
+      not rest c
+
+  -- some of the closing steps, with those before and those after them, and their fits
+  module _ (first steps last : Spec → List Clause → Clause → List Step)
+      (parted : (c : Clause) → closing_steps spec nodes c ≡ first spec nodes c ++
+      (steps spec nodes c ++ last spec nodes c)) (fits : List Fit)
+      (fitting : AreFitting above spec usable steps nodes (first_child k.claim.made i) i fits) where
+    whole :
+        (c : Clause) (before after : List Step) (step : Step) → steps spec nodes c ≡ before ++ step ∷ after →
+        closing_steps spec nodes c ≡ (first spec nodes c ++ before) ++ step ∷ (after ++ last spec nodes c)
+    whole c before after step is =
+        parted c
+        ∙ ap (λ ss. first spec nodes c ++ (ss ++ last spec nodes c)) is
+        ∙ ap (λ ss. first spec nodes c ++ ss) (append_assoc before (step ∷ after) (last spec nodes c))
+        ∙ sym (append_assoc (first spec nodes c) before (step ∷ (after ++ last spec nodes c)))
 
     module _ (seen later : List Fit) (fit : Fit) (is : fits ≡ seen ++ fit ∷ later) where
       -- a fit is a closing step that makes what it is said to make
       pub fits_at : FitsAt above spec report number block k i fit
       fits_at c at =
-          let p = parts_at above spec (ProvedBefore spec (take number report.claims))
-          (take (first_child k.claim.made i) (clauses_in block.nodes.items)) i (λ s. Unit {0}) (λ s n. tt)
-          (closing_steps spec (clauses_in block.nodes.items) c) fits (fitting c at) seen later fit is
-          (trivial seen) in (
-            subst (λ ss. Contains ss fit.step) (sym p.is) (Contains-append_right p.before (fit.step ∷ p.after) fit.step
-                (0, omega arith, refl)),
+          let p = parts_at above spec usable before_nodes i (λ s. Unit {0}) (λ s n. tt) (steps spec nodes c) fits
+          (fitting c at) seen later fit is (trivial seen) in (
+            subst (λ ss. Contains ss fit.step) (sym (whole c p.before p.after fit.step p.is))
+                (Contains-append_right (first spec nodes c ++ p.before)
+                (fit.step ∷ (p.after ++ last spec nodes c)) fit.step (0, omega arith, refl)),
             p.makes,
           )
         where
@@ -195,19 +225,42 @@ module _ (above : Tree → Tree → Type 0) (one : OneRelation above) (spec : Sp
 
       -- the first one that closes the node is the first closing step that could
       pub first_fit :
+          ((c : Clause) → slice_get nodes i ≡ Some c → AllByRecursion Not (first spec nodes c)) →
           AllByRecursion (λ (f : Fit). Not f.step) seen → (rest : List Step) →
           ClosesAt above spec report number block k i fit.step rest →
           IsFirstStep above spec number (kept_report above spec report number k.name block) i fit.step rest
-      first_fit h rest c =
+      first_fit not_first h rest c =
           let at = node_there above one spec fine report number block k i fit.step rest c in
-          let p = parts_at above spec (ProvedBefore spec (take number report.claims))
-          (take (first_child k.claim.made i) (clauses_in block.nodes.items)) i Not not_by
-          (closing_steps spec (clauses_in block.nodes.items) c.node) fits (fitting c.node at) seen later fit is
-          h in
+          let p = parts_at above spec usable before_nodes i Not not_by (steps spec nodes c.node) fits
+          (fitting c.node at) seen later fit is h in
           record {
             closes = c;
-            before = p.before;
-            after = p.after;
-            parted = steps_same above one spec fine report number block k c.claim c.node ∙ p.is;
-            none_before = p.all;
+            before = first spec nodes c.node ++ p.before;
+            after = p.after ++ last spec nodes c.node;
+            parted =
+                steps_same above one spec fine report number block k c.claim c.node
+                ∙ whole c.node p.before p.after fit.step p.is;
+            none_before = all_append Not (first spec nodes c.node) p.before (not_first c.node at) p.all;
           }
+
+    pub all_fit : AllByRecursion (FitsAt above spec report number block k i) fits
+    all_fit = from [] fits refl
+      where
+        from :
+            (seen later : List Fit) → fits ≡ seen ++ later →
+            AllByRecursion (FitsAt above spec report number block k i) later
+        from seen [] e = tt
+        from seen (f ∷ later) e =
+            (fits_at seen later f e, from (seen ++ f ∷ []) later (e ∙ sym (append_assoc seen (f ∷ []) later)))
+
+-- the closing steps in these two parts
+abbrev pub no_steps : Spec → List Clause → Clause → List Step
+no_steps spec ns c = []
+
+pub own_and_others :
+    (spec : Spec) (ns : List Clause) (c : Clause) →
+    closing_steps spec ns c ≡ own_steps spec ns c ++ other_steps spec ns c
+own_and_others spec ns c =
+    let others = other_steps spec ns c in
+    ap (λ ss. trivials c ++ ss) (sym (append_assoc (matches c) (absurds c) others))
+    ∙ sym (append_assoc (trivials c) (matches c ++ absurds c) others)

@@ -25,12 +25,15 @@ use Rattle.acceptance.proofs.OneBlock.{steps_one}
 use Rattle.acceptance.proofs.WholeBlocks.{as_many}
 use Rattle.block_links.specs.Links.{links_of}
 use Rattle.block_steps.specs.declared.taken_steps.TakenSteps.{TakenSteps}
+use Rattle.block_steps.proofs.StepsInRange.{claim_in_range}
 use Rattle.claimed_goals.specs.Tracking.{AreProved}
 use Rattle.claimed_goals.proofs.UsableGoals.{makes_same}
 use Rattle.inference_rules.specs.declared.nodes.Node.{Node}
 use Rattle.inference_rules.specs.Answers.{clauses_of as clauses_in}
+use Rattle.proof_script.specs.Claims.{claim_text}
+use Rattle.proof_script.specs.Ranges.{ClaimIsInRange}
 use Rattle.script_trim.specs.declared.blocks.KeptBlock.{KeptBlock}
-use Rattle.script_trim.specs.Fitting.{NoneFits}
+use Rattle.script_trim.specs.Fitting.{OnlyItselfFits}
 use Rattle.script_trim.specs.Kept.{IsKept}
 use Rattle.script_trim.specs.Keys.{key_of}
 use Rattle.script_trim.specs.Placing.{AreTaken}
@@ -38,7 +41,7 @@ use Rattle.script_trim.specs.Trimmed.{proves}
 use Rattle.script_trim.proofs.Children.{before_children, counted, counted_clauses}
 use Rattle.script_trim.proofs.ClaimByClaim.{set_there}
 use Rattle.script_trim.proofs.FirstChildren.{first_by_links}
-use Rattle.script_trim.proofs.FirstFits.{defined_there}
+use Rattle.script_trim.proofs.FirstFits.{itself_there}
 use Rattle.script_trim.proofs.ReplacedClaims.{accepted_at}
 use Rattle.script_trim.proofs.StayingChildren.{there as item_there}
 
@@ -58,6 +61,10 @@ module _
       let old = accepted_at above spec report.steps [] report.claims a number (proves goal.name steps) there in
       let e = goal_named_one spec fine goal.name old.goal goal old.named named in
       subst (λ g. Proves above spec usable (goal_clause g) steps) e old.shown
+
+  pub claim_range : ClaimIsInRange spec.sig (proves goal.name steps)
+  claim_range =
+      claim_in_range above spec usable goal.name (record { steps = steps }) (goal_clause goal) shown.made shown.makes
 
   pub start_node : TidyingLaws → IsNode spec.sig (goal_clause goal)
   start_node laws = record {
@@ -131,10 +138,10 @@ module _
         length block.hopeful.items ≡ length taken.links.items →
         ((i :
         ℕ) → slice_get block.hopeful.items i ≡ Some false →
-        NoneFits above spec (Contains numbers) (clauses_in taken.nodes.items) (first_child taken.links.items i)
-        i) →
+        OnlyItselfFits above spec (Contains numbers) (clauses_in taken.nodes.items) (first_child taken.links.items i)
+        i) → length (claim_text spec.sig (proves goal.name steps)) ≤ block.bytes →
         IsKept above spec report number block
-    block_kept block is nodes keys links flags hopeless =
+    block_kept block is nodes keys links flags hopeless text =
         let e : slice_set report.claims number (proves goal.name block.steps.items) ≡ report.claims =
         ap (λ ss. slice_set report.claims number (proves goal.name ss)) is ∙ set_there report.claims number
         (proves goal.name steps) there in
@@ -161,10 +168,11 @@ module _
           hopeless = λ i off c at.
               let b : first_child taken.links.items i ≡ first_child t.made i =
               ap (λ ls. first_child ls i) t.links ∙ first_by_links t.made i in
-              let none_fits = hopeless i off in
-              let here = subst (λ n. NoneFits above spec (Contains numbers) (clauses_in taken.nodes.items) n i) b
-              none_fits in
-              let fits = subst (λ ns. NoneFits above spec (Contains numbers) (clauses_in ns) (first_child t.made i) i)
+              let here = subst (λ n. OnlyItselfFits above spec (Contains numbers) (clauses_in taken.nodes.items) n i)
+              b (hopeless i off) in
+              let fits =
+              subst (λ ns. OnlyItselfFits above spec (Contains numbers) (clauses_in ns) (first_child t.made i) i)
               (sym nodes) here in
-              defined_there above spec (Contains numbers) usable proved _ i _ [] (fits c at);
+              itself_there above spec (Contains numbers) usable proved _ i _ (fits c at);
+          text = subst (λ ss. length (claim_text spec.sig (proves goal.name ss)) ≤ block.bytes) (sym is) text;
         }

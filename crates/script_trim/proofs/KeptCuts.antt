@@ -1,5 +1,6 @@
 -- The block that a cut leaves is kept.
-use Rattle.std.proofs.Common.{◌≡◌, ◌↔◌, ℕ, zero, suc, ◌+◌, ◌<◌, ◌≤◌, List, [], ◌∷◌, Bool, true, false, Some, take}
+use Rattle.std.proofs.Common.{◌≡◌, ◌↔◌, ℕ, zero, suc, ◌+◌, ◌<◌, ◌≤◌, List, [], ◌∷◌, Bool, true, false, Some}
+use Rattle.std.proofs.Common.{take}
 use Rattle.std.proofs.Common.{refl, sym, ◌∙◌, ap, subst, arith, length, map, Ok, Err}
 use Rattle.std.specs.Prelude.{IfOk, Result, slice_get, slice_set}
 use Rattle.std.specs.List.{AllByRecursion}
@@ -23,19 +24,23 @@ use Rattle.acceptance.proofs.WholeBlocks.{as_many}
 use Rattle.block_links.specs.Links.{links_of}
 use Rattle.inference_rules.specs.declared.nodes.Node.{Node}
 use Rattle.inference_rules.specs.Answers.{clauses_of}
+use Rattle.proof_script.specs.Claims.{claim_text}
+use Rattle.proof_script.specs.Steps.{step_line}
+use Rattle.proof_script.specs.Words.{line_text}
 use Rattle.script_trim.specs.declared.blocks.Fit.{Fit}
 use Rattle.script_trim.specs.declared.blocks.KeptBlock.{KeptBlock}
 use Rattle.script_trim.specs.Closing.{closing_steps}
-use Rattle.script_trim.specs.Cut.{new_number, renumbered, staying, RefersToStaying}
+use Rattle.script_trim.specs.Cut.{new_number, renumbered, staying, IsCut, RefersToStaying}
 use Rattle.script_trim.specs.Cutting.{ClosesAt, FitsAt, IsLeft}
-use Rattle.script_trim.specs.Fitting.{AreDefined, NoneFits}
+use Rattle.script_trim.specs.Fitting.{IsByItself, OnlyItselfFits}
 use Rattle.script_trim.specs.Flags.{flag_of, TellStaying}
 use Rattle.script_trim.specs.Kept.{kept_report, IsKept}
 use Rattle.script_trim.specs.Keys.{key_of}
 use Rattle.script_trim.specs.Made.{cut_made}
 use Rattle.script_trim.specs.Trimmed.{proves, with_steps, ProvedClaim, Closes}
 use Rattle.script_trim.proofs.BlockRests.{all_finished, few_clauses, left_length, left_nodes as cut_nodes_are}
-use Rattle.script_trim.proofs.BlockRests.{long_nodes, long_steps, must_be, must_refer, named, new_links, new_makes}
+use Rattle.script_trim.proofs.BlockRests.{long_nodes, long_steps, must_be, must_refer, named, new_links}
+use Rattle.script_trim.proofs.BlockRests.{new_makes}
 use Rattle.script_trim.proofs.BlockRests.{none, same_claims, which, within_claim}
 use Rattle.script_trim.proofs.Children.{all_children, counted_clauses}
 use Rattle.script_trim.proofs.CutLinks.{first_anew}
@@ -46,6 +51,7 @@ use Rattle.script_trim.proofs.QuickTests.{finished}
 use Rattle.script_trim.proofs.Staying.{from_staying, staying_at, staying_length}
 use Rattle.script_trim.proofs.StayingChildren.{stays_before, there}
 use Rattle.script_trim.proofs.StayingItems.{staying_map}
+use Rattle.script_trim.proofs.TextBound.{cut_text}
 
 set_twice : {A : Type 0} (xs : List A) (i : ℕ) (x y : A) → slice_set (slice_set xs i x) i y ≡ slice_set xs i y
 set_twice [] i x y = refl
@@ -55,14 +61,14 @@ set_twice (z ∷ zs) (suc i) x y = ap (λ ws. z ∷ ws) (set_twice zs i x y)
 -- the lists that are left, where there is memory for them
 pub left_lists :
     {E : Type 0} (block : KeptBlock) (i : ℕ) (closed : Children) (rest : List Step) (flags : List Bool) →
-    TellStaying block.links.items i flags → (links : List Children) →
+    (bytes : ℕ) → TellStaying block.links.items i flags → (links : List Children) →
     links ≡ map links_of (cut_made (flag_of flags) block.links.items i closed) → (r : Result KeptBlock E) →
     IfOk r (λ made. made.steps.items ≡ rest) → IfOk r (λ made. made.links.items ≡ links) →
     IfOk r (λ made. made.nodes.items ≡ staying (flag_of flags) 0 block.nodes.items) →
     IfOk r (λ made. made.keys.items ≡ staying (flag_of flags) 0 block.keys.items) →
     IfOk r (λ made. made.hopeful.items ≡ staying (flag_of flags) 0 block.hopeful.items) →
-    IfOk r (IsLeft block i closed rest)
-left_lists block i closed rest flags told links is (Ok made) steps same nodes keys hopeful = record {
+    IfOk r (λ made. made.bytes ≡ bytes) → IfOk r (IsLeft block i closed rest bytes)
+left_lists block i closed rest flags bytes told links is (Ok made) steps same nodes keys hopeful long = record {
   flags = flags;
   told = told;
   steps = steps;
@@ -70,8 +76,9 @@ left_lists block i closed rest flags told links is (Ok made) steps same nodes ke
   keys = keys;
   links = same ∙ is;
   hopeful = hopeful;
+  bytes_are = long;
 }
-left_lists block i closed rest flags told links is (Err e) steps same nodes keys hopeful = tt
+left_lists block i closed rest flags bytes told links is (Err e) steps same nodes keys hopeful long = tt
 
 -- a node that is closed is among those of the block
 pub closes_within :
@@ -98,7 +105,8 @@ module _
     ℕ) (within : i < length block.steps.items) (fit : Fit)
     (fits : FitsAt above spec report number block kept i fit)
     (rest : List Step) (c : ClosesAt above spec report number block kept i fit.step rest)
-    (new : KeptBlock) (left : IsLeft block i fit.made rest new) where
+    (bytes : ℕ) (grown : block.bytes + length (line_text spec.sig (step_line fit.step)) ≤ bytes)
+    (new : KeptBlock) (left : IsLeft block i fit.made rest bytes new) where
   abbrev flags : List Bool
   flags = left.flags
 
@@ -198,7 +206,8 @@ module _
       let g : length new.steps.items ≡ length others = ap (λ ss. length ss) steps_are in
       omega (arith, a, b, d, e, g)
 
-  -- where a flag says that no closing step fits a node that stays, none does after the cut
+  -- where a flag says that no closing step fits a node that stays but by the node itself, none does
+  -- after the cut
   module _ (j : ℕ) (at : slice_get new.hopeful.items j ≡ Some false) where
     from :
         (k : ℕ) × (slice_get block.hopeful.items k ≡ Some false) × (stays (0 + k) ≡ true) ×
@@ -273,7 +282,7 @@ module _
         ∙ take_staying stays olds before before_within
 
     pub new_hopeless :
-        NoneFits above spec (ProvedBefore spec (take number report.claims)) (clauses_of new.nodes.items)
+        OnlyItselfFits above spec (ProvedBefore spec (take number report.claims)) (clauses_of new.nodes.items)
         (first_child made_new j) j
     new_hopeless d is =
         let x = there olds from.0 (omega (arith, k_within, long_nodes above one spec fine report number block kept)) in
@@ -285,15 +294,25 @@ module _
         let old : slice_get olds from.0 ≡ Some d = x.1 ∙ ap (λ (a : Clause). Some a) e in
         let none_old = kept.hopeless from.0 from.1 d old in
         let usable : ℕ → Type 0 = ProvedBefore spec (take number report.claims) in
-        let none_new : AreDefined above spec usable (staying stays 0 (take before olds)) (new_number stays from.0)
-        (closing_steps spec (staying stays 0 olds) d) [] =
-        none_left above spec usable stays olds before olds_few from.0 k_stays d none_old in
-        subst (λ ns. AreDefined above spec usable (take (first_child made_new j) (clauses_of new.nodes.items)) j
-        (closing_steps spec ns d) []) (sym left_nodes)
-        (subst (λ ns. AreDefined above spec usable ns j (closing_steps spec (staying stays 0 olds) d) [])
+        let none_new = none_left above spec usable stays olds before olds_few from.0 k_stays d none_old in
+        subst (λ ns. AllByRecursion (IsByItself above spec usable
+        (take (first_child made_new j) (clauses_of new.nodes.items)) j) (closing_steps spec ns d)) (sym left_nodes)
+        (subst (λ ns. AllByRecursion (IsByItself above spec usable ns j) (closing_steps spec (staying stays 0 olds) d))
         (sym news_before)
-        (subst (λ a. AreDefined above spec usable (staying stays 0 (take before olds)) a
-        (closing_steps spec (staying stays 0 olds) d) []) j_is none_new))
+        (subst (λ a. AllByRecursion (IsByItself above spec usable (staying stays 0 (take before olds)) a)
+        (closing_steps spec (staying stays 0 olds) d)) j_is none_new))
+
+  new_text : length (claim_text spec.sig (proves kept.name new.steps.items)) ≤ new.bytes
+  new_text =
+      let s : c.claim.steps ≡ block.steps.items =
+      steps_same above one spec fine whole number number refl c.claim kept.claim ∙ kept.steps in
+      let cut : IsCut block.steps.items c.claim.made i fit.step rest =
+      subst (λ ss. IsCut ss c.claim.made i fit.step rest) s c.cut in
+      let t = cut_text spec.sig kept.name block.steps.items c.claim.made i fit.step rest cut in
+      let e : length (claim_text spec.sig (proves kept.name new.steps.items))
+      ≡ length (claim_text spec.sig (proves kept.name rest)) =
+      ap (λ ss. length (claim_text spec.sig (proves kept.name ss))) left.steps in
+      omega (arith, t, e, kept.text, grown, left.bytes_are)
 
   pub still_kept : IsKept above spec report number new
   unfolding new_claim
@@ -309,4 +328,5 @@ module _
     links = links_are;
     flags = new_flags;
     hopeless = new_hopeless;
+    text = new_text;
   }

@@ -30,7 +30,7 @@ mod ClosingKinds
 mod NodesWithin
 pub mod TextBound
 mod StandingSteps
-mod StandingReports
+pub mod StandingReports
 -- Claims that are trimmed one after the other.
 pub mod ClaimByClaim
 pub mod TrimmedClaims
@@ -38,6 +38,7 @@ pub mod KeptClaims
 pub mod FirstFits
 pub mod FoundCuts
 pub mod HopefulNodes
+pub mod SharedKeys
 pub mod BlocksTaken
 pub mod KeptBlocks
 pub mod NodesKept
@@ -54,6 +55,7 @@ pub mod Adding
 pub mod Unfit
 pub mod TriedSteps
 pub mod Passing
+pub mod ByItself
 -- Which steps are closing steps.
 pub mod ClosingCases
 -- A block that is cut by flags.
@@ -64,5 +66,9 @@ pub mod NodeCounts
 pub mod BlockRests
 pub mod FewerFits
 pub mod KeptCuts
+pub mod OnlyItself
+pub mod StagedFits
+pub mod AloneNodes
 pub mod RestFacts
+pub mod ClosingRanges
 pub mod GivenCuts

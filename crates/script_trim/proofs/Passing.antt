@@ -1,5 +1,6 @@
 -- Nodes and goals that are tried one after the other, and what all closing steps come to.
-use Rattle.std.proofs.Common.{◌≡◌, ℕ, zero, suc, ◌+◌, ◌<◌, ◌≤◌, List, [], ◌∷◌, ◌++◌, Bool, true, false, Option, Some}
+use Rattle.std.proofs.Common.{◌≡◌, ℕ, zero, suc, ◌+◌, ◌<◌, ◌≤◌, List, [], ◌∷◌, ◌++◌, Bool, true, false}
+use Rattle.std.proofs.Common.{Option, Some}
 use Rattle.std.proofs.Common.{None, refl, sym, ◌∙◌, ap, subst, arith, length, map, take, get_or}
 use Rattle.std.specs.Prelude.{◌↔◌, IsTrue, slice_get, Contains}
 use Rattle.std.proofs.lemmas.List.{length-map, take-map, length-take-le}
@@ -21,12 +22,14 @@ use Rattle.script_trim.specs.declared.blocks.Fit.{Fit}
 use Rattle.script_trim.specs.declared.fitting.Spot.{Spot}
 use Rattle.script_trim.specs.declared.lemmas.LemmaClause.{LemmaClause}
 use Rattle.script_trim.specs.Closing.{trivials, matches, absurds, own_variables, subsume_each, by_whole_lemma}
-use Rattle.script_trim.specs.Closing.{by_each_lemma, closing_steps}
-use Rattle.script_trim.specs.Fitting.{AreDefined, AreFitting}
+use Rattle.script_trim.specs.Closing.{by_each_lemma}
+use Rattle.script_trim.specs.Fitting.{own_steps, other_steps, AreDefined, AreFitting}
 use Rattle.script_trim.specs.Keys.{equation_key, key_of, MayClose}
+use Rattle.script_trim.specs.Sharing.{IsAlone}
 use Rattle.script_trim.specs.Trying.{lemma_clause, IsSpot, Adds, AreFits}
 use Rattle.script_trim.proofs.Adding.{adds_then, adds_nothing, adds_next}
-use Rattle.script_trim.proofs.Unfit.{node_agrees, node_subsumes, goal_agrees, goal_subsumes, made_are_enough, node_step}
+use Rattle.script_trim.proofs.Unfit.{node_agrees, node_subsumes, goal_agrees, goal_subsumes}
+use Rattle.script_trim.proofs.Unfit.{made_are_enough, node_step}
 use Rattle.script_trim.proofs.Whole.{key_there, lemma_there, item_there}
 
 differs : (answer : Bool) → answer ≡ false → IsTrue answer → ⊥
@@ -127,24 +130,35 @@ module _ (above : Tree → Tree → Type 0) (spot : Spot) where
       adds_next above spot (by_each_lemma goals) k (by_whole_lemma goal.0) old mid new
       (goal_step goals k goal.0 goal.1) before (here goal.0 goal.1)
 
-  -- all kinds one after the other
-  pub all_tried : (a b c d e fits : List Fit) → a ≡ [] → Adds above spot (trivials spot.here.now) a b →
-      Adds above spot (matches spot.here.now) b c → Adds above spot (absurds spot.here.now) c d →
-      Adds above spot (subsume_each 0 (clauses_of spot.nodes.now)) d e →
-      Adds above spot (by_each_lemma spot.spec.now.goals) e fits → AreFits above spot fits
-  all_tried a b c d e fits empty ts ms os ss ls all is =
-      let here : Clause = spot.here.now in
-      let lemmas : List Step = by_each_lemma spot.spec.now.goals in
-      let each : List Step = subsume_each 0 all in
-      let whole : Adds above spot (closing_steps spot.spec.now all here) a fits =
-      adds_then above spot (trivials here) (matches here ++ (absurds here ++ (each ++ lemmas))) a b fits ts
-      (adds_then above spot (matches here) (absurds here ++ (each ++ lemmas)) b c fits ms
-      (adds_then above spot (absurds here) (each ++ lemmas) c d fits os
-      (adds_then above spot each lemmas d e fits (made_are_enough above spot all
-      (length (clauses_of spot.nodes.now)) d e is ss) ls))) in
+  -- those that are added to none are all
+  all_more : (steps : List Step) (a fits : List Fit) → a ≡ [] → Adds above spot steps a fits →
+      AreDefined above spot.spec.now (Contains spot.proved.now) (clauses_of spot.nodes.now) spot.number steps fits
+  all_more steps a fits empty whole =
       let more : fits ≡ whole.more = whole.is ∙ ap (λ fs. fs ++ whole.more) empty in
       subst (λ fs. AreDefined above spot.spec.now (Contains spot.proved.now) (clauses_of spot.nodes.now) spot.number
-      (closing_steps spot.spec.now all here) fs) (sym more) whole.defined
+      steps fs) (sym more) whole.defined
+
+  -- kinds one after the other
+  pub own_tried : (a b c fits : List Fit) → a ≡ [] → Adds above spot (trivials spot.here.now) a b →
+      Adds above spot (matches spot.here.now) b c → Adds above spot (absurds spot.here.now) c fits →
+      AreFits above spot own_steps fits
+  own_tried a b c fits empty ts ms os all is =
+      let here : Clause = spot.here.now in
+      let whole : Adds above spot (own_steps spot.spec.now all here) a fits =
+      adds_then above spot (trivials here) (matches here ++ absurds here) a b fits ts
+      (adds_then above spot (matches here) (absurds here) b c fits ms os) in
+      all_more (own_steps spot.spec.now all here) a fits empty whole
+
+  pub others_tried : (a b fits : List Fit) → a ≡ [] →
+      Adds above spot (subsume_each 0 (clauses_of spot.nodes.now)) a b →
+      Adds above spot (by_each_lemma spot.spec.now.goals) b fits → AreFits above spot other_steps fits
+  others_tried a b fits empty ss ls all is =
+      let lemmas : List Step = by_each_lemma spot.spec.now.goals in
+      let each : List Step = subsume_each 0 all in
+      let whole : Adds above spot (other_steps spot.spec.now all spot.here.now) a fits =
+      adds_then above spot each lemmas a b fits
+      (made_are_enough above spot all (length (clauses_of spot.nodes.now)) a b is ss) ls in
+      all_more (other_steps spot.spec.now all spot.here.now) a fits empty whole
 
 get_taken : {X : Type 0} (xs : List X) (n i : ℕ) → i < n → slice_get (take n xs) i ≡ slice_get xs i
 get_taken xs zero i lt = absurd (omega arith)
@@ -161,12 +175,12 @@ got_taken (y ∷ xs) (suc n) (suc i) x at = got_taken xs n i x at
 
 -- in the block of all nodes
 pub fits_in_block :
-    (above : Tree → Tree → Type 0) (spot : Spot) (spec : Spec) (numbers : List ℕ) (nodes : List Node) (before i : ℕ)
-    (fits : List Fit) →
+    (steps : Spec → List Clause → Clause → List Step) (above : Tree → Tree → Type 0) (spot : Spot) (spec : Spec)
+    (numbers : List ℕ) (nodes : List Node) (before i : ℕ) (fits : List Fit) →
     IsSpot spot → spot.spec.now ≡ spec → spot.proved.now ≡ numbers → spot.nodes.now ≡ take before nodes →
     spot.number ≡ i → before ≤ length nodes → i < before →
-    AreFits above spot fits → AreFitting above spec (Contains numbers) (clauses_of nodes) before i fits
-fits_in_block above spot spec numbers nodes before i fits is spec_is proved_is nodes_are number_is le lt h d at =
+    AreFits above spot steps fits → AreFitting above spec (Contains numbers) steps (clauses_of nodes) before i fits
+fits_in_block steps above spot spec numbers nodes before i fits is spec_is proved_is nodes_are number_is le lt h d at =
     let all : List Clause = clauses_of nodes in
     let own : List Clause = clauses_of spot.nodes.now in
     let taken : own ≡ take before all = ap (λ ns. clauses_of ns) nodes_are
@@ -179,16 +193,16 @@ fits_in_block above spot spec numbers nodes before i fits is spec_is proved_is n
     ∙ ap (λ n. slice_get own n) (sym number_is) ∙ is.here in
     let two : Some spot.here.now ≡ Some d = sym there ∙ at in
     let here : spot.here.now ≡ d = cc in
-    subst (λ (x : Clause). AreDefined above spec (Contains numbers) (take before all) i (closing_steps spec all x)
+    subst (λ (x : Clause). AreDefined above spec (Contains numbers) (take before all) i (steps spec all x)
     fits) here
-    (subst (λ n. AreDefined above spec (Contains numbers) (take before all) n (closing_steps spec all spot.here.now)
+    (subst (λ n. AreDefined above spec (Contains numbers) (take before all) n (steps spec all spot.here.now)
     fits) number_is
-    (subst (λ cs. AreDefined above spec (Contains numbers) cs spot.number (closing_steps spec all spot.here.now)
+    (subst (λ cs. AreDefined above spec (Contains numbers) cs spot.number (steps spec all spot.here.now)
     fits) taken
-    (subst (λ ns. AreDefined above spec (Contains ns) own spot.number (closing_steps spec all spot.here.now) fits)
+    (subst (λ ns. AreDefined above spec (Contains ns) own spot.number (steps spec all spot.here.now) fits)
     proved_is
     (subst (λ (s : Spec). AreDefined above s (Contains spot.proved.now) own spot.number
-    (closing_steps s all spot.here.now) fits) spec_is
+    (steps s all spot.here.now) fits) spec_is
     (h all enough)))))
 
 -- the first nodes are nodes, with their keys
@@ -206,3 +220,14 @@ first_keys keys nodes made before are is =
     ap (λ ks. take before ks) are ∙ take-map key_of before (clauses_of nodes)
     ∙ ap (λ cs. map key_of cs) (take-map (λ (n : Node). n.clause) before nodes)
     ∙ sym (ap (λ ns. map key_of (clauses_of ns)) is)
+
+-- and a node that is alone among all is alone among them
+pub first_alone :
+    (nodes : List Node) (before i : ℕ) → ((c : Clause) → slice_get (clauses_of nodes) i ≡ Some c →
+    IsAlone (clauses_of nodes) i c) → (c : Clause) → slice_get (clauses_of (take before nodes)) i ≡ Some c →
+    IsAlone (clauses_of (take before nodes)) i c
+first_alone nodes before i alone c at j d apart there =
+    let all : List Clause = clauses_of nodes in
+    let taken : take before all ≡ clauses_of (take before nodes) = take-map (λ (n : Node). n.clause) before nodes in
+    alone c (got_taken all before i c (ap (λ cs. slice_get cs i) taken ∙ at)) j d apart
+    (got_taken all before j d (ap (λ cs. slice_get cs j) taken ∙ there))

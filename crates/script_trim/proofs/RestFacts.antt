@@ -1,5 +1,6 @@
 -- What is left of a kept block, by the lists that the code reads.
-use Rattle.std.proofs.Common.{◌≡◌, ◌⊎◌, ◌∙◌, ◌<◌, ◌≤◌, ◌^◌, ℕ, List, Bool, true, false, Some, None, Option, inl, inr}
+use Rattle.std.proofs.Common.{◌≡◌, ◌⊎◌, ◌∙◌, ◌+◌, ◌<◌, ◌≤◌, ◌^◌, ℕ, List, Bool, true, false, Some, None}
+use Rattle.std.proofs.Common.{Option, inl, inr}
 use Rattle.std.proofs.Common.{refl, sym, ap, subst, arith, length, map}
 use Rattle.std.specs.Prelude.{MatchOption, slice_get, slice_set}
 use Rattle.std.specs.List.{AllByRecursion}
@@ -15,6 +16,8 @@ use Rattle.acceptance.specs.Strict.{AllAreAllowed}
 use Rattle.block_links.specs.Links.{links_of}
 use Rattle.proof_script.specs.Claims.{claim_text}
 use Rattle.proof_script.specs.Ranges.{ClaimIsInRange}
+use Rattle.proof_script.specs.Steps.{step_line}
+use Rattle.proof_script.specs.Words.{line_text}
 use Rattle.script_trim.specs.declared.blocks.Fit.{Fit}
 use Rattle.script_trim.specs.declared.blocks.KeptBlock.{KeptBlock}
 use Rattle.script_trim.specs.Cut.{renumbered, staying, RefersToStaying}
@@ -23,10 +26,12 @@ use Rattle.script_trim.specs.Flags.{flag_of, RefersWithin, TellStaying}
 use Rattle.script_trim.specs.Kept.{IsKept}
 use Rattle.script_trim.specs.Made.{cut_made}
 use Rattle.script_trim.specs.Trimmed.{proves}
-use Rattle.script_trim.proofs.BlockRests.{all_by_allowed, allowed_by_all, allowed_by_less, can_close, closed_refers}
-use Rattle.script_trim.proofs.BlockRests.{few_clauses, in_range, long_flags, long_links, must_be_allowed}
+use Rattle.script_trim.proofs.BlockRests.{all_by_allowed, allowed_by_all, allowed_by_less, can_close}
+use Rattle.script_trim.proofs.BlockRests.{closed_refers}
+use Rattle.script_trim.proofs.BlockRests.{cut, few_clauses, in_range, long_flags, long_links, must_be_allowed}
 use Rattle.script_trim.proofs.BlockRests.{must_be_short, must_refer, new_whole, whole_linked}
 use Rattle.script_trim.proofs.LinkedCuts.{refers_within}
+use Rattle.script_trim.proofs.TextBound.{cut_text}
 
 module _
     (above : Tree → Tree → Type 0) (one : OneRelation above) (spec : Spec) (fine : IsWellSorted spec)
@@ -138,6 +143,22 @@ module _
       rest_in_range =
           subst (ClaimIsInRange spec.sig) (sym same) (in_range above one spec fine report number block kept i within
           fit fits flags told_flags refer_block)
+
+      -- the text gets longer by the closing step's line at most
+      pub rest_bound :
+          length (claim_text spec.sig (proves name rest))
+          ≤ block.bytes + length (line_text spec.sig (step_line fit.step))
+      rest_bound =
+          let others = map (renumbered (flag_of flags))
+          (staying (flag_of flags) 0 (slice_set block.steps.items i fit.step)) in
+          let t = cut_text spec.sig kept.name kept.claim.steps kept.claim.made i fit.step others
+          (cut above one spec fine report number block kept i within fit fits flags told_flags refer_block) in
+          let e : length (claim_text spec.sig (proves name rest))
+          ≡ length (claim_text spec.sig (proves kept.name others)) = ap (λ x. length (claim_text spec.sig x)) same in
+          let f : length (claim_text spec.sig (proves kept.name kept.claim.steps))
+          ≡ length (claim_text spec.sig (proves kept.name block.steps.items)) =
+          ap (λ ss. length (claim_text spec.sig (proves kept.name ss))) kept.steps in
+          omega (arith, t, e, f, kept.text)
 
       pub closes_short :
           (length (claim_text spec.sig (proves name rest)) ≤ 300000 → ⊥) → (others : List Step) →

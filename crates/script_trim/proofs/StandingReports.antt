@@ -1,5 +1,6 @@
 -- A report to which an accepted one leads has a text, where the accepted one has.
-use Rattle.std.proofs.Common.{◌≡◌, ℕ, ◌+◌, ◌-◌, ◌*◌, ◌≤◌, ◌<◌, List, [], ◌∷◌, ◌++◌, Bool, Some, refl, sym, ◌∙◌, ap}
+use Rattle.std.proofs.Common.{◌≡◌, ℕ, ◌+◌, ◌-◌, ◌*◌, ◌≤◌, ◌<◌, List, [], ◌∷◌, ◌++◌, Bool, Some, refl, sym}
+use Rattle.std.proofs.Common.{◌∙◌, ap}
 use Rattle.std.proofs.Common.{subst, take, arith, length, length-append, length-take, map}
 use Rattle.std.specs.Prelude.{slice_get, slice_set}
 use Rattle.std.specs.List.{AllByRecursion}
@@ -69,7 +70,7 @@ module _ (sig : Sig) where
         short_claims (n - length text) cs (omega (arith, l, parts)) h.1,
       )
 
-  claims_length :
+  pub claims_length :
       (claims : List Claim) → AllByRecursion IsShortClaim claims →
       length (claims_text sig claims) ≤ 300000 * length claims
   claims_length [] h = omega arith
@@ -77,7 +78,7 @@ module _ (sig : Sig) where
       let parts = length-append (claim_text sig c) (claims_text sig cs) in
       omega (arith, h.0, parts, claims_length cs h.1)
 
-  report_length :
+  pub report_length :
       (report : Report) →
       length (report_text sig report)
       ≡ length (lines_text sig (header_lines report.steps))

@@ -1,5 +1,6 @@
 -- A cut makes the text of a claim longer by at most the closing step's line.
-use Rattle.std.proofs.Common.{◌≡◌, ℕ, zero, suc, ◌+◌, ◌/◌, ◌%◌, ◌≤◌, List, [], ◌∷◌, ◌++◌, Bool, true, false, refl, ap}
+use Rattle.std.proofs.Common.{◌≡◌, ℕ, zero, suc, ◌+◌, ◌/◌, ◌%◌, ◌≤◌, List, [], ◌∷◌, ◌++◌, Bool, true, false}
+use Rattle.std.proofs.Common.{refl, ap}
 use Rattle.std.proofs.Common.{eq-eqb, eqb-true, arith, length, length-append, map}
 use Rattle.std.specs.Prelude.{◌==◌, codes, cond, flat_map, slice_get, slice_set, Some, None}
 use Rattle.std.specs.Fmt.{decimal, digits, digits_onto, digit_glyph}
@@ -10,7 +11,8 @@ use Rattle.clause_core.specs.declared.steps.Step.{Step}
 use Rattle.clause_core.specs.declared.steps.Step.TheVariants.{Subsume, Hyp}
 use Rattle.proof_script.specs.Claims.{claim_text, first_line}
 use Rattle.proof_script.specs.Steps.{step_line}
-use Rattle.proof_script.specs.Words.{Word, fixed, name, number, place, side, terms, word_text, line_text, lines_text}
+use Rattle.proof_script.specs.Words.{Word, fixed, name, number, place, side, terms, word_text, line_text}
+use Rattle.proof_script.specs.Words.{lines_text}
 use Rattle.script_trim.specs.Cut.{new_number, renumbered, staying, IsCut}
 use Rattle.script_trim.specs.Trimmed.{proves}
 use Rattle.script_trim.proofs.OneCut.{anew_bound, length_rest}
@@ -199,3 +201,17 @@ module _ (sig : Sig) where
       let old = claim_length goal steps in
       let shrinks = staying_shrinks cut.stays 0 (slice_set steps i step) in
       omega (arith, same, first, new, old, shrinks, set_grows steps i step)
+
+  -- so has a claim by this step alone at least the step's line
+  pub line_bound :
+      (goal : List ℕ) (step : Step) (bytes sum : ℕ) → sum ≡ bytes + length (claim_text sig (proves goal (step ∷ []))) →
+      bytes + length (line_text sig (step_line step)) ≤ sum
+  line_bound goal step bytes sum is =
+      omega (arith, is, claim_length goal (step ∷ []), steps_length step [])
+
+-- bounds of bounds
+pub within_sum : (a b line sum : ℕ) → a ≤ b + line → b + line ≤ sum → a ≤ sum
+within_sum a b line sum l g = omega (arith, l, g)
+
+pub at_most : (n m : ℕ) → n ≡ m → m ≤ n
+at_most n m e = omega (arith, e)

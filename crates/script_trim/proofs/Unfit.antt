@@ -1,5 +1,6 @@
 -- Clauses that can't close a node as they are: those whose keys don't agree, and nodes that aren't made yet.
-use Rattle.std.proofs.Common.{◌≡◌, ◌⊎◌, ℕ, zero, suc, ◌+◌, ◌≤◌, List, [], ◌∷◌, ◌++◌, Option, Some, None, Ok, Err, inl}
+use Rattle.std.proofs.Common.{◌≡◌, ◌⊎◌, ℕ, zero, suc, ◌+◌, ◌≤◌, List, [], ◌∷◌, ◌++◌, Option, Some, None, Ok}
+use Rattle.std.proofs.Common.{Err, inl}
 use Rattle.std.proofs.Common.{inr, refl, sym, ◌∙◌, ap, subst, arith, length, map, take, drop}
 use Rattle.std.specs.Prelude.{slice_get, Contains, Result}
 use Rattle.std.specs.List.{AllByRecursion}
@@ -24,17 +25,17 @@ use Rattle.inference_rules.specs.Answers.{clauses_of}
 use Rattle.script_trim.specs.declared.blocks.Fit.{Fit}
 use Rattle.script_trim.specs.declared.fitting.Spot.{Spot}
 use Rattle.script_trim.specs.Closing.{own_variables, subsume_each, by_whole_lemma}
-use Rattle.script_trim.specs.Fitting.{AreDefined, none, undefined}
+use Rattle.script_trim.specs.Fitting.{AreDefined, none, left_out}
 use Rattle.script_trim.specs.Keys.{equation_key, key_of, MayClose}
 use Rattle.script_trim.specs.Trying.{IsSpot, MakesThere, Adds}
 use Rattle.script_trim.proofs.Adding.{adds_then}
 use Rattle.script_trim.proofs.EquationKeys.{keys_agree}
 use Rattle.script_trim.proofs.OwnVariables.{premises_stay, conclusions_stay}
 
-same_item : {X : Type 0} (o : Option X) (x y : X) → o ≡ Some x → o ≡ Some y → x ≡ y
+pub same_item : {X : Type 0} (o : Option X) (x y : X) → o ≡ Some x → o ≡ Some y → x ≡ y
 same_item o x y p q = let e : Some x ≡ Some y = sym p ∙ q in cc
 
-not_both : {X : Type 0} (made : Children) (why : Why) → ◌≡◌ {A = Result Children Why} (Ok made) (Err why) → X
+pub not_both : {X : Type 0} (made : Children) (why : Why) → ◌≡◌ {A = Result Children Why} (Ok made) (Err why) → X
 not_both made why e = absurd (cc)
 
 -- what is made is made by an instance that subsumes
@@ -127,8 +128,9 @@ module _ (above : Tree → Tree → Type 0) (spec : Spec) (usable : ℕ → Type
   later_nodes : (k : ℕ) (later : List Clause) → length nodes ≤ k →
       AreDefined above spec usable nodes i (subsume_each k later) []
   later_nodes k [] le = none
-  later_nodes k (d ∷ later) le = undefined (λ made makes. isnt_made makes.clause k (own_variables d) made le
-      makes.says) (later_nodes (suc k) later (omega (arith, le)))
+  later_nodes k (d ∷ later) le =
+      left_out (λ made makes. absurd (isnt_made makes.clause k (own_variables d) made le makes.says))
+      (later_nodes (suc k) later (omega (arith, le)))
 
 each_joined : (k : ℕ) (ds es : List Clause) → subsume_each k (ds ++ es) ≡ subsume_each k ds ++ subsume_each
     (k + length ds) es

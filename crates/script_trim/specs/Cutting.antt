@@ -1,11 +1,12 @@
 -- What is asked of a closing step where it cuts a block, and what that leaves.
-use Rattle.std.specs.Prelude.{◌≡◌, ◌⊎◌, ℕ, ◌<◌, Bool, true, false, List, Some, Contains, length, map, slice_get, take}
+use Rattle.std.specs.Prelude.{◌≡◌, ◌⊎◌, ℕ, ◌<◌, Bool, true, false, List, Some, Contains, length, map}
+use Rattle.std.specs.Prelude.{slice_get, take}
 use Rattle.term_core.specs.Tree.{Tree}
 use Rattle.spec_core.specs.declared.records.Spec.{Spec}
 use Rattle.clause_core.specs.declared.answers.Children.{Children}
 use Rattle.clause_core.specs.declared.answers.Reference.{Reference}
 use Rattle.clause_core.specs.declared.clauses.Clause.{Clause}
-use Rattle.clause_core.specs.declared.clauses.Relation.TheVariants.{Less, Same}
+use Rattle.clause_core.specs.declared.clauses.Relation.TheVariants.{Less}
 use Rattle.clause_core.specs.declared.reports.Report.{Report}
 use Rattle.clause_core.specs.declared.steps.Step.{Step}
 use Rattle.acceptance.specs.AllowedAnswers.{IsWholeBlock}
@@ -35,9 +36,9 @@ pub record IsCuttable (block : KeptBlock) (i : ℕ) (closed : Children) : Type 0
   pub refs : RefersWithin (length block.links.items) closed
 
 -- the block that is left where node i is closed, and what closes it makes this: of each of its lists
--- what stays, with the references of links under their new numbers
+-- what stays, with the references of links under their new numbers; and this many bytes
 pub record IsLeft
-    (block : KeptBlock) (i : ℕ) (closed : Children) (rest : List Step) (new : KeptBlock) : Type 0 where
+    (block : KeptBlock) (i : ℕ) (closed : Children) (rest : List Step) (bytes : ℕ) (new : KeptBlock) : Type 0 where
   pub flags : List Bool
   pub told : TellStaying block.links.items i flags
   pub steps : new.steps.items ≡ rest
@@ -46,11 +47,7 @@ pub record IsLeft
   pub links :
       new.links.items ≡ map links_of (cut_made (flag_of flags) block.links.items i closed)
   pub hopeful : new.hopeful.items ≡ staying (flag_of flags) 0 block.hopeful.items
-
--- one of the references is to node i, with the same sides
-abbrev pub RefersToItself : ℕ → List Reference → Type 0
-RefersToItself i refs =
-    (a : ℕ) × (r : Reference) × (slice_get refs a ≡ Some r) × (r.node ≡ i) × (r.relation ≡ Same)
+  pub bytes_are : new.bytes ≡ bytes
 
 -- the answer whether everything is allowed where node i is closed, and what closes it makes this, by
 -- the links of the block: it is in any case where each reference is Less

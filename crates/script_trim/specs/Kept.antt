@@ -1,5 +1,5 @@
 -- The block of a claim that is being trimmed.
-use Rattle.std.specs.Prelude.{◌≡◌, ℕ, List, Some, false, length, map, slice_get, take}
+use Rattle.std.specs.Prelude.{◌≡◌, ◌≤◌, ℕ, List, Some, false, length, map, slice_get, take}
 use Rattle.term_core.specs.Tree.{Tree}
 use Rattle.spec_core.specs.declared.records.Spec.{Spec}
 use Rattle.clause_core.specs.declared.reports.Report.{Report}
@@ -11,8 +11,9 @@ use Rattle.acceptance.specs.Claims.{ProvedBefore}
 use Rattle.acceptance.specs.Strict.{first_child}
 use Rattle.block_links.specs.Links.{links_of}
 use Rattle.inference_rules.specs.Answers.{clauses_of}
+use Rattle.proof_script.specs.Claims.{claim_text}
 use Rattle.script_trim.specs.declared.blocks.KeptBlock.{KeptBlock}
-use Rattle.script_trim.specs.Fitting.{NoneFits}
+use Rattle.script_trim.specs.Fitting.{OnlyItselfFits}
 use Rattle.script_trim.specs.Keys.{key_of}
 use Rattle.script_trim.specs.Trimmed.{proves, with_steps, ProvedClaim}
 
@@ -23,7 +24,8 @@ module _ (above : Tree → Tree → Type 0) (spec : Spec) (report : Report) (num
 
   -- The block has the steps of a claim that is proved, the clauses of its nodes with their keys, and
   -- the links between them. The report with these steps in the claim is accepted. Where the flag of a
-  -- node is false, no closing step is defined there.
+  -- node is false, no closing step is defined there, apart from steps by the node itself. The text of
+  -- the claim has at most that many bytes.
   pub record IsKept (block : KeptBlock) : Type 0 where
     pub name : List ℕ
     pub old : List Step
@@ -37,5 +39,6 @@ module _ (above : Tree → Tree → Type 0) (spec : Spec) (report : Report) (num
     pub flags : length block.hopeful.items ≡ length block.steps.items
     pub hopeless :
         (i : ℕ) → slice_get block.hopeful.items i ≡ Some false →
-        NoneFits above spec (ProvedBefore spec (take number report.claims))
+        OnlyItselfFits above spec (ProvedBefore spec (take number report.claims))
         (clauses_of block.nodes.items) (first_child claim.made i) i
+    pub text : length (claim_text spec.sig (proves name block.steps.items)) ≤ block.bytes

@@ -9,6 +9,7 @@ pub mod Standing
 pub mod Examples
 -- What only this crate's own contracts speak of.
 pub mod Keys
+pub mod Sharing
 pub mod Fitting
 pub mod Trying
 pub mod Kept

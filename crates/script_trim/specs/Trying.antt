@@ -1,5 +1,6 @@
 -- Closing steps that are tried at a node, one after the other.
-use Rattle.std.specs.Prelude.{◌≡◌, ◌<◌, ◌^◌, List, ◌++◌, Option, Some, None, Contains, length, map, slice_get, take}
+use Rattle.std.specs.Prelude.{◌≡◌, ◌<◌, ◌^◌, List, ◌++◌, Option, Some, None, Contains, IsTrue, length, map}
+use Rattle.std.specs.Prelude.{slice_get, take}
 use Rattle.term_core.specs.Tree.{Tree}
 use Rattle.spec_core.specs.declared.records.Goal.{Goal}
 use Rattle.spec_core.specs.declared.records.Spec.{Spec}
@@ -16,9 +17,9 @@ use Rattle.script_trim.specs.declared.blocks.Fit.{Fit}
 use Rattle.script_trim.specs.declared.fitting.Spot.{Spot}
 use Rattle.script_trim.specs.declared.lemmas.LemmaClause.{LemmaClause}
 use Rattle.script_trim.specs.declared.lemmas.Lemmas.{Lemmas}
-use Rattle.script_trim.specs.Closing.{closing_steps}
 use Rattle.script_trim.specs.Fitting.{AreDefined}
 use Rattle.script_trim.specs.Keys.{key_of}
+use Rattle.script_trim.specs.Sharing.{IsAlone}
 
 -- the clause of a goal, with its key
 abbrev pub lemma_clause : Goal → LemmaClause
@@ -28,7 +29,8 @@ lemma_clause goal = record { clause = goal_clause goal; key = key_of (goal_claus
 abbrev pub AreLemmas : Spec → Lemmas → Type 0
 AreLemmas spec lemmas = lemmas.clauses.items ≡ map lemma_clause spec.goals
 
--- the clause is that of the node of this number, among nodes of a well sorted specification
+-- the clause is that of the node of this number, among nodes of a well sorted specification; where it is
+-- said to be alone it is
 pub record IsSpot (spot : Spot) : Type 0 where
   pub fine : IsWellSorted spot.spec.now
   pub nodes : AreNodes spot.spec.now.sig (clauses_of spot.nodes.now)
@@ -36,6 +38,7 @@ pub record IsSpot (spot : Spot) : Type 0 where
   pub in_range : spot.number < length spot.nodes.now
   pub here : slice_get (clauses_of spot.nodes.now) spot.number ≡ Some spot.here.now
   pub node : IsNode spot.spec.now.sig spot.here.now
+  pub alone : IsTrue spot.alone → IsAlone (clauses_of spot.nodes.now) spot.number spot.here.now
 
 module _ (above : Tree → Tree → Type 0) (spot : Spot) where
   -- what the step makes there
@@ -58,9 +61,9 @@ module _ (above : Tree → Tree → Type 0) (spot : Spot) where
         spot.number steps more
 
   -- the fits at the node of a block that begins with these nodes, whatever nodes come later
-  abbrev pub AreFits : List Fit → Type 0
-  AreFits fits =
+  abbrev pub AreFits : (Spec → List Clause → Clause → List Step) → List Fit → Type 0
+  AreFits steps fits =
       (all : List Clause) →
       take (length (clauses_of spot.nodes.now)) all ≡ clauses_of spot.nodes.now →
       AreDefined above spot.spec.now (Contains spot.proved.now) (clauses_of spot.nodes.now)
-      spot.number (closing_steps spot.spec.now all spot.here.now) fits
+      spot.number (steps spot.spec.now all spot.here.now) fits

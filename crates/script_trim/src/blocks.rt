@@ -11,8 +11,10 @@ pub(crate) struct KeptBlock {
     pub keys: Vec<Option<u32>>,
     /// For each step the relations of its children and its references.
     pub links: Vec<Children>,
-    /// For each node whether a closing step may be defined there.
+    /// For each node whether a closing step may be defined there that isn't by the node itself.
     pub hopeful: Vec<bool>,
+    /// How many bytes the text of the claim has at most.
+    pub bytes: usize,
 }
 
 /// A closing step that is defined at a node, with what it makes: references alone.

@@ -6,7 +6,8 @@ ghost use Rattle.clause_core.specs.declared.answers.Reference.{Reference as Refe
 ghost use Rattle.clause_core.specs.declared.clauses.Relation.TheVariants.{Less as less, Same as same};
 ghost use Rattle.acceptance.specs.AllowedAnswers.{IsWholeBlock};
 ghost use Rattle.block_links.specs.Links.{links_of, without_sides};
-ghost use Rattle.script_trim.specs.Cutting.{RefersToItself, TellsAllowed};
+ghost use Rattle.script_trim.specs.Cutting.{TellsAllowed};
+ghost use Rattle.script_trim.specs.Fitting.{RefersToItself};
 ghost use Rattle.script_trim.specs.Flags.{flag_of, AreNewNumbers, RefersWithin};
 ghost use Rattle.script_trim.specs.Made.{cut_made, made_renumbered, reference_renumbered};
 

@@ -1,4 +1,5 @@
-ghost use Rattle.std.specs.Prelude.{◌≡◌, ◌↔◌, ℕ, ◌<◌, ◌≤◌, List, Some, IfOk, IsTrue, MatchOption, length, map, slice_get, slice_set};
+ghost use Rattle.std.specs.Prelude.{◌≡◌, ◌↔◌, ℕ, ◌<◌, ◌≤◌, List, Some, IfOk, IsTrue, MatchOption};
+ghost use Rattle.std.specs.Prelude.{length, map, slice_get, slice_set};
 ghost use Rattle.std.specs.List.{AllByRecursion};
 ghost use Rattle.clause_core.specs.declared.reports.Claim.{Claim as ClaimOf};
 ghost use Rattle.clause_core.specs.declared.steps.Step.{Step as StepOf};
@@ -14,12 +15,13 @@ ghost use Rattle.script_trim.specs.Made.{cut_made};
 ghost use Rattle.script_trim.specs.Trimmed.{proves};
 
 use crate::blocks::{Fit, KeptBlock, NodeCut};
-use crate::copying::copy_step;
 use crate::cut_links::{are_allowed, cut_links, refers_to_itself};
 use crate::flags::{
     keep, new_numbers, refers_to_staying, staying_nodes, with_new_number, with_other,
 };
 use crate::placing::ClaimAt;
+use crate::text_bounds::bytes_with;
+use block_steps::copy_step;
 use clause_core::{Block, Children, Claim, Outcome, Report, Step};
 use proof_script::{MOST_CLAIM_BYTES, print_claim};
 use spec_admit::Admitted;
@@ -70,12 +72,9 @@ pub(crate) fn rest_of<O: TermOrder>(
         return Ok(None);
     }
     let rest = rest_steps(alloc, steps, node, &fit.step, stays, numbers)?;
-    if_short(
-        alloc,
-        &admitted.spec.sig,
-        name_at(place.report, place.number),
-        rest,
-    )
+    let name = name_at(place.report, place.number);
+    let bytes = bytes_with(alloc, &admitted.spec.sig, name, block.bytes, &fit.step)?;
+    if_short(alloc, &admitted.spec.sig, name, rest, bytes)
 }
 
 /// The name of the goal that the claim of this number is on.
@@ -135,19 +134,25 @@ fn rest_steps(
     Ok(rest)
 }
 
-/// The steps, where the claim that they prove this goal isn't too long for a report.
+/// The steps, where the claim that they prove this goal isn't too long for a report. Its text has
+/// at most this many bytes; only where these are too many it is printed.
 fn if_short(
     alloc: Global,
     sig: &Signature,
     name: &Name,
     steps: Vec<Step>,
+    bytes: usize,
 ) -> Result<Option<Vec<Step>>, OutOfMemory>
-    requires { ClaimIsInRange sig.now (proves name.now steps.items) }
+    requires range { ClaimIsInRange sig.now (proves name.now steps.items) }
+    requires bound { length (claim_text sig.now (proves name.now steps.items)) ≤ bytes }
     ensures { IfOk result (λ kept. MatchOption kept
         (length (claim_text sig.now (proves name.now steps.items)) ≤ 300000 → ⊥)
         (λ same. (same.items ≡ steps.items)
         × (length (claim_text sig.now (proves name.now steps.items)) ≤ 300000))) }
 {
+    if bytes <= MOST_CLAIM_BYTES {
+        return Ok(Some(steps));
+    }
     let block = Block {
         steps: Seq::from_vec(steps),
     };
@@ -164,7 +169,8 @@ fn if_short(
     }
 }
 
-/// The block that is left of this one after the cut. The flag of its node stays as it is.
+/// The block that is left of this one after the cut. The flag of its node stays as it is. The text
+/// gets longer by the closing step's line at most.
 pub(crate) fn cut_block<O: TermOrder>(
     alloc: Global,
     admitted: &Admitted<O>,
@@ -183,9 +189,10 @@ pub(crate) fn cut_block<O: TermOrder>(
         place.now.report.now place.now.number) }
 {
     clause_core::one_relation(&admitted.order);
-    let _place = place;
     let NodeCut { node, fit, rest } = cut;
-    left_block(alloc, block, node, fit, rest)
+    let name = name_at(place.report, place.number);
+    let bytes = bytes_with(alloc, &admitted.spec.sig, name, block.bytes, &fit.step)?;
+    left_block(alloc, block, node, fit, rest, bytes)
 }
 
 /// The lists of the block without what doesn't stay.
@@ -195,15 +202,16 @@ fn left_block(
     node: usize,
     fit: Fit,
     rest: Vec<Step>,
+    bytes: usize,
 ) -> Result<KeptBlock, OutOfMemory>
     requires { IsCuttable block node fit.made }
-    ensures { IfOk result (IsLeft block node fit.made rest.items) }
+    ensures { IfOk result (IsLeft block node fit.made rest.items bytes) }
 {
     let links = block.links.as_slice();
     let stays = staying_nodes(alloc, links, node)?;
     let stays = stays.as_slice();
     let left = left_links(alloc, links, node, &fit.made, stays)?;
-    kept_lists(alloc, block, stays, left, rest)
+    kept_lists(alloc, block, stays, left, rest, bytes)
 }
 
 /// The links that are left, with references under their new numbers.
@@ -231,10 +239,12 @@ fn kept_lists(
     stays: &[bool],
     links: Vec<Children>,
     steps: Vec<Step>,
+    bytes: usize,
 ) -> Result<KeptBlock, OutOfMemory>
     requires nodes { length block.nodes.items ≡ length stays.now }
     requires keys { length block.keys.items ≡ length stays.now }
     requires flags { length block.hopeful.items ≡ length stays.now }
+    ensures bytes { IfOk result (λ made. made.bytes ≡ bytes) }
     ensures steps { IfOk result (λ made. made.steps.items ≡ steps.items) }
     ensures links { IfOk result (λ made. made.links.items ≡ links.items) }
     ensures nodes { IfOk result
@@ -250,6 +260,7 @@ fn kept_lists(
         keys,
         links: _links,
         hopeful,
+        bytes: _bytes,
     } = block;
     let nodes = keep(alloc, nodes, stays)?;
     let keys = keep(alloc, keys, stays)?;
@@ -260,5 +271,6 @@ fn kept_lists(
         keys,
         links,
         hopeful,
+        bytes,
     })
 }

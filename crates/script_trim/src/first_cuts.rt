@@ -1,12 +1,14 @@
 ghost use Rattle.std.specs.Prelude.{◌≡◌, ◌<◌, IfOk, length};
+ghost use Rattle.std.specs.List.{AllByRecursion};
 ghost use Rattle.acceptance.specs.Strict.{first_child};
-ghost use Rattle.script_trim.specs.Finding.{FindsCutAt, FindsCutBelow, FindsFirstCut};
+ghost use Rattle.script_trim.specs.Cutting.{FitsAt};
+ghost use Rattle.script_trim.specs.Finding.{FindsAmong, FindsCutAt, FindsCutBelow, FindsFirstCut};
 ghost use Rattle.script_trim.specs.Kept.{IsKept};
 ghost use Rattle.script_trim.specs.Placing.{IsPlaced};
 
-use crate::blocks::{KeptBlock, NodeCut};
+use crate::blocks::{Fit, KeptBlock, NodeCut};
 use crate::cutting::rest_of;
-use crate::fitting::fitting_steps;
+use crate::fitting::{other_fits, own_fits};
 use crate::placing::{ClaimAt, NodeAt};
 use spec_admit::Admitted;
 use std::alloc::Global;
@@ -70,7 +72,7 @@ fn cut_below<O: TermOrder>(
 }
 
 /// The cut at this node by the first closing step that could close it. The steps before it make
-/// `before` nodes.
+/// `before` nodes. No other clause is looked at where one of the node's own equations closes it.
 fn cut_at<O: TermOrder>(
     alloc: Global,
     admitted: &Admitted<O>,
@@ -95,8 +97,34 @@ fn cut_at<O: TermOrder>(
     let at = NodeAt {
         number: node,
         before,
+        alone: false,
     };
-    let fits = fitting_steps(alloc, admitted, place.lemmas, nodes, keys, at)?;
+    let own = own_fits(alloc, admitted, place.lemmas, nodes, at)?;
+    if let Some(cut) = cut_among(alloc, admitted, place, block, node, own)? {
+        return Ok(Some(cut));
+    }
+    let others = other_fits(alloc, admitted, place.lemmas, nodes, keys, at)?;
+    cut_among(alloc, admitted, place, block, node, others)
+}
+
+/// The cut at this node by the first of the fits that could close it.
+fn cut_among<O: TermOrder>(
+    alloc: Global,
+    admitted: &Admitted<O>,
+    place: &ClaimAt,
+    block: &KeptBlock,
+    node: usize,
+    fits: Vec<Fit>,
+) -> Result<Option<NodeCut>, OutOfMemory>
+    requires kept { IsKept (O.above admitted.now.order) admitted.now.spec place.now.report.now
+        place.now.number block.now }
+    requires there { node < length block.now.steps.items }
+    requires fits { (k : IsKept (O.above admitted.now.order) admitted.now.spec place.now.report.now
+        place.now.number block.now) → AllByRecursion (FitsAt (O.above admitted.now.order)
+        admitted.now.spec place.now.report.now place.now.number block.now k node) fits.items }
+    ensures { IfOk result (FindsAmong (O.above admitted.now.order) admitted.now.spec
+        place.now.report.now place.now.number block.now node fits.items) }
+{
     for fit in fits {
         let rest = rest_of(alloc, admitted, place, block, node, &fit)?;
         if let Some(rest) = rest {

@@ -1,4 +1,5 @@
-ghost use Rattle.std.specs.Prelude.{◌≡◌, ◌<◌, ◌≤◌, ◌^◌, [], ◌∷◌, Some, IfOk, OnOk, Contains, MatchOption, length, map, slice_get, take};
+ghost use Rattle.std.specs.Prelude.{◌≡◌, ◌<◌, ◌≤◌, ◌^◌, [], ◌∷◌, Some, IfOk, IsTrue, OnOk};
+ghost use Rattle.std.specs.Prelude.{Contains, MatchOption, length, map, slice_get, take};
 ghost use Rattle.spec_core.specs.declared.records.Goal.{Goal as GoalOf};
 ghost use Rattle.spec_core.specs.WellSorted.{IsWellSorted};
 ghost use Rattle.clause_core.specs.declared.answers.Children.{Children as ChildrenOf};
@@ -8,18 +9,21 @@ ghost use Rattle.clause_core.specs.Tidied.{goal_clause};
 ghost use Rattle.acceptance.specs.Blocks.{StepMakes};
 ghost use Rattle.inference_rules.specs.Answers.{clauses_of};
 ghost use Rattle.inference_rules.specs.Nodes.{AreNodes};
-ghost use Rattle.script_trim.specs.Closing.{trivials, matches, matches_of, absurds, own_variables as variables_of, subsume_each, by_whole_lemma, by_each_lemma};
-ghost use Rattle.script_trim.specs.Fitting.{AreFitting};
+ghost use Rattle.script_trim.specs.Closing.{trivials, matches, matches_of, absurds};
+ghost use Rattle.script_trim.specs.Closing.{own_variables as variables_of, subsume_each};
+ghost use Rattle.script_trim.specs.Closing.{by_whole_lemma, by_each_lemma};
+ghost use Rattle.script_trim.specs.Fitting.{own_steps, other_steps, AreFitting};
 ghost use Rattle.script_trim.specs.Keys.{equation_key, key_of};
+ghost use Rattle.script_trim.specs.Sharing.{IsAlone};
 ghost use Rattle.script_trim.specs.Trying.{lemma_clause, AreLemmas, IsSpot, IsTried, Adds, AreFits};
 
 use crate::blocks::Fit;
 use crate::closing::own_variables;
-use crate::copying::copy_step;
 use crate::keys::{conclusion_keys, may_close};
 use crate::lemmas::{LemmaClause, Lemmas};
 use crate::placing::NodeAt;
 use crate::subsuming::subsumes;
+use block_steps::copy_step;
 use clause_core::{Children, Clause, Step, one_answer};
 use inference_rules::{Node, StepError, children};
 use spec_admit::Admitted;
@@ -38,15 +42,26 @@ pub(crate) struct Spot<'a> {
     pub nodes: &'a [Node],
     pub number: u32,
     pub here: &'a Clause,
+    /// Set only where no other node has a key by which it may close this one.
+    pub alone: bool,
 }
 
 impl<'a> Spot<'a> {
     /// The node of this number, over these nodes.
-    fn new(spec: &'a Spec, proved: &'a [u32], nodes: &'a [Node], number: u32) -> Spot<'a>
+    fn new(
+        spec: &'a Spec,
+        proved: &'a [u32],
+        nodes: &'a [Node],
+        number: u32,
+        alone: bool,
+    ) -> Spot<'a>
         requires fine { IsWellSorted spec.now }
         requires nodes { AreNodes spec.now.sig (clauses_of nodes.now) }
         requires few { length nodes.now < 2 ^ 32 }
         requires in_range { number < length nodes.now }
+        requires alone { IsTrue alone → (c : ClauseOf) →
+            slice_get (clauses_of nodes.now) number ≡ Some c →
+            IsAlone (clauses_of nodes.now) number c }
         ensures is { IsSpot result }
         ensures spec { result.spec.now ≡ spec.now }
         ensures proved { result.proved.now ≡ proved.now }
@@ -60,14 +75,46 @@ impl<'a> Spot<'a> {
             nodes,
             number,
             here,
+            alone,
         }
     }
 }
 
-/// The closing steps that are defined at a node of the block with these nodes, in their order, with
-/// what they make. No step by another clause is made unless the clause says no less than the node's,
-/// which is asked only where keys agree.
-pub(crate) fn fitting_steps<O: TermOrder>(
+/// The closing steps by its own equations that are defined at a node of the block with these nodes,
+/// in their order, with what they make.
+pub(crate) fn own_fits<O: TermOrder>(
+    alloc: Global,
+    admitted: &Admitted<O>,
+    lemmas: &Lemmas,
+    block_nodes: &[Node],
+    at: NodeAt,
+) -> Result<Vec<Fit>, OutOfMemory>
+    requires nodes { AreNodes admitted.now.spec.sig (clauses_of block_nodes.now) }
+    requires node { at.number < at.before }
+    requires before { at.before ≤ length block_nodes.now }
+    ensures { IfOk result (λ fits. AreFitting (O.above admitted.now.order) admitted.now.spec
+        (Contains lemmas.now.numbers.items) own_steps (clauses_of block_nodes.now) at.before
+        at.number fits.items) }
+{
+    // More nodes than there are numbers count as want of memory: a block has 10,000 at most.
+    if at.before > u32::MAX as usize {
+        return Err(OutOfMemory);
+    }
+    let proved = lemmas.numbers.as_slice();
+    let spot = Spot::new(
+        &admitted.spec,
+        proved,
+        &block_nodes[..at.before],
+        at.number as u32,
+        false,
+    );
+    try_equations(alloc, &admitted.order, &spot)
+}
+
+/// The closing steps by another clause that are defined at a node of the block with these nodes, in
+/// their order, with what they make. No such step is made unless the clause says no less than the
+/// node's, which is asked only where keys agree.
+pub(crate) fn other_fits<O: TermOrder>(
     alloc: Global,
     admitted: &Admitted<O>,
     lemmas: &Lemmas,
@@ -80,8 +127,12 @@ pub(crate) fn fitting_steps<O: TermOrder>(
     requires lemmas { AreLemmas admitted.now.spec lemmas.now }
     requires node { at.number < at.before }
     requires before { at.before ≤ length block_nodes.now }
+    requires alone { IsTrue at.alone → (c : ClauseOf) →
+        slice_get (clauses_of block_nodes.now) at.number ≡ Some c →
+        IsAlone (clauses_of block_nodes.now) at.number c }
     ensures { IfOk result (λ fits. AreFitting (O.above admitted.now.order) admitted.now.spec
-        (Contains lemmas.now.numbers.items) (clauses_of block_nodes.now) at.before at.number fits.items) }
+        (Contains lemmas.now.numbers.items) other_steps (clauses_of block_nodes.now) at.before
+        at.number fits.items) }
 {
     // More nodes than there are numbers count as want of memory: a block has 10,000 at most.
     if at.before > u32::MAX as usize {
@@ -93,9 +144,10 @@ pub(crate) fn fitting_steps<O: TermOrder>(
         proved,
         &block_nodes[..at.before],
         at.number as u32,
+        at.alone,
     );
     let order = &admitted.order;
-    all_fits(alloc, order, &spot, &lemmas.clauses, &keys[..at.before])
+    try_clauses(alloc, order, &spot, &lemmas.clauses, &keys[..at.before])
 }
 
 /// The step with what it makes at the node of the block with these nodes, or None where it isn't
@@ -129,6 +181,7 @@ pub(crate) fn fit_of<O: TermOrder>(
         proved,
         &block_nodes[..at.before],
         at.number as u32,
+        false,
     );
     match made_by(alloc, &admitted.order, &spot, step)? {
         Some(made) => {
@@ -139,8 +192,25 @@ pub(crate) fn fit_of<O: TermOrder>(
     }
 }
 
-/// The closing steps that are defined at the node, with what they make, whatever nodes come later.
-fn all_fits<O: TermOrder>(
+/// The closing steps by its own equations that are defined at the node, with what they make.
+fn try_equations<O: TermOrder>(
+    alloc: Global,
+    order: &O,
+    spot: &Spot,
+) -> Result<Vec<Fit>, OutOfMemory>
+    requires { IsSpot spot.now }
+    ensures { IfOk result (λ fits. AreFits (O.above order.now) spot.now own_steps fits.items) }
+{
+    let mut fits = Vec::new(alloc);
+    try_trivials(alloc, order, spot, &mut fits)?;
+    try_matches(alloc, order, spot, &mut fits)?;
+    try_absurds(alloc, order, spot, &mut fits)?;
+    Ok(fits)
+}
+
+/// The closing steps by another clause that are defined at the node, with what they make, whatever
+/// nodes come later.
+fn try_clauses<O: TermOrder>(
     alloc: Global,
     order: &O,
     spot: &Spot,
@@ -150,13 +220,10 @@ fn all_fits<O: TermOrder>(
     requires spot { IsSpot spot.now }
     requires lemmas { lemmas.now ≡ map lemma_clause spot.now.spec.now.goals }
     requires keys { keys.now ≡ map key_of (clauses_of spot.now.nodes.now) }
-    ensures { IfOk result (λ fits. AreFits (O.above order.now) spot.now fits.items) }
+    ensures { IfOk result (λ fits. AreFits (O.above order.now) spot.now other_steps fits.items) }
 {
     let wanted = conclusion_keys(alloc, spot.here)?;
     let mut fits = Vec::new(alloc);
-    try_trivials(alloc, order, spot, &mut fits)?;
-    try_matches(alloc, order, spot, &mut fits)?;
-    try_absurds(alloc, order, spot, &mut fits)?;
     try_nodes(alloc, order, spot, keys, &wanted, &mut fits)?;
     try_lemmas(alloc, order, spot, lemmas, &wanted, &mut fits)?;
     Ok(fits)
@@ -230,7 +297,7 @@ fn try_absurds<O: TermOrder>(
 }
 
 /// The nodes so far, each as it is. Nothing is walked where the key of one tells that it can't
-/// close the node.
+/// close the node, and no key is looked at where the node is alone.
 fn try_nodes<O: TermOrder>(
     alloc: Global,
     order: &O,
@@ -245,6 +312,10 @@ fn try_nodes<O: TermOrder>(
     ensures { OnOk result (Adds (O.above order.now) spot.now
         (subsume_each 0 (clauses_of spot.now.nodes.now)) fits.old.items fits.new.items) }
 {
+    clause_core::one_relation(order);
+    if spot.alone {
+        return Ok(());
+    }
     for (number, key) in keys.iter().enumerate() {
         if !may_close(wanted, *key) {
             continue;
@@ -254,7 +325,7 @@ fn try_nodes<O: TermOrder>(
     Ok(())
 }
 
-/// The node of this number as it is.
+/// The node of this number as it is, unless it is the spot's: a node can't be closed by itself.
 fn try_node<O: TermOrder>(
     alloc: Global,
     order: &O,
@@ -269,6 +340,10 @@ fn try_node<O: TermOrder>(
         Adds (O.above order.now) spot.now (subsume number (variables_of c) ∷ []) fits.old.items
         fits.new.items) }
 {
+    clause_core::one_relation(order);
+    if number == spot.number {
+        return Ok(());
+    }
     let clause = &spot.nodes[number as usize].clause;
     if !subsumes(spot.here, clause) {
         return Ok(());

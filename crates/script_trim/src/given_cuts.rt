@@ -80,6 +80,7 @@ pub(crate) fn rest_by<O: TermOrder>(
     let at = NodeAt {
         number: node,
         before,
+        alone: false,
     };
     match fit_of(alloc, admitted, place.lemmas, nodes, at, step)? {
         Some(fit) => rest_of(alloc, admitted, place, block, node, &fit),

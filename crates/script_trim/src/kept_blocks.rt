@@ -1,24 +1,29 @@
-ghost use Rattle.std.specs.Prelude.{◌≡◌, ◌↔◌, ◌<◌, ◌≤◌, ℕ, List, [], ◌∷◌, Some, false, IfOk, IsTrue, Contains, length, map, slice_get};
+ghost use Rattle.std.specs.Prelude.{◌≡◌, ◌↔◌, ◌<◌, ◌≤◌, ℕ, List, [], ◌∷◌, Some, false, IfOk};
+ghost use Rattle.std.specs.Prelude.{IsTrue, Contains, length, map, slice_get};
 ghost use Rattle.clause_core.specs.declared.answers.Children.{Children as ChildrenOf};
+ghost use Rattle.clause_core.specs.declared.clauses.Clause.{Clause as ClauseOf};
 ghost use Rattle.descent.specs.SortedChildren.{IsNode};
 ghost use Rattle.acceptance.specs.Blocks.{StepsMake};
 ghost use Rattle.acceptance.specs.Strict.{first_child};
 ghost use Rattle.inference_rules.specs.declared.nodes.StepError.TheVariants.{OutOfMemory as no_memory};
 ghost use Rattle.inference_rules.specs.Answers.{clauses_of};
 ghost use Rattle.inference_rules.specs.Nodes.{AreNodes};
-ghost use Rattle.script_trim.specs.Fitting.{HasIdentity, NoneFits};
+ghost use Rattle.script_trim.specs.Fitting.{HasIdentity, OnlyItselfFits};
 ghost use Rattle.script_trim.specs.Kept.{IsKept};
 ghost use Rattle.script_trim.specs.Keys.{key_of};
 ghost use Rattle.script_trim.specs.Placing.{AreTaken, IsPlaced};
+ghost use Rattle.script_trim.specs.Sharing.{IsAlone};
 ghost use Rattle.script_trim.specs.Trimmed.{proves};
 ghost use Rattle.script_trim.specs.Trying.{AreLemmas};
 
 use crate::blocks::KeptBlock;
 use crate::copying::copy_steps;
-use crate::fitting::fitting_steps;
+use crate::fitting::{other_fits, own_fits};
 use crate::keys::key;
 use crate::lemmas::Lemmas;
+use crate::lone_nodes::lone_nodes;
 use crate::placing::{ClaimAt, NodeAt};
+use crate::text_bounds::text_length;
 use block_steps::TakenSteps;
 use clause_core::{Clause, Step, is_identity, of_goal};
 use inference_rules::{Node, StepError};
@@ -53,6 +58,7 @@ pub(crate) fn kept_block<O: TermOrder>(
     let clauses = taken.nodes.as_slice();
     let keys = keys_of(alloc, clauses)?;
     let hopeful = hopeful_nodes(alloc, admitted, lemmas, &taken, keys.as_slice())?;
+    let bytes = text_length(alloc, &admitted.spec.sig, place)?;
     let steps = copy_steps(alloc, steps)?;
     let TakenSteps { nodes, links } = taken;
     Ok(KeptBlock {
@@ -61,6 +67,7 @@ pub(crate) fn kept_block<O: TermOrder>(
         keys,
         links,
         hopeful,
+        bytes,
     })
 }
 
@@ -110,7 +117,7 @@ fn keys_of(alloc: Global, nodes: &[Node]) -> Result<Vec<Option<u32>>, OutOfMemor
     Ok(keys)
 }
 
-/// For each node whether a closing step may be defined there.
+/// For each node whether a closing step may be defined there that isn't by the node itself.
 fn hopeful_nodes<O: TermOrder>(
     alloc: Global,
     admitted: &Admitted<O>,
@@ -127,9 +134,12 @@ fn hopeful_nodes<O: TermOrder>(
         ≤ length taken.now.nodes.items }
     ensures long { IfOk result (λ flags. length flags.items ≡ length taken.now.links.items) }
     ensures hopeless { IfOk result (λ flags. (i : ℕ) → slice_get flags.items i ≡ Some false →
-        NoneFits (O.above admitted.now.order) admitted.now.spec (Contains lemmas.now.numbers.items)
-        (clauses_of taken.now.nodes.items) (first_child taken.now.links.items i) i) }
+        OnlyItselfFits (O.above admitted.now.order) admitted.now.spec
+        (Contains lemmas.now.numbers.items) (clauses_of taken.now.nodes.items)
+        (first_child taken.now.links.items i) i) }
 {
+    let alone = lone_nodes(alloc, taken.nodes.as_slice(), keys)?;
+    let alone = alone.as_slice();
     let mut flags = Vec::with_capacity(alloc, taken.links.len())?;
     let mut before = 1;
     for (node, made) in taken.links.as_slice().iter().enumerate() {
@@ -137,6 +147,7 @@ fn hopeful_nodes<O: TermOrder>(
         let at = NodeAt {
             number: node,
             before,
+            alone: alone[node],
         };
         flags.push(is_hopeful(alloc, admitted, lemmas, taken, keys, at)?)?;
         before = after;
@@ -144,8 +155,9 @@ fn hopeful_nodes<O: TermOrder>(
     Ok(flags)
 }
 
-/// Whether a closing step may be defined at this node. Nothing is tried at a node without children,
-/// since nothing is to be cut there, nor where `trivial` is defined in plain sight.
+/// Whether a closing step may be defined at this node that isn't by the node itself. Nothing is
+/// tried at a node without children, since nothing is to be cut there, nor where `trivial` is
+/// defined in plain sight.
 fn is_hopeful<O: TermOrder>(
     alloc: Global,
     admitted: &Admitted<O>,
@@ -160,9 +172,13 @@ fn is_hopeful<O: TermOrder>(
     requires there { at.number < length taken.now.links.items }
     requires node { at.number < at.before }
     requires before { at.before ≤ length taken.now.nodes.items }
+    requires alone { IsTrue at.alone → (c : ClauseOf) →
+        slice_get (clauses_of taken.now.nodes.items) at.number ≡ Some c →
+        IsAlone (clauses_of taken.now.nodes.items) at.number c }
     ensures { IfOk result (λ hopeful. hopeful ≡ false →
-        NoneFits (O.above admitted.now.order) admitted.now.spec (Contains lemmas.now.numbers.items)
-        (clauses_of taken.now.nodes.items) at.before at.number) }
+        OnlyItselfFits (O.above admitted.now.order) admitted.now.spec
+        (Contains lemmas.now.numbers.items) (clauses_of taken.now.nodes.items) at.before
+        at.number) }
 {
     let links = taken.links.as_slice();
     let nodes = taken.nodes.as_slice();
@@ -170,8 +186,12 @@ fn is_hopeful<O: TermOrder>(
     if links[at.number].clauses.is_empty() || has_identity(conclusions) {
         return Ok(true);
     }
-    let fits = fitting_steps(alloc, admitted, lemmas, nodes, keys, at)?;
-    Ok(!fits.is_empty())
+    let own = own_fits(alloc, admitted, lemmas, nodes, at)?;
+    if !own.is_empty() {
+        return Ok(true);
+    }
+    let others = other_fits(alloc, admitted, lemmas, nodes, keys, at)?;
+    Ok(!others.is_empty())
 }
 
 /// Whether the sides of one of the equations are one term.

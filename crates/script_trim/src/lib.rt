@@ -10,9 +10,9 @@
 //! could be closed.
 //!
 //! A claim's steps are taken once. Whether a closing step fits a node is asked of the node alone
-//! (`fitting.rt`), and by keys most clauses are passed over (`keys.rt`); whether the block may be cut
-//! there is a matter of its links (`cut_links.rt`). That this decides a cut is the law
-//! [`tests_decide`]; so no report is replayed for a cut.
+//! (`fitting.rt`), and by keys most clauses are passed over (`keys.rt`, `lone_nodes.rt`). Whether
+//! the block may be cut there is a matter of its links (`cut_links.rt`). That this decides a cut is
+//! the law [`tests_decide`]; so no report is replayed for a cut.
 #![tactic(auto)]
 
 mod blocks;
@@ -29,8 +29,10 @@ mod kept_blocks;
 mod keys;
 mod laws;
 mod lemmas;
+mod lone_nodes;
 mod placing;
 mod subsuming;
+mod text_bounds;
 mod trimming;
 
 pub use laws::{

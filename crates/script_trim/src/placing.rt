@@ -14,4 +14,6 @@ pub(crate) struct ClaimAt<'a> {
 pub(crate) struct NodeAt {
     pub number: usize,
     pub before: usize,
+    /// Set only where no other node has a key by which it may close this one.
+    pub alone: bool,
 }

@@ -44,6 +44,6 @@ returns c =
     c.in_ok-left.ensures ∙ ap (λ ls. map links_of
     (cut_made (flag_of c.as_slice-stays.result.now) ls c.args.node c.args.fit.made))
     c.as_slice-links.ensures.value in
-    left_lists c.args.block c.args.node c.args.fit.made c.args.rest.items c.as_slice-stays.result.now told
+    left_lists c.args.block c.args.node c.args.fit.made c.args.rest.items c.as_slice-stays.result.now c.args.bytes told
     c.in_ok-left.left.items is c.kept_lists.result c.kept_lists.ensures.steps c.kept_lists.ensures.links
-    c.kept_lists.ensures.nodes c.kept_lists.ensures.keys c.kept_lists.ensures.flags
+    c.kept_lists.ensures.nodes c.kept_lists.ensures.keys c.kept_lists.ensures.flags c.kept_lists.ensures.bytes

@@ -5,9 +5,9 @@ use Rattle.term_core.proofs.Items.{if_ok_map}
 use Rattle.spec_core.specs.WellSorted.{IsWellSorted}
 use Rattle.clause_core.specs.ClauseLaws.{OneRelation}
 use Rattle.script_trim.specs.Finding.{FindsCutAt, FindsCutBelow}
-use Rattle.script_trim.proofs.FirstFits.{none_closes}
 use Rattle.script_trim.proofs.FoundCuts.{below_node}
 use Rattle.script_trim.proofs.KeptClaims.{has_children, has_no_children, many_links}
+use Rattle.script_trim.proofs.OnlyItself.{isnt_closed}
 use Rattle.script_trim.proofs.first_cuts.cut_below.Goals as goal
 
 pub returns-then-is_empty : goal.returns-then-is_empty
@@ -85,5 +85,5 @@ returns-then-not-flags-node g c = λ k could.
     sym c.if-not-flags-node.true ∙ ap (λ fs. get_or fs c.args.node false) c.as_slice-flags.ensures.value in
     let off : slice_get c.args.block.now.hopeful.items c.args.node ≡ Some false =
     slice_get_read flags (length flags) c.args.node false refl lt is in
-    none_closes above one spec fine report number block k c.args.node [] (k.hopeless c.args.node off) tt could.1.0
+    isnt_closed above one spec fine report number block k c.args.node (k.hopeless c.args.node off) could.1.0
     could.1.1 could.1.2

@@ -1,14 +1,28 @@
-use Rattle.std.proofs.Common.{◌≡◌, List, [], ◌∷◌, subst, ap, ◌∙◌}
-use Rattle.std.specs.Prelude.{slice_get, Some}
+use Rattle.std.proofs.Common.{◌≡◌, List, [], ◌∷◌, subst, ap, sym, ◌∙◌}
+use Rattle.std.specs.Prelude.{slice_get, Contains, Some}
 use Rattle.term_core.specs.Tree.{Tree}
 use Rattle.clause_core.specs.declared.clauses.Clause.{Clause}
 use Rattle.clause_core.specs.declared.steps.Step.TheVariants.{Subsume}
 use Rattle.inference_rules.specs.Answers.{clauses_of}
 use Rattle.script_trim.specs.Closing.{own_variables}
+use Rattle.script_trim.specs.Fitting.{IsByItself}
 use Rattle.script_trim.specs.Trying.{Adds}
+use Rattle.script_trim.proofs.Adding.{leaves_out}
+use Rattle.script_trim.proofs.ByItself.{is_by_itself}
 use Rattle.script_trim.proofs.Passing.{less_node}
 use Rattle.script_trim.proofs.Whole.{on_ok_map, clause_there}
 use Rattle.script_trim.proofs.fitting.try_node.Goals as goal
+
+pub returns-then-number-spot : goal.returns-then-number-spot
+returns-then-number-spot g c = λ d at.
+    let above = g.O.TermOrder.above c.args.order.now in
+    let spot = c.args.spot.now in
+    let nodes = clauses_of spot.nodes.now in
+    let there = subst (λ n. slice_get nodes n ≡ Some d) c.if-number-spot.true at in
+    leaves_out above spot (Subsume c.args.number (own_variables d)) c.args.fits.now.items
+    (subst (λ n. IsByItself above spot.spec.now (Contains spot.proved.now) nodes spot.number
+    (Subsume n (own_variables d))) (sym c.if-number-spot.true)
+    (is_by_itself above c.one_relation.ensures spot.spec.now d spot.number (Contains spot.proved.now) nodes there))
 
 pub returns-then-not-subsumes : goal.returns-then-not-subsumes
 returns-then-not-subsumes g c = λ d at.

@@ -4,6 +4,7 @@ use Rattle.inference_rules.specs.declared.nodes.Node.{Node}
 use Rattle.inference_rules.specs.Answers.{clauses_of}
 use Rattle.script_trim.specs.Closing.{subsume_each}
 use Rattle.script_trim.proofs.Adding.{adds_none, adds_all}
+use Rattle.script_trim.proofs.AloneNodes.{alone_adds_none}
 use Rattle.script_trim.proofs.Passing.{as_many_keys, skip_node, take_node}
 use Rattle.script_trim.proofs.Unfit.{each_long}
 use Rattle.script_trim.proofs.fitting.try_nodes.Goals as goal
@@ -17,6 +18,11 @@ try_node-requires-clause-there g c =
       as_many_keys c.args.keys.now (clauses_of nodes) c.requires.keys,
       length-map nodes (λ (n : Node). n.clause),
     )
+
+pub returns-then-spot : goal.returns-then-spot
+returns-then-spot g c =
+    alone_adds_none (g.O.TermOrder.above c.args.order.now) c.one_relation.ensures c.args.spot.now c.requires.spot
+    c.if-spot.true c.args.fits.now.items
 
 pub loop-number-init : goal.loop-number-init
 loop-number-init g c = adds_none (g.O.TermOrder.above c.args.order.now) c.args.spot.now c.args.fits.now.items

@@ -11,4 +11,5 @@ returns-clause-is c =
       in_range = c.requires.in_range;
       here = at;
       node = c.requires.nodes c.args.number _ at;
+      alone = λ lone. c.requires.alone lone _ at;
     }

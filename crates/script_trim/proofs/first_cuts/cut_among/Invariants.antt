@@ -2,7 +2,7 @@ use Rattle.std.specs.List.{AllByRecursion}
 use Rattle.script_trim.specs.declared.blocks.Fit.{Fit}
 use Rattle.script_trim.specs.Kept.{IsKept}
 use Rattle.script_trim.proofs.FirstFits.{NotBy}
-use Rattle.script_trim.proofs.first_cuts.cut_at.Given as goal
+use Rattle.script_trim.proofs.first_cuts.cut_among.Given as goal
 
 abbrev pub invariant-loop-fit : goal.invariant-loop-fit
 invariant-loop-fit g l =

@@ -1,8 +1,0 @@
-use Rattle.script_trim.proofs.Passing.{all_tried}
-use Rattle.script_trim.proofs.fitting.all_fits.Goals as goal
-
-pub returns : goal.returns
-returns g c =
-    all_tried (g.O.TermOrder.above c.args.order.now) c.args.spot.now _ _ _ _ _ _ c.new-fits.ensures.items
-    c.in_ok-try_trivials.ensures c.in_ok-try_matches.ensures c.in_ok-try_absurds.ensures c.in_ok-try_nodes.ensures
-    c.in_ok-try_lemmas.ensures
