@@ -7,11 +7,14 @@ use Rattle.command_line.specs.Entries.{IsRequestOf, app_of_word}
 use Rattle.command_line.specs.Matches.{HasNumber, HasWord}
 use Rattle.command_line.specs.Readings.{AreMatches, HasArguments, HasSomeBounds, HasSomeNumber, HasSomeWord}
 use Rattle.command_line.specs.Rules.{number_rule, numeral_rule, word_rule}
-use Rattle.command_line.specs.Tasks.{Task, refuting, proving, evaluating, checking, replaying, upgrading, trimming, app_for, Say, IsNamed, Asks, AsksToLoad, AskNothing}
+use Rattle.command_line.specs.Tasks.{Task, refuting, proving, evaluating, checking, replaying, upgrading}
+use Rattle.command_line.specs.Tasks.{trimming, carrying_out, app_for, Say, IsNamed, Asks, AsksToLoad}
+use Rattle.command_line.specs.Tasks.{AskNothing}
 use Rattle.command_line.specs.declared.commands.Request.{Request}
 use Rattle.command_line.specs.declared.commands.Request.TheVariants.{OnFile, Load}
 use Rattle.command_line.specs.declared.ranges.NumberRange.{NumberRange}
-use Rattle.command_line.specs.declared.ranges.TheConstants.{DEPTHS, TRIES, STEPS, GOALS, USUAL_DEPTH, USUAL_TRIES, USUAL_STEPS}
+use Rattle.command_line.specs.declared.ranges.TheConstants.{DEPTHS, TRIES, STEPS, GOALS, USUAL_DEPTH}
+use Rattle.command_line.specs.declared.ranges.TheConstants.{USUAL_TRIES, USUAL_STEPS}
 use Rattle.command_line.specs.declared.table.CommandWord.{CommandWord}
 use Rattle.command_line.proofs.OwnNames.{differs}
 
@@ -92,6 +95,8 @@ asks_no_task words file upgrading nothing asks =
     nothing.refused.1.1.1.1.1.1.0 asks.named asks.taken
 asks_no_task words file (trimming report) nothing asks =
     nothing.refused.1.1.1.1.1.1.1.0 asks.named asks.taken
+asks_no_task words file (carrying_out path) nothing asks =
+    nothing.refused.1.1.1.1.1.1.1.1.0 asks.named asks.taken
 
 pub asks_no_load : (words : List Text) (goals : ℕ) → AskNothing words → AsksToLoad words goals → ⊥
 asks_no_load words goals nothing asks = nothing.refused.1.1.1.1.1.0 asks.named asks.taken
@@ -105,3 +110,4 @@ no_task_loads (checking print) same = differs (codes "check") (codes "load") ref
 no_task_loads (replaying report) same = differs (codes "replay") (codes "load") refl same
 no_task_loads upgrading same = differs (codes "upgrade") (codes "load") refl same
 no_task_loads (trimming report) same = differs (codes "trim") (codes "load") refl same
+no_task_loads (carrying_out path) same = differs (codes "session") (codes "load") refl same

@@ -1,5 +1,6 @@
 -- The table of commands: each entry is its command, and no two have one name.
-use Rattle.std.proofs.Common.{◌≡◌, ◌≢◌, ◌∙◌, ◌<◌, ◌+◌, ◌⊎◌, inl, inr, ℕ, not, true, false, true≢false, List, [], ◌∷◌, ◌++◌, sym, subst, refl, ap, map, take, get_or, length, add-one}
+use Rattle.std.proofs.Common.{◌≡◌, ◌≢◌, ◌∙◌, ◌<◌, ◌+◌, ◌⊎◌, inl, inr, ℕ, not, true, false, true≢false, List}
+use Rattle.std.proofs.Common.{[], ◌∷◌, ◌++◌, sym, subst, refl, ap, map, take, get_or, length, add-one}
 use Rattle.std.proofs.Math.Seq.{take-suc}
 use Rattle.std.proofs.lemmas.List.{map-append}
 use Rattle.std.proofs.lemmas.Slice.Eq.{bytes_eq-Decides}
@@ -15,7 +16,8 @@ use Rattle.command_line.specs.Tasks.{commands, IsNamed, AreRefusedBy, AskNothing
 use Rattle.command_line.specs.Entries.{IsEntry, NamesNone, app_of_word, app_taking, rule_of_argument}
 use Rattle.command_line.specs.declared.table.Argument.{Argument}
 use Rattle.command_line.specs.declared.table.CommandWord.{CommandWord}
-use Rattle.command_line.specs.declared.table.CommandWord.TheVariants.{Check, Eval, Prove, Refute, Replay, Load, Upgrade, Trim}
+use Rattle.command_line.specs.declared.table.CommandWord.TheVariants.{Check, Eval, Prove, Refute, Replay}
+use Rattle.command_line.specs.declared.table.CommandWord.TheVariants.{Load, Upgrade, Trim, Session}
 use Rattle.command_line.proofs.OwnNames.{differs}
 
 -- an entry as the code has it: the name, the command, and what it takes
@@ -86,6 +88,8 @@ is_flat Upgrade =
     record { simple = refl; ready = refl; free = refl; leaf = refl; negates = refl; names = refl }
 is_flat Trim =
     record { simple = refl; ready = refl; free = refl; leaf = refl; negates = refl; names = refl }
+is_flat Session =
+    record { simple = refl; ready = refl; free = refl; leaf = refl; negates = refl; names = refl }
 
 -- words have one first word at most
 pub one_name :
@@ -116,22 +120,177 @@ IsAloneAmong is_app apps =
     (λ (app : App). (app ≡ is_app) ⊎ (not (bytes_eq is_app.top.name app.top.name) ≡ true)) apps
 
 alone : (word : CommandWord) → IsAloneAmong (app_of_word word) commands
-alone Check =
-    (inl refl, (inr refl, (inr refl, (inr refl, (inr refl, (inr refl, (inr refl, (inr refl, tt))))))))
-alone Eval =
-    (inr refl, (inl refl, (inr refl, (inr refl, (inr refl, (inr refl, (inr refl, (inr refl, tt))))))))
-alone Prove =
-    (inr refl, (inr refl, (inl refl, (inr refl, (inr refl, (inr refl, (inr refl, (inr refl, tt))))))))
-alone Refute =
-    (inr refl, (inr refl, (inr refl, (inl refl, (inr refl, (inr refl, (inr refl, (inr refl, tt))))))))
-alone Replay =
-    (inr refl, (inr refl, (inr refl, (inr refl, (inl refl, (inr refl, (inr refl, (inr refl, tt))))))))
-alone Load =
-    (inr refl, (inr refl, (inr refl, (inr refl, (inr refl, (inl refl, (inr refl, (inr refl, tt))))))))
-alone Upgrade =
-    (inr refl, (inr refl, (inr refl, (inr refl, (inr refl, (inr refl, (inl refl, (inr refl, tt))))))))
-alone Trim =
-    (inr refl, (inr refl, (inr refl, (inr refl, (inr refl, (inr refl, (inr refl, (inl refl, tt))))))))
+alone Check = (
+  inl refl,
+  (
+    inr refl,
+    (
+      inr refl,
+      (
+        inr refl,
+        (
+          inr refl,
+          (
+            inr refl,
+            (inr refl, (inr refl, (inr refl, tt))),
+          ),
+        ),
+      ),
+    ),
+  ),
+)
+alone Eval = (
+  inr refl,
+  (
+    inl refl,
+    (
+      inr refl,
+      (
+        inr refl,
+        (
+          inr refl,
+          (
+            inr refl,
+            (inr refl, (inr refl, (inr refl, tt))),
+          ),
+        ),
+      ),
+    ),
+  ),
+)
+alone Prove = (
+  inr refl,
+  (
+    inr refl,
+    (
+      inl refl,
+      (
+        inr refl,
+        (
+          inr refl,
+          (
+            inr refl,
+            (inr refl, (inr refl, (inr refl, tt))),
+          ),
+        ),
+      ),
+    ),
+  ),
+)
+alone Refute = (
+  inr refl,
+  (
+    inr refl,
+    (
+      inr refl,
+      (
+        inl refl,
+        (
+          inr refl,
+          (
+            inr refl,
+            (inr refl, (inr refl, (inr refl, tt))),
+          ),
+        ),
+      ),
+    ),
+  ),
+)
+alone Replay = (
+  inr refl,
+  (
+    inr refl,
+    (
+      inr refl,
+      (
+        inr refl,
+        (
+          inl refl,
+          (
+            inr refl,
+            (inr refl, (inr refl, (inr refl, tt))),
+          ),
+        ),
+      ),
+    ),
+  ),
+)
+alone Load = (
+  inr refl,
+  (
+    inr refl,
+    (
+      inr refl,
+      (
+        inr refl,
+        (
+          inr refl,
+          (
+            inl refl,
+            (inr refl, (inr refl, (inr refl, tt))),
+          ),
+        ),
+      ),
+    ),
+  ),
+)
+alone Upgrade = (
+  inr refl,
+  (
+    inr refl,
+    (
+      inr refl,
+      (
+        inr refl,
+        (
+          inr refl,
+          (
+            inr refl,
+            (inl refl, (inr refl, (inr refl, tt))),
+          ),
+        ),
+      ),
+    ),
+  ),
+)
+alone Trim = (
+  inr refl,
+  (
+    inr refl,
+    (
+      inr refl,
+      (
+        inr refl,
+        (
+          inr refl,
+          (
+            inr refl,
+            (inr refl, (inl refl, (inr refl, tt))),
+          ),
+        ),
+      ),
+    ),
+  ),
+)
+alone Session = (
+  inr refl,
+  (
+    inr refl,
+    (
+      inr refl,
+      (
+        inr refl,
+        (
+          inr refl,
+          (
+            inr refl,
+            (inr refl, (inr refl, (inl refl, tt))),
+          ),
+        ),
+      ),
+    ),
+  ),
+)
 
 refused_among :
     (is_app : App) (words : List Text) → IsNamed is_app.top.name words →

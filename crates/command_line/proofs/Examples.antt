@@ -1,5 +1,6 @@
 -- The worked examples, by computing.
-use Rattle.std.proofs.Common.{◌≡◌, ◌≤◌, ℕ, Bool, true, false, not, List, [], ◌∷◌, Some, refl, sym, arith, codes}
+use Rattle.std.proofs.Common.{◌≡◌, ◌≤◌, ℕ, Bool, true, false, not, List, [], ◌∷◌, Some, refl, sym, arith}
+use Rattle.std.proofs.Common.{codes}
 use Rattle.std.specs.List.{AllByRecursion}
 use Rattle.std.specs.Prelude.{◌↔◌, IsTrue}
 use Rattle.std.specs.Str.{bytes_eq}
@@ -11,15 +12,20 @@ use Rattle.command_line.specs.declared.ranges.NumberRange.{NumberRange}
 use Rattle.command_line.specs.declared.ranges.TheConstants.{DEPTHS, TRIES, STEPS, PLAIN, NODES, GOALS}
 use Rattle.command_line.specs.Apps.{refute_app, prove_app, eval_app, check_app, load_app}
 use Rattle.command_line.specs.Matches.{HasNumber, IsGiven}
-use Rattle.command_line.specs.Tasks.{commands, AreRefusedBy, refuting, proving, evaluating, checking, replaying, upgrading, trimming, Asks, AsksToLoad, AskNothing, AreBounds, AreProofBounds}
+use Rattle.command_line.specs.Tasks.{commands, AreRefusedBy, refuting, proving, evaluating, checking}
+use Rattle.command_line.specs.Tasks.{replaying, upgrading, trimming, carrying_out, Asks, AsksToLoad}
+use Rattle.command_line.specs.Tasks.{AskNothing, AreBounds, AreProofBounds}
 use Rattle.command_line.specs.Usual.{usual_search, usual_bounds}
-use Rattle.command_line.specs.Examples.{Asking, Refused, refute, prove, eval, check, replay, upgrade, load, trim, given, given_proof, least_words, least_numbers, greatest_words, greatest_numbers}
+use Rattle.command_line.specs.Examples.{Asking, Refused, refute, prove, eval, check, replay, upgrade, load}
+use Rattle.command_line.specs.Examples.{trim, session, given, given_proof, least_words, least_numbers}
+use Rattle.command_line.specs.Examples.{greatest_words, greatest_numbers}
 use Rattle.command_line.proofs.OwnNames.{differs}
 use Rattle.command_line.proofs.ReadLemmas.{text_compared}
 use Rattle.command_line.proofs.Entries.{nothing_asked, unnamed}
 use Rattle.command_line.specs.Entries.{app_of_word}
 use Rattle.command_line.specs.declared.table.CommandWord.{CommandWord}
-use Rattle.command_line.specs.declared.table.CommandWord.TheVariants.{Check, Eval, Prove, Refute, Replay, Load, Upgrade, Trim}
+use Rattle.command_line.specs.declared.table.CommandWord.TheVariants.{Check, Eval, Prove, Refute, Replay}
+use Rattle.command_line.specs.declared.table.CommandWord.TheVariants.{Load, Upgrade, Trim, Session}
 
 faulty : (ks : Kinds) → is_empty ks ≡ false → ks ≡ [] → ⊥
 faulty [] some none = cc
@@ -49,7 +55,7 @@ no_command =
           other _ refl,
           (
             other _ refl,
-            (other _ refl, (other _ refl, (other _ refl, (other _ refl, tt)))),
+            (other _ refl, (other _ refl, (other _ refl, (other _ refl, (other _ refl, tt))))),
           ),
         ),
       ),
@@ -91,6 +97,9 @@ refused = record {
   trim_by_no_report = no_words_of Trim _ refl;
   two_to_trim = no_words_of Trim _ refl;
   option_of_trim = no_words_of Trim _ refl;
+  session_without_commands = no_words_of Session _ refl;
+  two_lists_of_commands = no_words_of Session _ refl;
+  option_of_session = no_words_of Session _ refl;
 }
 
 -- a text of digits has the number that it writes
@@ -228,6 +237,10 @@ trimmed : Asks (trim (codes "a" ∷ codes "b" ∷ [])) (codes "a") (trimming (co
 unfolding clap_on_literals
 trimmed = record { named = refl; taken = refl; file_is = refl; task_is = refl }
 
+carried_out : Asks (session (codes "a" ∷ codes "b" ∷ [])) (codes "a") (carrying_out (codes "b"))
+unfolding clap_on_literals
+carried_out = record { named = refl; taken = refl; file_is = refl; task_is = refl }
+
 loaded : AsksToLoad (load (codes "+0200" ∷ [])) 200
 unfolding clap_on_literals
 loaded = record {
@@ -264,6 +277,7 @@ asking = record {
   replayed = replayed;
   upgraded = upgraded;
   trimmed = trimmed;
+  carried_out = carried_out;
   loaded = loaded;
   one_goal = one_goal;
 }

@@ -7,7 +7,9 @@ use Rattle.command_line.specs.declared.ranges.NumberRange.{NumberRange}
 use Rattle.command_line.specs.declared.bounds.SearchBounds.{SearchBounds}
 use Rattle.command_line.specs.declared.bounds.ProofBounds.{ProofBounds}
 use Rattle.command_line.specs.Matches.{HasNumber, HasWord}
-use Rattle.command_line.specs.Tasks.{Task, refuting, proving, evaluating, checking, replaying, upgrading, trimming, app_for, Say, AreBounds, AreProofBounds, Asks, AsksToLoad}
+use Rattle.command_line.specs.Tasks.{Task, refuting, proving, evaluating, checking, replaying, upgrading}
+use Rattle.command_line.specs.Tasks.{trimming, carrying_out, app_for, Say, AreBounds, AreProofBounds, Asks}
+use Rattle.command_line.specs.Tasks.{AsksToLoad}
 use Rattle.command_line.proofs.OwnNames.{differs}
 use Rattle.command_line.proofs.Askings.{no_task_loads}
 use Rattle.command_line.proofs.Entries.{one_name}
@@ -50,6 +52,8 @@ one_kind (checking a) (checking b) same = (refl, (λ rows is is_too. ap checking
 one_kind (replaying s) (replaying t) same = (refl, (λ rows is is_too. ap replaying (one_text _ s t is is_too)))
 one_kind upgrading upgrading same = (refl, (λ rows is is_too. refl))
 one_kind (trimming s) (trimming t) same = (refl, (λ rows is is_too. ap trimming (one_text _ s t is is_too)))
+one_kind (carrying_out s) (carrying_out t) same =
+    (refl, (λ rows is is_too. ap carrying_out (one_text _ s t is is_too)))
 one_kind task another same = absurd (differs (app_for task).top.name (app_for another).top.name refl same)
 
 pub one_task :

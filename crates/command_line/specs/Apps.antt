@@ -61,3 +61,8 @@ load_app = with_rules (new_app (codes "load")) (numeral_rule (codes "N") goals_r
 abbrev pub trim_app : App
 trim_app = with_rules (new_app (codes "trim"))
     (word_rule (codes "FILE") ∷ word_rule (codes "REPORT") ∷ [])
+
+-- `session FILE COMMANDS`
+abbrev pub session_app : App
+session_app = with_rules (new_app (codes "session"))
+    (word_rule (codes "FILE") ∷ word_rule (codes "COMMANDS") ∷ [])

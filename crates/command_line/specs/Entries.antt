@@ -5,12 +5,14 @@ use Rattle.clap.specs.Words.{App, Row, Rule, Text, new_app}
 use Rattle.command_line.specs.declared.commands.Request.{Request}
 use Rattle.command_line.specs.declared.commands.Request.TheVariants.{OnFile, Load as load}
 use Rattle.command_line.specs.declared.table.Argument.{Argument}
-use Rattle.command_line.specs.declared.table.Argument.TheVariants.{File, Term, Report, Goals, Print, Depth, Tries, Steps, Plain, Nodes}
+use Rattle.command_line.specs.declared.table.Argument.TheVariants.{File, Term, Report, Commands, Goals, Print, Depth, Tries, Steps, Plain, Nodes}
 use Rattle.command_line.specs.declared.table.CommandWord.{CommandWord}
-use Rattle.command_line.specs.declared.table.CommandWord.TheVariants.{Check, Eval, Prove, Refute, Replay, Load, Upgrade, Trim}
+use Rattle.command_line.specs.declared.table.CommandWord.TheVariants.{Check, Eval, Prove, Refute, Replay, Load, Upgrade, Trim, Session}
 use Rattle.command_line.specs.Ranges.{goals_range}
 use Rattle.command_line.specs.Rules.{word_rule, numeral_rule, flag_rule}
-use Rattle.command_line.specs.Apps.{with_rules, depth_rule, tries_rule, steps_rule, plain_rule, nodes_rule, check_app, eval_app, prove_app, refute_app, replay_app, load_app, upgrade_app, trim_app}
+use Rattle.command_line.specs.Apps.{with_rules, depth_rule, tries_rule, steps_rule, plain_rule, nodes_rule}
+use Rattle.command_line.specs.Apps.{check_app, eval_app, prove_app, refute_app, replay_app, load_app}
+use Rattle.command_line.specs.Apps.{upgrade_app, trim_app, session_app}
 use Rattle.command_line.specs.Matches.{HasNumber, HasWord}
 use Rattle.command_line.specs.Tasks.{Say, app_for, commands}
 use Rattle.command_line.specs.Commands.{file_of, task_of}
@@ -19,6 +21,7 @@ abbrev pub rule_of_argument : Argument → Rule
 rule_of_argument File = word_rule (codes "FILE")
 rule_of_argument Term = word_rule (codes "TERM")
 rule_of_argument Report = word_rule (codes "REPORT")
+rule_of_argument Commands = word_rule (codes "COMMANDS")
 rule_of_argument Goals = numeral_rule (codes "N") goals_range
 rule_of_argument Print = flag_rule (codes "print")
 rule_of_argument Depth = depth_rule
@@ -40,6 +43,7 @@ app_of_word Replay = replay_app
 app_of_word Load = load_app
 app_of_word Upgrade = upgrade_app
 app_of_word Trim = trim_app
+app_of_word Session = session_app
 
 -- the name is that of a command, which takes this
 pub record IsEntry (name : Text) (word : CommandWord) (takes : List Argument) : Type 0 where

@@ -3,7 +3,7 @@ use Rattle.std.specs.Prelude.{List, [], ◌∷◌, true, false, codes}
 use Rattle.clap.specs.Words.{Text}
 use Rattle.command_line.specs.declared.bounds.SearchBounds.{SearchBounds}
 use Rattle.command_line.specs.declared.bounds.ProofBounds.{ProofBounds}
-use Rattle.command_line.specs.Tasks.{refuting, proving, evaluating, checking, replaying, upgrading, trimming, Asks, AsksToLoad, AskNothing}
+use Rattle.command_line.specs.Tasks.{refuting, proving, evaluating, checking, replaying, upgrading, trimming, carrying_out, Asks, AsksToLoad, AskNothing}
 use Rattle.command_line.specs.Usual.{usual_search, usual_bounds}
 
 abbrev pub refute : List Text → List Text
@@ -26,6 +26,9 @@ upgrade words = codes "upgrade" ∷ words
 
 abbrev pub trim : List Text → List Text
 trim words = codes "trim" ∷ words
+
+abbrev pub session : List Text → List Text
+session words = codes "session" ∷ words
 
 abbrev pub load : List Text → List Text
 load words = codes "load" ∷ words
@@ -85,6 +88,8 @@ pub record Asking : Type 0 where
   pub upgraded : Asks (upgrade (codes "a" ∷ [])) (codes "a") upgrading
   -- so does the one that is made shorter
   pub trimmed : Asks (trim (codes "a" ∷ codes "b" ∷ [])) (codes "a") (trimming (codes "b"))
+  -- the commands of a proof by hand come after the file
+  pub carried_out : Asks (session (codes "a" ∷ codes "b" ∷ [])) (codes "a") (carrying_out (codes "b"))
   -- a plus and leading zeros, up to the greatest number
   pub loaded : AsksToLoad (load (codes "+0200" ∷ [])) 200
   pub one_goal : AsksToLoad (load (codes "1" ∷ [])) 1
@@ -125,6 +130,9 @@ pub record Refused : Type 0 where
   pub trim_by_no_report : AskNothing (trim (codes "a" ∷ []))
   pub two_to_trim : AskNothing (trim (codes "a" ∷ codes "b" ∷ codes "c" ∷ []))
   pub option_of_trim : AskNothing (trim (codes "a" ∷ codes "b" ∷ codes "--print" ∷ []))
+  pub session_without_commands : AskNothing (session (codes "a" ∷ []))
+  pub two_lists_of_commands : AskNothing (session (codes "a" ∷ codes "b" ∷ codes "c" ∷ []))
+  pub option_of_session : AskNothing (session (codes "a" ∷ codes "b" ∷ codes "--steps" ∷ codes "5" ∷ []))
 
 pub record WorkedExamples : Type 0 where
   pub asking : Asking

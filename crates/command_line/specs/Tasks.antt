@@ -5,7 +5,8 @@ use Rattle.clap.specs.Words.{App, Row, Text, fault_of, matches_of}
 use Rattle.command_line.specs.declared.bounds.SearchBounds.{SearchBounds}
 use Rattle.command_line.specs.declared.bounds.ProofBounds.{ProofBounds}
 use Rattle.command_line.specs.Ranges.{depth_range, tries_range, steps_range, plain_range, nodes_range, goals_range}
-use Rattle.command_line.specs.Apps.{refute_app, prove_app, eval_app, check_app, replay_app, upgrade_app, load_app, trim_app}
+use Rattle.command_line.specs.Apps.{refute_app, prove_app, eval_app, check_app, replay_app, upgrade_app}
+use Rattle.command_line.specs.Apps.{load_app, trim_app, session_app}
 use Rattle.command_line.specs.Matches.{HasNumber, HasWord, IsGiven, Takes}
 
 -- what is done with the specification of a file
@@ -17,6 +18,7 @@ pub data Task : Type 0 where
   replaying : (report : List ℕ) → Task
   upgrading : Task
   trimming : (report : List ℕ) → Task
+  carrying_out : (path : List ℕ) → Task
 
 -- the simple command that reads the words of a task
 abbrev pub app_for : Task → App
@@ -27,6 +29,7 @@ app_for (checking print) = check_app
 app_for (replaying report) = replay_app
 app_for upgrading = upgrade_app
 app_for (trimming report) = trim_app
+app_for (carrying_out path) = session_app
 
 -- how far the search for counterexamples goes
 pub record AreBounds (rows : List Row) (bounds : SearchBounds) : Type 0 where
@@ -50,6 +53,7 @@ Say rows (checking print) = IsTrue print ↔ IsGiven rows (codes "print")
 Say rows (replaying report) = HasWord rows (codes "REPORT") report
 Say rows upgrading = Unit {0}
 Say rows (trimming report) = HasWord rows (codes "REPORT") report
+Say rows (carrying_out path) = HasWord rows (codes "COMMANDS") path
 
 -- the first word is this one
 abbrev pub IsNamed : Text → List Text → Type 0
@@ -72,7 +76,8 @@ pub record AsksToLoad (words : List (List ℕ)) (goals : ℕ) : Type 0 where
 -- the commands, each as `clap` sees it
 abbrev pub commands : List App
 commands =
-    check_app ∷ eval_app ∷ prove_app ∷ refute_app ∷ replay_app ∷ load_app ∷ upgrade_app ∷ trim_app ∷ []
+    check_app ∷ eval_app ∷ prove_app ∷ refute_app ∷ replay_app ∷ load_app ∷ upgrade_app ∷ trim_app
+    ∷ session_app ∷ []
 
 -- where the first word names the command, `clap` finds a fault in the words, help among them
 abbrev pub AreRefusedBy : List Text → App → Type 0

@@ -36,6 +36,7 @@ fn arg<'a>(alloc: Global, argument: Argument) -> Arg<'a>
         Argument::File => word(alloc, "FILE"),
         Argument::Term => word(alloc, "TERM"),
         Argument::Report => word(alloc, "REPORT"),
+        Argument::Commands => word(alloc, "COMMANDS"),
         Argument::Goals => numeral(alloc, "N", GOALS),
         Argument::Print => flag(alloc, "print"),
         Argument::Depth => number(alloc, "depth", DEPTHS, USUAL_DEPTH),

@@ -62,6 +62,11 @@ pub enum Command<'a> {
         file: &'a str,
         report: &'a str,
     },
+    /// Carries out commands of a proof by hand on a file.
+    Session {
+        file: &'a str,
+        commands: &'a str,
+    },
 }
 
 impl<'a> Command<'a> {
@@ -77,6 +82,7 @@ impl<'a> Command<'a> {
             Command::Replay { file, .. } => file,
             Command::Upgrade { file } => file,
             Command::Trim { file, .. } => file,
+            Command::Session { file, .. } => file,
         }
     }
 }
@@ -137,6 +143,10 @@ fn asked<'a>(command: CommandWord, matches: &ArgMatches<'a>) -> Request<'a>
         CommandWord::Trim => Request::OnFile(Command::Trim {
             file: word_of(matches, "FILE"),
             report: word_of(matches, "REPORT"),
+        }),
+        CommandWord::Session => Request::OnFile(Command::Session {
+            file: word_of(matches, "FILE"),
+            commands: word_of(matches, "COMMANDS"),
         }),
     }
 }

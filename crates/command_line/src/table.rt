@@ -14,6 +14,7 @@ pub enum CommandWord {
     Load,
     Upgrade,
     Trim,
+    Session,
 }
 
 /// What a command takes: a word, or an option.
@@ -22,6 +23,7 @@ pub enum Argument {
     File,
     Term,
     Report,
+    Commands,
     Goals,
     Print,
     Depth,
@@ -31,10 +33,10 @@ pub enum Argument {
     Nodes,
 }
 
-use Argument::{Depth, File, Goals, Nodes, Plain, Print, Report, Steps, Term, Tries};
+use Argument::{Commands, Depth, File, Goals, Nodes, Plain, Print, Report, Steps, Term, Tries};
 
 /// The commands and what each takes, in the order of the usage line.
-pub const COMMANDS: [(&str, CommandWord, &[Argument]); 8] = [
+pub const COMMANDS: [(&str, CommandWord, &[Argument]); 9] = [
     ("check", CommandWord::Check, &[File, Print]),
     ("eval", CommandWord::Eval, &[File, Term, Steps]),
     (
@@ -47,6 +49,7 @@ pub const COMMANDS: [(&str, CommandWord, &[Argument]); 8] = [
     ("load", CommandWord::Load, &[Goals]),
     ("upgrade", CommandWord::Upgrade, &[File]),
     ("trim", CommandWord::Trim, &[File, Report]),
+    ("session", CommandWord::Session, &[File, Commands]),
 ];
 
 /// The command of this name, and what it takes.
@@ -79,5 +82,5 @@ fn entry_named(
 pub fn usage_line() -> &'static [u8]
     ensures { result.now ≡ usage_line }
 {
-    b"usage: spike check|eval|prove|refute|replay|load|upgrade|trim\n"
+    b"usage: spike check|eval|prove|refute|replay|load|upgrade|trim|session\n"
 }

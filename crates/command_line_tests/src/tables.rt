@@ -342,6 +342,23 @@ const TRIM: [(&str, &str); 30] = [
     ("trims a b", "nothing"),
 ];
 
+const SESSION: [(&str, &str); 14] = [
+    ("session a b", "session [a] [b]"),
+    ("session b a", "session [b] [a]"),
+    ("session - -", "session [-] [-]"),
+    ("session '' help", "session [] [help]"),
+    ("session -- -a --help", "session [-a] [--help]"),
+    ("session", "nothing"),
+    ("session a", "nothing"),
+    ("session a --", "nothing"),
+    ("session a b c", "nothing"),
+    ("session a -b", "nothing"),
+    ("session a b --steps 5", "nothing"),
+    ("session a b --help", "nothing"),
+    ("Session a b", "nothing"),
+    ("sessions a b", "nothing"),
+];
+
 /// First words that are no command of the program, and commands without their words.
 const NO_COMMAND: [(&str, &str); 26] = [
     ("''", "nothing"),
@@ -418,6 +435,7 @@ fn words_ask_for_what_the_usage_says(rt: HostRuntime) -> Result<(), Fail> {
         &REPLAY,
         &UPGRADE,
         &TRIM,
+        &SESSION,
         &LOAD,
         &NO_COMMAND,
     ] {

@@ -41,6 +41,9 @@ pub fn asked(alloc: Global, line: &str) -> Result<String, Fail> {
         Some(Request::OnFile(Command::Trim { file, report })) => {
             format!(in alloc; "trim [{file}] [{report}]")?
         }
+        Some(Request::OnFile(Command::Session { file, commands })) => {
+            format!(in alloc; "session [{file}] [{commands}]")?
+        }
         Some(Request::Load(goals)) => format!(in alloc; "load {goals}")?,
         None => "nothing".to_string(alloc)?,
     };

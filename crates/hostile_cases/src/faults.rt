@@ -26,8 +26,12 @@ fn nothing_is_written_where_a_read_fails(rt: HostRuntime) -> Result<(), Fail> {
         ("replay spec report", 1, Status::ReadFault),
         ("replay spec report", 2, Status::ReadFault),
         ("replay spec report", 3, Status::No),
+        ("session spec report", 1, Status::ReadFault),
+        ("session spec report", 2, Status::ReadFault),
+        ("session spec report", 3, Status::Done),
         ("check missing", 0, Status::ReadFault),
         ("replay spec missing", 0, Status::ReadFault),
+        ("session spec missing", 0, Status::ReadFault),
         ("load 1", 1, Status::Done),
     ] {
         let call = Call {
@@ -52,7 +56,8 @@ fn nothing_is_written_where_a_read_fails(rt: HostRuntime) -> Result<(), Fail> {
 #[test]
 fn pieces_before_a_failing_write_are_written(rt: HostRuntime) -> Result<(), Fail> {
     let load = "load 1: proved 1, refuted 0, open 0\nreplay: yes\n";
-    let cases: [(&str, &str, &[&str], Status); 6] = [
+    let no_claims = "spike-report 1\nsteps 1000\ndone\n";
+    let cases: [(&str, &str, &[&str], Status); 7] = [
         ("prove spec", EMPTY, &[HEADER, DONE], Status::Done),
         (
             "prove spec",
@@ -70,10 +75,11 @@ fn pieces_before_a_failing_write_are_written(rt: HostRuntime) -> Result<(), Fail
         (
             "check",
             BAD,
-            &["usage: spike check|eval|prove|refute|replay|load|upgrade|trim\n"],
+            &["usage: spike check|eval|prove|refute|replay|load|upgrade|trim|session\n"],
             Status::Usage,
         ),
         ("load 1", "", &[load], Status::Done),
+        ("session spec report", BAD, &[no_claims], Status::Done),
     ];
     for (words, spec, pieces, status) in cases {
         let call = Call {

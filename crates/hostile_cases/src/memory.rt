@@ -25,8 +25,42 @@ open le_total depth 3 tried 9 skipped 0 cut no plain 0 nodes 0\n\
 open insert_sorted depth 3 tried 15 skipped 0 cut no plain 0 nodes 0\n\
 done\n";
 
+/// Commands that prove the goal of [`PLUS_ZERO`], with one that is refused and one that is undone.
+const BY_HAND: &str = "goal plus_zero\n\
+cover ?0 [zero, succ(_)]\n\
+rule c1.l 2\n\
+rule c1.l 1\n\
+undo\n\
+rule c1.l 1\n\
+rule c1.l 2\n\
+trivial c1\n\
+decompose c1\n\
+subsume 0 [?0]\n";
+
+/// What `session` writes for them.
+const SESSION: &str = "ok 1\n\
+ok 2\n\
+refused does not fit\n\
+ok 2\n\
+ok 2\n\
+ok 2\n\
+ok 2\n\
+ok 1\n\
+ok 1\n\
+ok 0\n\
+spike-report 1\n\
+steps 1000\n\
+proved plus_zero nodes 6\n\
+cover ?0 [zero, succ(_)]\n\
+rule c1.l 1\n\
+rule c1.l 2\n\
+trivial c1\n\
+decompose c1\n\
+subsume 0 [?0]\n\
+done\n";
+
 /// The words of a call, its two files, and the status and the text where there is memory.
-const CALLS: [(&str, &str, &str, Status, &str); 8] = [
+const CALLS: [(&str, &str, &str, Status, &str); 9] = [
     (
         "eval spec plus(succ(zero),zero)",
         BAD,
@@ -71,6 +105,13 @@ const CALLS: [(&str, &str, &str, Status, &str); 8] = [
     ),
     ("prove spec", PLUS_ZERO, "", Status::Done, PLUS_ZERO_REPORT),
     ("refute spec", INSERTION, "", Status::Open, OPEN),
+    (
+        "session spec report",
+        PLUS_ZERO,
+        BY_HAND,
+        Status::Done,
+        SESSION,
+    ),
 ];
 
 #[test]

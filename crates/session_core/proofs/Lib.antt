@@ -23,6 +23,9 @@ mod WrittenCommands
 mod ReportedClaims
 mod ReportedStates
 mod LastEntries
+-- What a session writes.
+mod Writing
+pub mod WrittenReports
 -- What sessions on naturals write.
 mod Reasons
 mod Worked

@@ -11,5 +11,6 @@ pub mod Written
 pub mod Value
 pub mod CommandText
 pub mod SessionText
+pub mod Writing
 pub mod Laws
 pub mod Examples

@@ -1,4 +1,6 @@
 use clause_core::Why;
+use std::error::Error;
+use std::fmt;
 use term_core::OutOfMemory;
 
 /// Why a command isn't carried out.
@@ -21,6 +23,23 @@ pub enum SessionError {
     OutOfMemory,
 }
 
+impl fmt::Display for SessionError {
+    fn fmt<W: fmt::Write>(&self, f: &mut fmt::Formatter<W>) -> fmt::Result {
+        match self {
+            SessionError::GoalUnderWork => f.write_str("goal under work"),
+            SessionError::UnknownGoal => f.write_str("unknown goal"),
+            SessionError::GoalTwice => f.write_str("goal twice"),
+            SessionError::NoGoal => f.write_str("no goal"),
+            SessionError::Step(why) => write!(f, "the step is not defined: {why:?}"),
+            SessionError::NotSmaller => f.write_str("not smaller"),
+            SessionError::Limit => f.write_str("limit"),
+            SessionError::OutOfMemory => f.write_str("out of memory"),
+        }
+    }
+}
+
+impl Error for SessionError {}
+
 impl From<OutOfMemory> for SessionError {
     ghost use Rattle.std.specs.Prelude.{◌≡◌};
     ghost use Rattle.session_core.specs.declared.errors.SessionError.TheVariants.{OutOfMemory as no_memory};
@@ -39,6 +58,14 @@ pub enum UndoError {
     Nothing,
 }
 
+impl fmt::Display for UndoError {
+    fn fmt<W: fmt::Write>(&self, f: &mut fmt::Formatter<W>) -> fmt::Result {
+        f.write_str("nothing to undo")
+    }
+}
+
+impl Error for UndoError {}
+
 /// Why bytes aren't read as commands.
 #[derive(Clone, Copy, Debug, PartialEq, Eq)]
 pub enum CommandError {
@@ -47,6 +74,17 @@ pub enum CommandError {
     Line { line: u32 },
     OutOfMemory,
 }
+
+impl fmt::Display for CommandError {
+    fn fmt<W: fmt::Write>(&self, f: &mut fmt::Formatter<W>) -> fmt::Result {
+        match self {
+            CommandError::Line { line } => write!(f, "line {line}"),
+            CommandError::OutOfMemory => f.write_str("out of memory"),
+        }
+    }
+}
+
+impl Error for CommandError {}
 
 impl From<OutOfMemory> for CommandError {
     ghost use Rattle.std.specs.Prelude.{◌≡◌};

@@ -6,7 +6,7 @@ ghost use Rattle.proof_script.specs.Steps.{step_line};
 ghost use Rattle.proof_script.specs.Words.{line_text};
 ghost use Rattle.session_core.specs.Lengths.{lengths_after, proved_line, step_length, steps_length};
 
-use crate::copying::copy_step;
+use block_steps::copy_step;
 use clause_core::{Block, Claim, Outcome, Step};
 use proof_script::print_claim;
 use spec_core::{Signature, append_decimal};

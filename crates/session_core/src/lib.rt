@@ -27,6 +27,7 @@ mod reading;
 mod reporting;
 mod sessions;
 mod taking;
+mod texts;
 mod words;
 
 pub use commands::Command;
@@ -38,4 +39,5 @@ pub use laws::{
 };
 pub use reading::{MOST_COMMANDS, read_commands};
 pub use sessions::Session;
+pub use texts::{WrittenSession, session_text};
 pub use words::reason;

@@ -1,12 +1,11 @@
-ghost use Rattle.std.specs.Prelude.{◌≡◌, ◌++◌, Err, IfOk, MatchOption, MatchResult, codes};
+ghost use Rattle.std.specs.Prelude.{◌≡◌, Err, IfOk, MatchResult};
 ghost use Rattle.spec_core.specs.Declarations.{IsDeclared};
-ghost use Rattle.proof_script.specs.Faults.{IsOneLine};
 ghost use Rattle.proof_script.specs.declared.errors.StepLineError.TheVariants.{NotAStep};
 ghost use Rattle.session_core.specs.CommandText.{AreCommands, Spells, SpellsSome, TellsFault};
 
 use crate::commands::{Command, push_command};
 use crate::errors::CommandError;
-use proof_script::{StepLineError, after, is_report_name, read_step};
+use proof_script::{StepLineError, after, is_report_name, read_step, split_line};
 use spec_core::Signature;
 use std::alloc::Global;
 use term_core::Name;
@@ -66,13 +65,4 @@ fn read_command(alloc: Global, sig: &Signature, line: &[u8]) -> Result<Command, 
         return Err(StepLineError::NotAStep);
     }
     Ok(Command::Goal(Name::of(alloc, name)?))
-}
-
-/// The bytes before the first newline, and those after it.
-fn split_line(bytes: &[u8]) -> Option<(&[u8], &[u8])>
-    ensures { MatchOption result (IsOneLine bytes.now)
-        (λ p. IsOneLine p.0.now × (bytes.now ≡ (p.0.now ++ codes "\n") ++ p.1.now)) }
-{
-    let end = bytes.iter().position(|byte| *byte == b'\n')?;
-    Some((&bytes[..end], &bytes[end + 1..]))
 }

@@ -5,8 +5,8 @@ ghost use Rattle.session_core.specs.Value.{kept_of};
 ghost use Rattle.session_core.specs.Written.{BeginWithClaims, BeginsWithGoal, step_commands};
 
 use crate::commands::Command;
-use crate::copying::copy_step;
 use crate::kept_goals::KeptGoal;
+use block_steps::copy_step;
 use clause_core::{Block, Claim, Outcome, Step};
 use std::alloc::Global;
 use term_core::{OutOfMemory, Seq, front};

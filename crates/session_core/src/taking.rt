@@ -3,10 +3,9 @@ ghost use Rattle.std.specs.Prelude.{Result as AnyResult};
 ghost use Rattle.clause_core.specs.declared.reports.Claim.{Claim as ClaimOf};
 ghost use Rattle.acceptance.specs.AllowedAnswers.{IsWholeBlock};
 ghost use Rattle.acceptance.specs.Strict.{AllAreAllowed};
-ghost use Rattle.block_links.specs.Links.{links_of};
 ghost use Rattle.claimed_goals.specs.Tracking.{AreProved};
 ghost use Rattle.inference_rules.specs.Answers.{clauses_of};
-ghost use Rattle.inference_rules.specs.Nodes.{AreNodes, clauses_made};
+ghost use Rattle.inference_rules.specs.Nodes.{AreNodes};
 ghost use Rattle.session_core.specs.Accepting.{HasNeitherChild, HasNeitherReference, IsNeither};
 ghost use Rattle.session_core.specs.States.{Work as WorkOf};
 ghost use Rattle.session_core.specs.Taking.{IsOpenGoal, MakesRelated, TakesKept, TestsAllowed, TestsLast};
@@ -16,10 +15,9 @@ use crate::errors::SessionError;
 use crate::kept_goals::KeptGoal;
 use crate::lengths::{length_of_claim, length_with};
 use acceptance::{Allowed, allowed};
-use block_links::apart;
 use block_steps::TakenSteps;
 use clause_core::{Children, Relation, Step};
-use inference_rules::{Node, StepError, children};
+use inference_rules::{StepError, children};
 use proof_script::MOST_CLAIM_BYTES;
 use spec_admit::Admitted;
 use std::alloc::Global;
@@ -52,7 +50,7 @@ impl KeptGoal {
         let name = &spec.goals.as_slice()[self.number as usize].name;
         let made = made_by(alloc, admitted, proved, &self.taken, step)?;
         let total = length_with(alloc, &spec.sig, self.lengths.as_slice(), step)?;
-        add_made(&mut self.taken, alloc, made)?;
+        self.taken.add(alloc, made)?;
         if let Err(error) = test_last(alloc, &self.taken, name, total) {
             self.taken.take_back();
             return Err(error);
@@ -121,29 +119,6 @@ fn has_neither_reference(made: &Children) -> bool
         }
     }
     false
-}
-
-/// Adds the children that a step makes as nodes, and the links to them; or nothing.
-fn add_made(taken: &mut TakenSteps, alloc: Global, made: Children) -> Result<(), OutOfMemory>
-    ensures nodes { OnOk result (clauses_of taken.new.nodes.items
-        ≡ clauses_of taken.old.nodes.items ++ clauses_made made) }
-    ensures links { OnOk result
-        (taken.new.links.items ≡ taken.old.links.items ++ links_of made ∷ []) }
-    ensures same_nodes { OnErr result (taken.new.nodes.items ≡ taken.old.nodes.items) }
-    ensures same_links { OnErr result (taken.new.links.items ≡ taken.old.links.items) }
-{
-    let (clauses, links) = apart(alloc, made)?;
-    let mut nodes = Vec::with_capacity(alloc, clauses.len())?;
-    for clause in clauses {
-        nodes.push(Node { clause })?;
-    }
-    let before = taken.nodes.len();
-    taken.nodes.append(&mut nodes)?;
-    if taken.links.push(links).is_err() {
-        taken.nodes.truncate(before);
-        return Err(OutOfMemory);
-    }
-    Ok(())
 }
 
 /// Tests the last step that is taken: where each node has a step all must be allowed, and the claim's

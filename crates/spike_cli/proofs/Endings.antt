@@ -1,6 +1,6 @@
 -- What each ending of a call says.
 use Rattle.std.proofs.Common.{◌≡◌, ◌≤◌, ℕ, List, Option, inl, inr, refl, sym, subst}
-use Rattle.std.specs.Prelude.{Result, Ok, Err, OnOk, OnErr}
+use Rattle.std.specs.Prelude.{Result, Ok, Err, OnOk, OnErr, Bool, true, false}
 use Rattle.io_core.specs.Count.{Rose}
 use Rattle.io_core.specs.Piece.{Appended, AppendedPrefix}
 use Rattle.io_core.specs.declared.faults.WriteError.{WriteError}
@@ -14,19 +14,26 @@ use Rattle.spike_cli.specs.declared.stops.Stop.TheVariants.{ReadFault, WriteFaul
 use Rattle.clause_core.specs.declared.reports.Claim.{Claim}
 use Rattle.clause_core.specs.declared.reports.Report.{Report}
 use Rattle.spike_cli.specs.Claims.{IsStatusOfClaims}
-use Rattle.command_line.specs.Tasks.{Task, checking, refuting, proving, evaluating, replaying, upgrading, trimming, Asks, AsksToLoad}
+use Rattle.command_line.specs.Tasks.{Task, checking, refuting, proving, evaluating, replaying, upgrading}
+use Rattle.command_line.specs.Tasks.{trimming, carrying_out, Asks, AsksToLoad}
 use Rattle.spike_cli.specs.Evaluations.{IsEvaluation, valued, spent, refused}
 use Rattle.spike_cli.specs.Reads.{AreTextOf}
-use Rattle.spike_cli.specs.Replays.{IsFileReply, IsReply, IsYesLine, accepted as accepted_report, no_report, refused as refused_report, replied, too_long_report}
+use Rattle.spike_cli.specs.Replays.{IsFileReply, IsReply, IsYesLine, accepted as accepted_report, no_report}
+use Rattle.spike_cli.specs.Replays.{refused as refused_report, replied, too_long_report}
 use Rattle.spike_cli.specs.Trims.{IsTrimmedText}
+use Rattle.spike_cli.specs.Sessions.{IsSession, IsFileSession, carried_out, faulty, for_bytes}
+use Rattle.spike_cli.specs.Sessions.{too_long_commands}
+use Rattle.spike_cli.specs.Sessions.{status_at_end}
 use Rattle.spike_cli.specs.Parts.{AppendsPartOf}
 use Rattle.accepted_spec.specs.Meanings.{IsAcceptedAs}
 use Rattle.accepted_spec.specs.Refusals.{IsRefusalOf}
 use Rattle.accepted_spec.specs.Tellings.{Tells, IsLineOf}
 use Rattle.accepted_spec.specs.declared.refusals.Refusal.{Refusal}
 use Rattle.accepted_spec.specs.declared.refusals.Refusal.TheVariants.{Line, OutOfMemory as NoMemory}
-use Rattle.spike_cli.specs.Runs.{IsEnd, MayWriteOn, MayWriteFor, refusal, on_spec, Ended, RefusedBytes, ReadsFile, MayWrite, for_file, for_load, Means}
-use Rattle.spike_cli.specs.Stops.{Finishes, FinishesReading, Refuses, MeansFor, status_ended, status_of, status_of_stop}
+use Rattle.spike_cli.specs.Runs.{IsEnd, MayWriteOn, MayWriteFor, refusal, on_spec, Ended, RefusedBytes}
+use Rattle.spike_cli.specs.Runs.{ReadsFile, MayWrite, for_file, for_load, Means}
+use Rattle.spike_cli.specs.Stops.{Finishes, FinishesReading, Refuses, MeansFor, status_ended, status_of}
+use Rattle.spike_cli.specs.Stops.{status_of_stop}
 use Rattle.spike_cli.specs.Loads.{IsLoad}
 use Rattle.io_core.proofs.Counts.{Rose-after}
 use Rattle.spike_cli.proofs.Pieces.{part_of}
@@ -76,7 +83,7 @@ no_claims claims status.Refused n h = n
 
 module _ (IsYes : Spec → Report → List ℕ → Type 0) (spec : Spec) where
   no_reply : (bytes text : List ℕ) (s : Status) → IsNoEnd s → IsReply IsYes spec bytes text s → ⊥
-  no_reply bytes text s n (accepted_report report is ok true said) = n
+  no_reply bytes text s n (accepted_report report is ok right said) = n
   no_reply bytes text s n (no_report line fault) = n
   no_reply bytes text s n (refused_report report line why is first) = n
 
@@ -86,6 +93,20 @@ module _ (IsYes : Spec → Report → List ℕ → Type 0) (spec : Spec) where
   no_file_reply held text s n (replied bytes read is) = no_reply bytes text s n is
   no_file_reply held text s n (too_long_report long) = n
 
+module _ (spec : Spec) where
+  no_status_at_end : (is_open : Bool) → IsNoEnd (status_at_end is_open) → ⊥
+  no_status_at_end true n = n
+  no_status_at_end false n = n
+
+  no_session : (bytes text : List ℕ) (s : Status) → IsNoEnd s → IsSession spec bytes text s → ⊥
+  no_session bytes text s n (carried_out commands {is_open = is_open} are said right) = no_status_at_end is_open n
+  no_session bytes text s n (faulty line is) = n
+
+  no_file_session :
+      (held : Option (List ℕ)) (text : List ℕ) (s : Status) → IsNoEnd s → IsFileSession spec held text s → ⊥
+  no_file_session held text s n (for_bytes bytes read is) = no_session bytes text s n is
+  no_file_session held text s n (too_long_commands long) = n
+
 no_end : (held : List ℕ → Option (List ℕ)) (task : Task) (raw : RawSpec) (spec : Spec) (text : List ℕ) (s : Status) → IsNoEnd s → IsEnd held task raw spec text s → ⊥
 no_end held (checking print) raw spec text s n is = subst (λ (u : Status). IsNoEnd u) is.1 n
 no_end held (refuting search) raw spec text s n is = no_claims is.claims s n is.answers
@@ -94,6 +115,7 @@ no_end held (evaluating term steps) raw spec text s n is = no_evaluation spec te
 no_end held (replaying report) raw spec text s n is = no_file_reply IsYesLine spec (held report) text s n is
 no_end held upgrading raw spec text s n is = subst (λ (u : Status). IsNoEnd u) is.1 n
 no_end held (trimming report) raw spec text s n is = no_file_reply IsTrimmedText spec (held report) text s n is
+no_end held (carrying_out path) raw spec text s n is = no_file_session spec (held path) text s n is
 
 module _ (held : List ℕ → Option (List ℕ)) (task : Task) (bytes : List ℕ) (reads reads' : ℕ) (old new : Option (List ℕ)) (writes writes' : ℕ) where
   -- the line of a refusal

@@ -5,6 +5,7 @@ use Rattle.spec_core.specs.declared.records.Spec.{Spec}
 use Rattle.spec_core.specs.WellSorted.{IsWellSorted}
 use Rattle.spec_order.specs.Orders.{above_of}
 use Rattle.clause_core.specs.declared.reports.Report.{Report}
+use Rattle.proof_script.specs.Claims.{report_text}
 use Rattle.proof_script.specs.Texts.{IsReportText}
 use Rattle.acceptance.specs.Accepting.{IsAccepted}
 use Rattle.soundness.specs.ReportTruth.{ReportIsTrue}
@@ -51,4 +52,6 @@ finished_accepted one = record {
       r.short;
   trimmed = λ spec report text fine t.
       answered one spec fine t.trimmed text t.stands t.trims.accepted t.true t.short;
+  by_hand = λ spec report fine r.
+      answered one spec fine report (report_text spec.sig report) r.stands r.accepted r.true r.short;
 }

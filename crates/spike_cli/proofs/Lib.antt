@@ -14,6 +14,8 @@ pub mod OneReplay
 pub mod FinishedReports
 pub mod FewClaims
 pub mod TrimmedReports
+pub mod RightReports
+mod OneSession
 mod ReplayRuns
 pub mod RunsTwice
 mod UpgradedRuns

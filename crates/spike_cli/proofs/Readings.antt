@@ -1,5 +1,6 @@
 -- What is said of a command that reads another file, and of the names that were asked for.
-use Rattle.std.proofs.Common.{◌≡◌, ◌≢◌, ◌⊎◌, ◌∙◌, ℕ, List, [], ◌∷◌, ◌++◌, ◌≤◌, Option, ap, sym, subst, inl, inr, length, append_assoc, append-nil}
+use Rattle.std.proofs.Common.{◌≡◌, ◌≢◌, ◌⊎◌, ◌∙◌, ℕ, List, [], ◌∷◌, ◌++◌, ◌≤◌, Option, ap, sym, subst, inl}
+use Rattle.std.proofs.Common.{inr, length, append_assoc, append-nil}
 use Rattle.std.specs.Prelude.{Result, Ok, Err, IsErrAnd, IfSome}
 use Rattle.io_core.specs.Asked.{AddsName}
 use Rattle.io_core.specs.Count.{Rose}
@@ -15,15 +16,14 @@ use Rattle.spec_grammar.specs.declared.raw.RawSpec.{RawSpec}
 use Rattle.command_line.specs.Commands.{task_of}
 use Rattle.command_line.specs.Tasks.{Task, Asks}
 use Rattle.command_line.specs.declared.commands.Command.{Command}
-use Rattle.spike_cli.specs.Reads.{most_report_bytes, AreBytesOf, AreTextOf, IsLonger}
+use Rattle.spike_cli.specs.Reads.{AreTextOf}
 use Rattle.accepted_spec.specs.Meanings.{IsAccepted}
 use Rattle.spike_cli.specs.declared.statuses.Status.{Status}
-use Rattle.spike_cli.specs.declared.statuses.Status.TheVariants.{Refused}
 use Rattle.spike_cli.specs.declared.stops.Stop.{Stop}
 use Rattle.spike_cli.specs.declared.stops.Stop.TheVariants.{ReadFault, WriteFault, OutOfMemory}
-use Rattle.spike_cli.specs.Parts.{AppendsPartOf}
-use Rattle.spike_cli.specs.Replays.{IsFileReply, IsFileReplyText, IsReply, IsReplyText, replied, too_long_report, too_long_report_line}
-use Rattle.spike_cli.specs.Runs.{AreAsked, no_file, one_file, all_files, further_files, AsksFiles, IsEnd, MayWriteOn}
+use Rattle.spike_cli.specs.Replays.{IsReply}
+use Rattle.spike_cli.specs.Runs.{AreAsked, no_file, one_file, all_files, further_files, AsksFiles, IsEnd}
+use Rattle.spike_cli.specs.Runs.{MayWriteOn}
 use Rattle.spike_cli.specs.Stops.{AsksForOn, Finishes, FinishesReading, stop_of}
 use Rattle.spike_cli.proofs.Pieces.{part_of, piece_stopped, at_error}
 
@@ -35,41 +35,32 @@ module _ (old new : Option (List ℕ)) (writes writes' reads reads' : ℕ) where
   reads_nothing IsWhole IsPart (Err WriteFault) h = h
   reads_nothing IsWhole IsPart (Err OutOfMemory) h = h
 
-  -- what was written for the bytes of a report is what is written for its file
-  module _ (IsYes : Spec → Report → List ℕ → Type 0) (spec : Spec) (held : Option (List ℕ)) where
-    abbrev pub IsWhole : List ℕ → Status → Type 0
-    IsWhole = IsFileReply IsYes spec held
+  -- a command that reads a further file
+  module _ (IsWhole : List ℕ → Status → Type 0) (IsPart : List ℕ → Type 0) where
+    -- what was written for the bytes of the file
+    pub reads_bytes :
+        (IsOfBytes : List ℕ → Status → Type 0) (IsPartOfBytes : List ℕ → Type 0) →
+        ((text : List ℕ) (s : Status) → IsOfBytes text s → IsWhole text s) →
+        ((text : List ℕ) → IsPartOfBytes text → IsPart text) → (result : Result Status Stop) →
+        Finishes old new writes writes' IsOfBytes IsPartOfBytes result →
+        FinishesReading old new writes writes' reads reads' IsWhole IsPart result
+    reads_bytes IsOfBytes IsPartOfBytes whole part (Ok s) h = (h.0, whole h.0 s h.1, h.2)
+    reads_bytes IsOfBytes IsPartOfBytes whole part (Err ReadFault) h = absurd h
+    reads_bytes IsOfBytes IsPartOfBytes whole part (Err WriteFault) h =
+        (h.0, part_of IsPartOfBytes IsPart old new part h.1)
+    reads_bytes IsOfBytes IsPartOfBytes whole part (Err OutOfMemory) h =
+        part_of IsPartOfBytes IsPart old new part h
 
-    abbrev pub IsPart : List ℕ → Type 0
-    IsPart = IsFileReplyText IsYes spec held
-
-    module _ (bytes : List ℕ) (told : AreBytesOf held most_report_bytes bytes) where
-      part : AppendsPartOf (IsReplyText IsYes spec bytes) old new → AppendsPartOf IsPart old new
-      part p =
-          part_of (IsReplyText IsYes spec bytes) IsPart old new
-          (λ t is. (is.0, replied bytes told is.1)) p
-
-      pub replies_to_bytes :
-          (result : Result Status Stop) →
-          Finishes old new writes writes' (IsReply IsYes spec bytes) (IsReplyText IsYes spec bytes)
-          result → FinishesReading old new writes writes' reads reads' IsWhole IsPart result
-      replies_to_bytes (Ok s) h = (h.0, replied bytes told h.1, h.2)
-      replies_to_bytes (Err ReadFault) h = absurd h
-      replies_to_bytes (Err WriteFault) h = (h.0, part h.1)
-      replies_to_bytes (Err OutOfMemory) h = part h
-
-    -- the line of a report that is too long was to be written
-    pub too_long_stopped :
-        IsLonger held most_report_bytes → (error : WriteError) (result : Result Status Stop) →
-        IsErrAnd result (λ s. s ≡ stop_of error) → AppendedPrefix old new too_long_report_line →
+    -- a line that was to be written for the file
+    pub line_stopped :
+        (line : List ℕ) → IsPart line → (error : WriteError) (result : Result Status Stop) →
+        IsErrAnd result (λ s. s ≡ stop_of error) → AppendedPrefix old new line →
         (◌≡◌ {A = Result Unit WriteError} (Err error) (Err write.Failed) → Rose writes writes') →
         FinishesReading old new writes writes' reads reads' IsWhole IsPart result
-    too_long_stopped long error result is prefix failed =
-        let stopped =
-        piece_stopped IsPart old new writes writes' too_long_report_line error
-        (Refused, too_long_report long) prefix failed in
+    line_stopped line may error result is prefix failed =
         at_error (FinishesReading old new writes writes' reads reads' IsWhole IsPart) result
-        (stop_of error) is (reads_nothing IsWhole IsPart (Err (stop_of error)) stopped)
+        (stop_of error) is (reads_nothing IsWhole IsPart (Err (stop_of error))
+        (piece_stopped IsPart old new writes writes' line error may prefix failed))
 
 -- what a command did, where it is this one
 pub of_command :

@@ -10,27 +10,39 @@ use Rattle.spec_grammar.specs.Limits.{file_limit}
 use Rattle.spec_grammar.specs.declared.raw.RawSpec.{RawSpec}
 use Rattle.clause_core.specs.declared.reports.Claim.{Claim}
 use Rattle.command_line.specs.Laws.{OneRequest}
-use Rattle.command_line.specs.Tasks.{Task, checking, refuting, proving, evaluating, replaying, upgrading, trimming, Asks}
+use Rattle.command_line.specs.Tasks.{Task, checking, refuting, proving, evaluating, replaying, upgrading}
+use Rattle.command_line.specs.Tasks.{trimming, carrying_out, Asks}
+use Rattle.proof_script.specs.Claims.{report_text}
 use Rattle.reply_lines.specs.Lines.{yes_line}
+use Rattle.session_core.specs.Sound.{report_of}
 use Rattle.accepted_spec.specs.Meanings.{IsAcceptedAs}
 use Rattle.spike_cli.specs.declared.statuses.Status.{Status}
-use Rattle.spike_cli.specs.declared.statuses.Status.TheVariants.{Done, Refuted, Open, Refused, No, ReadFault, WriteFault, Usage, OutOfMemory}
-use Rattle.spike_cli.specs.Replays.{accepted as accepted_report, no_report, refused as refused_report, replied, too_long_report}
+use Rattle.spike_cli.specs.declared.statuses.Status.TheVariants.{Done, Refuted, Open, Refused, No}
+use Rattle.spike_cli.specs.declared.statuses.Status.TheVariants.{ReadFault, WriteFault, Usage, OutOfMemory}
+use Rattle.spike_cli.specs.Replays.{accepted as accepted_report, no_report, refused as refused_report}
+use Rattle.spike_cli.specs.Replays.{replied, too_long_report}
 use Rattle.spike_cli.specs.Reports.{search_alone}
 use Rattle.spike_cli.specs.Trims.{IsFileTrim}
+use Rattle.spike_cli.specs.Sessions.{IsFileSession, carried_out, faulty, for_bytes, too_long_commands}
 use Rattle.spike_cli.specs.FinishedReports.{FinishedReportsAreAccepted, IsAnsweredByYes}
 use Rattle.spike_cli.specs.Outcomes.{OneEnding}
 use Rattle.spike_cli.specs.Runs.{IsEnd, Ended, Means}
-use Rattle.spike_cli.specs.RunsTwice.{IsFinished, WritesReport, FinishedRun, FinishedRunsAreReplayed}
+use Rattle.spike_cli.specs.RunsTwice.{IsFinished, IsByHand, IsReplayed, WritesReport, FinishedRun}
+use Rattle.spike_cli.specs.RunsTwice.{FinishedRunsAreReplayed}
 use Rattle.spike_cli.proofs.OneEnding.{well_sorted_meaning}
 use Rattle.spike_cli.proofs.ReplayRuns.{of_file, replay_ends, replay_told}
 
--- a report that is answered by yes on the specification that the bytes stand for
-record ReportOf (bytes report : List ℕ) : Type 0 where
+-- this is so of a text on the specification that the bytes stand for
+record TextOf (IsSo : Spec → List ℕ → Type 0) (bytes text : List ℕ) : Type 0 where
   raw : RawSpec
   spec : Spec
   accepted : IsAcceptedAs bytes raw spec
-  yes : IsAnsweredByYes spec report
+  so : IsSo spec text
+
+-- the text ends with a report that is answered by yes
+abbrev EndsAnswered : Spec → List ℕ → Type 0
+EndsAnswered spec text =
+    (lines : List ℕ) × (report : List ℕ) × (text ≡ lines ++ report) × IsAnsweredByYes spec report
 
 same_some : (x y : List ℕ) → Some x ≡ Some y → x ≡ y
 same_some x y e = let q : Some x ≡ Some y = e in cc
@@ -83,35 +95,67 @@ module _ (ending : OneEnding) (request : OneRequest) (finished : FinishedReports
     end_answered held upgrading raw text status w f e = absurd w
     end_answered held (trimming report) raw text status w f e =
         trimmed_answered (held report) text status f e
+    end_answered held (carrying_out path) raw text status w f e = absurd w
 
-  written :
-      (bytes report : List ℕ) → FinishedRun bytes report →
-      (length bytes ≤ file_limit bytes) × ReportOf bytes report
-  written bytes report run =
-      let e =
-      ended run.words run.held run.file run.task run.asks bytes run.told run.reads run.reads'
-      run.writes run.writes' (Some run.before) (Some (run.before ++ report)) run.status
-      run.finished run.means in
-      let end = e.1 in
-      let same : report ≡ end.text =
-      append_cancel_left run.before report end.text
-      (same_some (run.before ++ report) (run.before ++ end.text) end.appended) in
-      let fine =
-      well_sorted_meaning bytes end.spec (end.raw, end.accepted.derived, end.accepted.stands) in
-      let yes =
-      end_answered end.spec fine run.held run.task end.raw end.text run.status run.writes_report
-      run.finished end.is_end in (
-        e.0,
-        record {
-          raw = end.raw;
-          spec = end.spec;
-          accepted = end.accepted;
-          yes = subst (λ t. IsAnsweredByYes end.spec t) (sym same) yes;
-        },
-      )
+    -- a session that finished ends with its report
+    session_answered :
+        (told : Option (List ℕ)) (text : List ℕ) (status : Status) → IsFinished status →
+        IsFileSession spec told text status → EndsAnswered spec text
+    session_answered told text status f (for_bytes bytes read (carried_out commands are said right)) =
+        let report = report_of 1000 said.state in
+        (said.lines, report_text spec.sig report, said.is, finished.by_hand spec report fine right)
+    session_answered told text status f (for_bytes bytes read (faulty line is)) = absurd f
+    session_answered told text status f (too_long_commands long) = absurd f
+
+    hand_answered :
+        (held : List ℕ → Option (List ℕ)) (task : Task) (raw : RawSpec) (text : List ℕ)
+        (status : Status) → IsByHand task → IsFinished status →
+        IsEnd held task raw spec text status → EndsAnswered spec text
+    hand_answered held (checking print) raw text status w f e = absurd w
+    hand_answered held (refuting search) raw text status w f e = absurd w
+    hand_answered held (proving bounds) raw text status w f e = absurd w
+    hand_answered held (evaluating term steps) raw text status w f e = absurd w
+    hand_answered held (replaying report) raw text status w f e = absurd w
+    hand_answered held upgrading raw text status w f e = absurd w
+    hand_answered held (trimming report) raw text status w f e = absurd w
+    hand_answered held (carrying_out path) raw text status w f e =
+        session_answered (held path) text status f e
 
   module _
-      (bytes report : List ℕ) (short : length bytes ≤ file_limit bytes) (r : ReportOf bytes report)
+      (IsOfKind : Task → Type 0) (IsSo : Spec → List ℕ → Type 0)
+      (so : (spec : Spec) → IsWellSorted spec → (held : List ℕ → Option (List ℕ)) (task : Task)
+      (raw : RawSpec) (text : List ℕ) (status : Status) → IsOfKind task → IsFinished status →
+      IsEnd held task raw spec text status → IsSo spec text)
+    where
+      written :
+          (bytes text : List ℕ) → FinishedRun IsOfKind bytes text →
+          (length bytes ≤ file_limit bytes) × TextOf IsSo bytes text
+      written bytes text run =
+          let e =
+          ended run.words run.held run.file run.task run.asks bytes run.told run.reads run.reads'
+          run.writes run.writes' (Some run.before) (Some (run.before ++ text)) run.status
+          run.finished run.means in
+          let end = e.1 in
+          let same : text ≡ end.text =
+          append_cancel_left run.before text end.text
+          (same_some (run.before ++ text) (run.before ++ end.text) end.appended) in
+          let fine =
+          well_sorted_meaning bytes end.spec (end.raw, end.accepted.derived, end.accepted.stands) in
+          let is_so =
+          so end.spec fine run.held run.task end.raw end.text run.status run.is_of_kind run.finished
+          end.is_end in (
+            e.0,
+            record {
+              raw = end.raw;
+              spec = end.spec;
+              accepted = end.accepted;
+              so = subst (λ t. IsSo end.spec t) (sym same) is_so;
+            },
+          )
+
+  module _
+      (bytes report : List ℕ) (short : length bytes ≤ file_limit bytes)
+      (r : TextOf IsAnsweredByYes bytes report)
       (words : List (List ℕ)) (held : List ℕ → Option (List ℕ)) (file name : List ℕ)
       (asks : Asks words file (replaying name)) (told : held file ≡ Some bytes)
       (told_report : held name ≡ Some report) (old new : Option (List ℕ)) where
@@ -130,12 +174,28 @@ module _ (ending : OneEnding) (request : OneRequest) (finished : FinishedReports
         let now =
         replay_told ending request bytes r.raw r.spec r.accepted short words held file name asks told
         old new report told_report s e in
-        let is = r.yes.only e.text s now in
-        (is.1, (r.yes.claims, subst (λ t. Appended old new t) is.0 e.appended))
+        let is = r.so.only e.text s now in
+        (is.1, (r.so.claims, subst (λ t. Appended old new t) is.0 e.appended))
+
+  yes_replayed :
+      (bytes report : List ℕ) → length bytes ≤ file_limit bytes → TextOf IsAnsweredByYes bytes report →
+      IsReplayed bytes report
+  yes_replayed bytes report short r words held file name reads reads' writes writes' old new status
+      asks told told_report means a b c =
+      says_yes bytes report short r words held file name asks told told_report old new reads reads'
+      writes writes' status means a b c
 
   pub runs_replayed : FinishedRunsAreReplayed
-  runs_replayed bytes report run words held file name reads reads' writes writes' old new status
-      asks told told_report means a b c =
-      let w = written bytes report run in
-      says_yes bytes report w.0 w.1 words held file name asks told told_report old new reads reads'
-      writes writes' status means a b c
+  runs_replayed = record {
+    whole = λ bytes report run. (
+        let w = written WritesReport IsAnsweredByYes end_answered bytes report run in
+        yes_replayed bytes report w.0 w.1
+        );
+    by_hand = λ bytes text run. (
+        let w = written IsByHand EndsAnswered hand_answered bytes text run in
+        let ends = w.1.so in
+        let r : TextOf IsAnsweredByYes bytes ends.1 =
+        record { raw = w.1.raw; spec = w.1.spec; accepted = w.1.accepted; so = ends.3 } in
+        (ends.0, ends.1, ends.2, yes_replayed bytes ends.1 w.0 r)
+        );
+  }

@@ -1,6 +1,7 @@
 -- The words give each number within its range.
 use Rattle.std.specs.Prelude.{ℕ, List}
-use Rattle.command_line.specs.Tasks.{Task, checking, refuting, proving, evaluating, replaying, upgrading, trimming, Asks}
+use Rattle.command_line.specs.Tasks.{Task, checking, refuting, proving, evaluating, replaying, upgrading}
+use Rattle.command_line.specs.Tasks.{trimming, carrying_out, Asks}
 use Rattle.spike_cli.specs.Within.{TaskIsWithin}
 
 pub task_within : (words : List (List ℕ)) (file : List ℕ) (task : Task) → Asks words file task → TaskIsWithin task
@@ -23,3 +24,4 @@ task_within words file (checking print) asks = tt
 task_within words file (replaying report) asks = tt
 task_within words file upgrading asks = tt
 task_within words file (trimming report) asks = tt
+task_within words file (carrying_out path) asks = tt

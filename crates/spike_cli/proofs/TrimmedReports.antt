@@ -1,5 +1,5 @@
--- A trimmed report has a text that isn't too long for `replay`.
-use Rattle.std.proofs.Common.{◌≡◌, ◌≤◌, ℕ, List, [], ◌∷◌, subst, sym, arith, length, length-append}
+-- An accepted report that has a text, a trimmed one among them, isn't too long for `replay`.
+use Rattle.std.proofs.Common.{◌≡◌, ◌≤◌, ◌+◌, ◌*◌, ℕ, List, [], ◌∷◌, subst, sym, arith, length, length-append}
 use Rattle.std.specs.List.{AllByRecursion}
 use Rattle.spec_core.specs.declared.records.Goal.{Goal}
 use Rattle.spec_core.specs.declared.records.Spec.{Spec}
@@ -21,11 +21,31 @@ use Rattle.spike_cli.specs.Within.{HasReports}
 use Rattle.spike_cli.proofs.FewClaims.{few_claims}
 use Rattle.spike_cli.proofs.ReportedClaims.{header_bytes}
 
-goal_names :
+pub goal_names :
     (goals : List Goal) → AllByRecursion GoalNamesStand goals →
     AllByRecursion (λ (goal : Goal). IsReportName goal.name) goals
 goal_names [] all = tt
 goal_names (goal ∷ goals) all = (all.0.goal_name, goal_names goals all.1)
+
+-- the text of an accepted report isn't too long for `replay`
+pub text_short :
+    (spec : Spec) → HasReports spec → (report : Report) →
+    IsReportText spec.sig (report_text spec.sig report) report →
+    length (report_text spec.sig report)
+    ≤ length (lines_text spec.sig (header_lines report.steps)) + 300000 * length report.claims
+    + length (lines_text spec.sig (last_line ∷ [])) →
+    IsAccepted (above_of spec) spec report → length (report_text spec.sig report) ≤ 67108864
+text_short spec reports report text bytes ok =
+    let short : IsShort report.steps = omega (arith, text.stands.steps.1) in
+    omega (
+      arith,
+      reports.few_goals,
+      bytes,
+      few_claims (above_of spec) spec report.steps report.claims ok,
+      header_bytes spec.sig report.steps short,
+      line_bytes spec.sig last_line,
+      length-append (line_text spec.sig last_line) [],
+    )
 
 module _
     (spec : Spec) (reports : HasReports spec) (stand : TrimmedReportsStand (above_of spec))
@@ -36,21 +56,6 @@ module _
   has_text trimmed leads =
       stand spec read.0 report trimmed reports.fine (goal_names spec.goals reports.names.goals) read.1
       accepted leads
-
-  text_short :
-      (trimmed : Report) → HasText spec.sig trimmed → IsAccepted (above_of spec) spec trimmed →
-      length (report_text spec.sig trimmed) ≤ 67108864
-  text_short trimmed has ok =
-      let short : IsShort trimmed.steps = omega (arith, has.text.stands.steps.1) in
-      omega (
-        arith,
-        reports.few_goals,
-        has.short,
-        few_claims (above_of spec) spec trimmed.steps trimmed.claims ok,
-        header_bytes spec.sig trimmed.steps short,
-        line_bytes spec.sig last_line,
-        length-append (line_text spec.sig last_line) [],
-      )
 
   pub trimmed_text :
       AcceptedAreTrue (above_of spec) → (trimmed : Report) →
@@ -65,5 +70,6 @@ module _
         true = sound spec trimmed reports.fine reports.admitted trims.accepted;
         stands = subst (λ t. IsReportText spec.sig t trimmed) (sym is) has.text;
         short =
-            subst (λ t. length t ≤ 67108864) (sym is) (text_short trimmed has trims.accepted);
+            subst (λ t. length t ≤ 67108864) (sym is)
+            (text_short spec reports trimmed has.text has.short trims.accepted);
       }

@@ -1,4 +1,4 @@
--- What `replay` answers for a report that `prove`, `refute` or `trim` finished.
+-- What `replay` answers for a report that `prove`, `refute`, `trim` or `session` finished.
 use Rattle.std.specs.Prelude.{◌≡◌, ℕ, List, Some}
 use Rattle.spec_core.specs.declared.records.Spec.{Spec}
 use Rattle.spec_core.specs.WellSorted.{IsWellSorted}
@@ -9,6 +9,8 @@ use Rattle.spike_cli.specs.declared.statuses.Status.{Status}
 use Rattle.spike_cli.specs.declared.statuses.Status.TheVariants.{Done}
 use Rattle.spike_cli.specs.Replays.{IsFileReplay}
 use Rattle.spike_cli.specs.Trims.{IsTrimmedText}
+use Rattle.spike_cli.specs.Sessions.{IsRightReport}
+use Rattle.proof_script.specs.Claims.{report_text}
 use Rattle.reply_lines.specs.Lines.{yes_line}
 use Rattle.spike_cli.specs.Reports.{IsReport}
 
@@ -21,7 +23,7 @@ pub record IsAnsweredByYes (spec : Spec) (bytes : List ℕ) : Type 0 where
       (text : List ℕ) (status : Status) → IsFileReplay spec (Some bytes) text status →
       (text ≡ yes_line claims) × (status ≡ Done)
 
--- each finished report is, on the same specification, and so is each that is trimmed
+-- each finished report is, on the same specification, and so is each that is trimmed or made by hand
 pub record FinishedReportsAreAccepted : Type 0 where
   pub made :
       (bounds : ProofBounds) (spec : Spec) (text : List ℕ) (status : Status) →
@@ -29,3 +31,6 @@ pub record FinishedReportsAreAccepted : Type 0 where
   pub trimmed :
       (spec : Spec) (report : Report) (text : List ℕ) →
       IsWellSorted spec → IsTrimmedText spec report text → IsAnsweredByYes spec text
+  pub by_hand :
+      (spec : Spec) (report : Report) →
+      IsWellSorted spec → IsRightReport spec report → IsAnsweredByYes spec (report_text spec.sig report)

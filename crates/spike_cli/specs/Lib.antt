@@ -7,6 +7,7 @@ pub mod SearchAlone
 pub mod Evaluations
 pub mod Replays
 pub mod Trims
+pub mod Sessions
 pub mod FinishedReports
 pub mod Loads
 pub mod Upgrades

@@ -16,6 +16,7 @@ use Rattle.accepted_spec.specs.Meanings.{IsAcceptedAs, TermTextStandsFor}
 use Rattle.accepted_spec.specs.Refusals.{IsRefusalOf, IsTermRefusal}
 use Rattle.spike_cli.specs.Replays.{IsReply, IsYesLine}
 use Rattle.spike_cli.specs.Trims.{IsTrimmedText}
+use Rattle.spike_cli.specs.Sessions.{IsSession}
 
 -- over a declared signature a term's text stands for one term at most, and none where it has a line
 -- of refusal; it has one such line at most
@@ -55,3 +56,9 @@ OneReplay = OneReply IsYesLine
 
 abbrev pub OneTrim : Type 0
 OneTrim = OneReply IsTrimmedText
+
+-- and the bytes of commands get one text and one status from `session`
+pub record OneSession : Type 0 where
+  pub one : (spec : Spec) (bytes text other : List ℕ) (status again : Status) → IsWellSorted spec
+      → IsSession spec bytes text status → IsSession spec bytes other again
+      → (text ≡ other) × (status ≡ again)

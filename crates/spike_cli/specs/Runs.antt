@@ -5,9 +5,11 @@ use Rattle.spec_grammar.specs.declared.raw.RawSpec.{RawSpec}
 use Rattle.io_core.specs.Count.{Rose}
 use Rattle.io_core.specs.Piece.{Appended}
 use Rattle.spike_cli.specs.declared.statuses.Status.{Status}
-use Rattle.spike_cli.specs.declared.statuses.Status.TheVariants.{Done, Refuted, Open, Refused, No, ReadFault, WriteFault, Usage, OutOfMemory}
+use Rattle.spike_cli.specs.declared.statuses.Status.TheVariants.{Done, Refuted, Open, Refused, No}
+use Rattle.spike_cli.specs.declared.statuses.Status.TheVariants.{ReadFault, WriteFault, Usage, OutOfMemory}
 use Rattle.spike_cli.specs.Parts.{AppendsPartOf}
-use Rattle.command_line.specs.Tasks.{Task, checking, refuting, proving, evaluating, replaying, upgrading, trimming, Asks, AsksToLoad, AskNothing}
+use Rattle.command_line.specs.Tasks.{Task, checking, refuting, proving, evaluating, replaying, upgrading}
+use Rattle.command_line.specs.Tasks.{trimming, carrying_out, Asks, AsksToLoad, AskNothing}
 use Rattle.command_line.specs.Usage.{usage_line}
 use Rattle.spike_cli.specs.Reads.{AreTextOf, PassesItsLimit}
 use Rattle.accepted_spec.specs.Meanings.{IsAccepted, IsAcceptedAs}
@@ -17,6 +19,7 @@ use Rattle.spike_cli.specs.Reports.{BeginsReport, IsReport, search_alone}
 use Rattle.spike_cli.specs.Evaluations.{IsEvaluation, IsEvaluationText}
 use Rattle.spike_cli.specs.Replays.{IsFileReplay, IsFileReplayText}
 use Rattle.spike_cli.specs.Trims.{IsFileTrim, IsFileTrimText}
+use Rattle.spike_cli.specs.Sessions.{IsFileSession, IsSomeFileSession}
 use Rattle.spike_cli.specs.Loads.{IsLoad}
 use Rattle.spike_cli.specs.Upgrades.{IsUpgrade}
 use Rattle.spec_printing.specs.Printed.{printed}
@@ -30,6 +33,7 @@ too_long_line = codes "refused length\n"
 abbrev pub further_files : Task → List (List ℕ)
 further_files (replaying report) = report ∷ []
 further_files (trimming report) = report ∷ []
+further_files (carrying_out path) = path ∷ []
 further_files _ = []
 
 module _ (held : List ℕ → Option (List ℕ)) where
@@ -42,6 +46,7 @@ module _ (held : List ℕ → Option (List ℕ)) where
   IsEnd (replaying report) raw spec text status = IsFileReplay spec (held report) text status
   IsEnd upgrading raw spec text status = IsUpgrade raw text status
   IsEnd (trimming report) raw spec text status = IsFileTrim spec (held report) text status
+  IsEnd (carrying_out path) raw spec text status = IsFileSession spec (held path) text status
 
   -- a text that a task may write on a specification: what a report begins with, or the whole text
   -- of another task
@@ -53,6 +58,7 @@ module _ (held : List ℕ → Option (List ℕ)) where
   MayWriteOn (replaying report) raw spec text = IsFileReplayText spec (held report) text
   MayWriteOn upgrading raw spec text = text ≡ printed (upgraded raw)
   MayWriteOn (trimming report) raw spec text = IsFileTrimText spec (held report) text
+  MayWriteOn (carrying_out path) raw spec text = IsSomeFileSession spec (held path) text
 
   module _ (task : Task) (bytes : List ℕ) where
     -- a text that a task may write for the bytes of its file

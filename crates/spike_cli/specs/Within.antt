@@ -7,7 +7,8 @@ use Rattle.clause_core.specs.Admitted.{IsAdmitted}
 use Rattle.search_claims.specs.Laws.{BoundsStand}
 use Rattle.search_claims.specs.Names.{NamesStand}
 use Rattle.command_line.specs.declared.bounds.ProofBounds.{ProofBounds}
-use Rattle.command_line.specs.Tasks.{Task, checking, refuting, proving, evaluating, replaying, upgrading, trimming}
+use Rattle.command_line.specs.Tasks.{Task, checking, refuting, proving, evaluating, replaying, upgrading}
+use Rattle.command_line.specs.Tasks.{trimming, carrying_out}
 
 -- as far as a search for counterexamples and then for proofs may go
 pub record AreWithin (bounds : ProofBounds) : Type 0 where
@@ -24,6 +25,7 @@ TaskIsWithin (checking print) = Unit {0}
 TaskIsWithin (replaying report) = Unit {0}
 TaskIsWithin upgrading = Unit {0}
 TaskIsWithin (trimming report) = Unit {0}
+TaskIsWithin (carrying_out path) = Unit {0}
 
 -- its own order admits the specification, its names may stand in a report, and it has no more rules
 -- and goals than a text declares

@@ -1,7 +1,7 @@
 ghost use Rattle.spike_cli.specs.FinishedReports.{FinishedReportsAreAccepted};
 ghost use Rattle.spike_cli.specs.Loads.{OneLoad};
 ghost use Rattle.spike_cli.specs.OneReport.{OneRightReport};
-ghost use Rattle.spike_cli.specs.Outcomes.{OneEnding, OneReplay, OneTrim};
+ghost use Rattle.spike_cli.specs.Outcomes.{OneEnding, OneReplay, OneSession, OneTrim};
 ghost use Rattle.spike_cli.specs.RunsTwice.{FinishedRunsAreReplayed};
 ghost use Rattle.spike_cli.specs.SearchAlone.{SearchAlone};
 ghost use Rattle.spike_cli.specs.UpgradedRuns.{UpgradedRunsAnswerTheSame};
@@ -12,6 +12,7 @@ use command_line::one_request;
 use plain_blocks::one_block;
 use proof_script::{one_fault as one_faulty_line, one_report};
 use routine_proof::one_proof;
+use session_core::one_reading;
 use spec_admit::{no_fault_where_admitted, one_fault};
 use spec_meaning::{places_mean_nothing, upgrades_stand_for_the_same};
 use spec_order::AnyOrder;
@@ -44,13 +45,22 @@ pub fn one_trim()
     one_verdict::<AnyOrder>();
 }
 
+/// What the bytes of commands lead to on a specification is one thing: what a session writes for
+/// them, or the first line that is at fault.
+pub fn one_session()
+    ensures { OneSession }
+{
+    one_reading();
+}
+
 /// A search for counterexamples alone proves nothing: its claims are those of the search, and it
 /// leaves each goal open that it doesn't refute.
 pub fn search_alone_proves_nothing()
     ensures { SearchAlone }
 {}
 
-/// Each report that was finished, or trimmed, is accepted by `replay` on the same specification.
+/// Each report that was finished, trimmed or made by hand is accepted by `replay` on the same
+/// specification.
 pub fn finished_reports_are_accepted()
     ensures { FinishedReportsAreAccepted }
 {
@@ -62,8 +72,8 @@ pub fn one_load()
     ensures { OneLoad }
 {}
 
-/// A report that one call of `run` finished is answered by yes in another call, whatever its files
-/// and its sink are otherwise.
+/// A report that one call of `run` finished, that of a session among them, is answered by yes in
+/// another call, whatever its files and its sink are otherwise.
 pub fn finished_runs_are_replayed()
     ensures { FinishedRunsAreReplayed }
 {

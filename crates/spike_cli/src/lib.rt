@@ -6,9 +6,10 @@
 //! most `--nodes` nodes, with the goals proved before as lemmas; `refute FILE` looks for
 //! counterexamples alone. `replay FILE REPORT` says whether a report is accepted, or the line at
 //! which it first isn't; `trim FILE REPORT` answers the same, or writes an accepted report made
-//! shorter. `check FILE` says that the file is accepted, or with `--print` writes its
-//! printed form, and `upgrade FILE` writes that form in format 2. `eval FILE TERM` evaluates a term
-//! without variables within `--steps` rule uses.
+//! shorter. `session FILE COMMANDS` carries out the commands of a proof by hand, and writes the
+//! answer to each and the report of the goals that are proved. `check FILE` says that the file is
+//! accepted, or with `--print` writes its printed form, and `upgrade FILE` writes that form in
+//! format 2. `eval FILE TERM` evaluates a term without variables within `--steps` rule uses.
 //! A file that isn't accepted, or a term that isn't one, gets a line of refusal, which says what its
 //! first fault is. `load N` generates this many goals, proves them and replays the report, and writes
 //! how many are proved, refuted and left open.
@@ -26,14 +27,16 @@ mod loading;
 mod replying;
 mod reporting;
 mod running;
+mod sessions;
 mod statuses;
 mod stops;
 
 pub use laws::{
     finished_reports_are_accepted, finished_runs_are_replayed, one_ending, one_load, one_replay,
-    one_right_report, one_trim, search_alone_proves_nothing, upgraded_runs_answer_the_same,
-    upgrades_keep_meaning,
+    one_right_report, one_session, one_trim, search_alone_proves_nothing,
+    upgraded_runs_answer_the_same, upgrades_keep_meaning,
 };
 pub use replying::MAX_REPORT_BYTES;
 pub use running::run;
+pub use sessions::MAX_COMMAND_BYTES;
 pub use statuses::Status;

@@ -19,6 +19,7 @@ use crate::evaluating::evaluate;
 use crate::loading::load;
 use crate::replying::{Yes, reply_to_file};
 use crate::reporting::{search_alone, write_report};
+use crate::sessions::carry_out_file;
 use crate::statuses::Status;
 use crate::stops::Stop;
 use accepted_spec::{Accepted, Refusal, specification};
@@ -176,6 +177,9 @@ fn finish<F: Files, S: Sink>(
         Command::Upgrade { .. } => upgrade(alloc, &accepted.raw, out),
         Command::Trim { report, .. } => {
             reply_to_file(alloc, &accepted.admitted, Yes::Trimmed, report, files, out)
+        }
+        Command::Session { commands, .. } => {
+            carry_out_file(alloc, &accepted.admitted, commands, files, out)
         }
     }
 }

@@ -2,7 +2,7 @@
 use Rattle.std.proofs.Common.{refl, codes}
 use Rattle.clap.specs.Words.{found_of, rows_of}
 use Rattle.command_line.specs.declared.ranges.TheConstants.{GOALS, NODES, PLAIN, STEPS, USUAL_NODES, USUAL_PLAIN, USUAL_STEPS}
-use Rattle.command_line.specs.declared.table.CommandWord.TheVariants.{Check, Eval, Prove, Refute, Replay, Load, Upgrade, Trim}
+use Rattle.command_line.specs.declared.table.CommandWord.TheVariants.{Check, Eval, Prove, Refute, Replay, Load, Upgrade, Trim, Session}
 use Rattle.command_line.proofs.Askings.{bounds_at, number_at, numeral_at, word_at}
 use Rattle.command_line.proofs.commands.asked.Goals as goal
 
@@ -83,3 +83,13 @@ pub word_of-requires-in-Trim-2 : goal.word_of-requires-in-Trim-2
 word_of-requires-in-Trim-2 c =
     word_at c.args.command Trim (rows_of (found_of c.args.matches.now)) c.in-Trim.is c.requires 1
     (codes "REPORT") refl
+
+pub word_of-requires-in-Session : goal.word_of-requires-in-Session
+word_of-requires-in-Session c =
+    word_at c.args.command Session (rows_of (found_of c.args.matches.now)) c.in-Session.is c.requires 0
+    (codes "FILE") refl
+
+pub word_of-requires-in-Session-2 : goal.word_of-requires-in-Session-2
+word_of-requires-in-Session-2 c =
+    word_at c.args.command Session (rows_of (found_of c.args.matches.now)) c.in-Session.is c.requires 1
+    (codes "COMMANDS") refl

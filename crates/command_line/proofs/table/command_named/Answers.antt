@@ -14,7 +14,10 @@ entry_named-requires c = (
           record { named = refl; taking = refl },
           (
             record { named = refl; taking = refl },
-            (record { named = refl; taking = refl }, (record { named = refl; taking = refl }, tt)),
+            (
+              record { named = refl; taking = refl },
+              (record { named = refl; taking = refl }, (record { named = refl; taking = refl }, tt)),
+            ),
           ),
         ),
       ),

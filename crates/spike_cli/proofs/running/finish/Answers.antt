@@ -65,6 +65,16 @@ returns-in-Trim-clause-finishes g c =
     (g.F.Files.faults c.args.files.now) (g.F.Files.faults c.reply_to_file-in-Trim.new.files)
     c.reply_to_file-in-Trim.result c.reply_to_file-in-Trim.ensures.finishes
 
+pub returns-in-Session-clause-finishes : goal.returns-in-Session-clause-finishes
+returns-in-Session-clause-finishes g c =
+    let raw = c.args.accepted.now.raw in
+    let spec = c.args.accepted.now.admitted.spec in
+    of_command (g.F.Files.held c.args.files.now) raw spec c.args.command.now _ c.in-Session.is
+    (g.S.Sink.written c.args.out.now) (g.S.Sink.written c.carry_out_file.new.out)
+    (g.S.Sink.faults c.args.out.now) (g.S.Sink.faults c.carry_out_file.new.out)
+    (g.F.Files.faults c.args.files.now) (g.F.Files.faults c.carry_out_file.new.files)
+    c.carry_out_file.result c.carry_out_file.ensures.finishes
+
 pub returns-in-Upgrade-clause-finishes : goal.returns-in-Upgrade-clause-finishes
 returns-in-Upgrade-clause-finishes g c =
     let held = g.F.Files.held c.args.files.now in

@@ -114,11 +114,11 @@ returns-in_err-total g c = λ claims work o proved.
     let p = err_from_is_err_and c.from_residual-in_err-total.result c.from_residual-in_err-total.ensures.1 in
     rw (p.1, p.2) (refl, tt)
 
-pub returns-in_err-add_made : goal.returns-in_err-add_made
-returns-in_err-add_made g c = λ claims work o proved.
-    let p = err_from_is_err_and c.from_residual-in_err-add_made.result c.from_residual-in_err-add_made.ensures.1 in
-    let nodes = c.in_err-add_made.ensures.same_nodes in
-    let links = c.in_err-add_made.ensures.same_links in
+pub returns-in_err-add : goal.returns-in_err-add
+returns-in_err-add g c = λ claims work o proved.
+    let p = err_from_is_err_and c.from_residual-in_err-add.result c.from_residual-in_err-add.ensures.1 in
+    let nodes = c.in_err-add.ensures.same_nodes in
+    let links = c.in_err-add.ensures.same_links in
     rw (p.1, p.2) (
       (λ i. record {
         number = c.args.self.now.number;
@@ -141,7 +141,7 @@ test_last-requires g c =
     c.args.self.now.taken.nodes.items) (length c.args.self.now.taken.links.items) c.args.step.now
     c.in_ok-made.made refl refl c.in_ok-made.ensures.0 in
     λ e. whole_added above spec fine one r.0 r.1 (kept_of c.args.self.now) r.2 c.args.step.now c.in_ok-made.made next
-    c.add_made.new.taken c.in_ok-add_made.ensures.nodes c.in_ok-add_made.ensures.links e
+    c.add.new.self c.in_ok-add.ensures.nodes c.in_ok-add.ensures.links e
 
 pub returns-in-Err : goal.returns-in-Err
 returns-in-Err g c = λ claims work o proved.
@@ -154,8 +154,8 @@ returns-in-Err g c = λ claims work o proved.
     let next = next_by above spec fine one claims work (kept_of old) o c.args.proved.now proved (clauses_of
     old.taken.nodes.items) (length old.taken.links.items) c.args.step.now c.in_ok-made.made refl refl
     c.in_ok-made.ensures.0 in
-    let nodes = c.in_ok-add_made.ensures.nodes in
-    let links = c.in_ok-add_made.ensures.links in
+    let nodes = c.in_ok-add.ensures.nodes in
+    let links = c.in_ok-add.ensures.links in
     let goals : c.as_slice.result.now ≡ c.args.admitted.now.spec.goals = rw (← c.admitted.view_is) c.as_slice.ensures
     in
     let lt : old.number < length c.args.admitted.now.spec.goals = slice_get_within c.args.admitted.now.spec.goals
@@ -171,20 +171,20 @@ returns-in-Err g c = λ claims work o proved.
     c.in_ok-total.total ≡ steps_length c.args.admitted.now.spec.sig (steps ++ c.args.step.now ∷ []) =
     rw (← c.admitted.view_is) c.in_ok-total.ensures in
     let total = by work.steps (c.as_slice-2.ensures.value ∙ o.keeps.lengths) in
-    let back = taken_back old.taken c.add_made.new.taken c.take_back.new.self c.in_ok-made.made nodes links
+    let back = taken_back old.taken c.add.new.self c.take_back.new.self c.in_ok-made.made nodes links
     c.take_back.ensures in (
       (λ i. record { number = old.number; nodes = back.1 i; links = back.0 i; lengths = old.lengths.items }),
       stopped_last above spec fine one claims work (kept_of old) o c.args.step.now c.in_ok-made.made next
-          c.add_made.new.taken nodes links c.in_ok-made.ensures.1 (get_or c.as_slice.result.now old.number
+          c.add.new.self nodes links c.in_ok-made.ensures.1 (get_or c.as_slice.result.now old.number
           c.index-as_slice-self.result).name named c.in_ok-total.total total c.in-Err.error c.in-Err.ensures,
     )
 
 pub returns-in-Err-push_length : goal.returns-in-Err-push_length
 returns-in-Err-push_length g c = λ claims work o proved.
     let old = c.args.self.now in
-    let nodes = c.in_ok-add_made.ensures.nodes in
-    let links = c.in_ok-add_made.ensures.links in
-    let back = taken_back old.taken c.add_made.new.taken c.take_back-in-Err-push_length.new.self c.in_ok-made.made
+    let nodes = c.in_ok-add.ensures.nodes in
+    let links = c.in_ok-add.ensures.links in
+    let back = taken_back old.taken c.add.new.self c.take_back-in-Err-push_length.new.self c.in_ok-made.made
     nodes links c.take_back-in-Err-push_length.ensures in
     let lengths = c.in-Err-push_length.ensures.same in
     ((λ i. record { number = old.number; nodes = back.1 i; links = back.0 i; lengths = lengths i }), tt)
@@ -200,8 +200,8 @@ returns g c = λ claims work o proved.
     let next = next_by above spec fine one claims work (kept_of old) o c.args.proved.now proved (clauses_of
     old.taken.nodes.items) (length old.taken.links.items) c.args.step.now c.in_ok-made.made refl refl
     c.in_ok-made.ensures.0 in
-    let nodes = c.in_ok-add_made.ensures.nodes in
-    let links = c.in_ok-add_made.ensures.links in
+    let nodes = c.in_ok-add.ensures.nodes in
+    let links = c.in_ok-add.ensures.links in
     let goals : c.as_slice.result.now ≡ c.args.admitted.now.spec.goals = rw (← c.admitted.view_is) c.as_slice.ensures
     in
     let lt : old.number < length c.args.admitted.now.spec.goals = slice_get_within c.args.admitted.now.spec.goals
@@ -219,7 +219,7 @@ returns g c = λ claims work o proved.
     let total = by work.steps (c.as_slice-2.ensures.value ∙ o.keeps.lengths) in
     let new : KeptGoal = record {
       number = old.number;
-      taken = c.add_made.new.taken;
+      taken = c.add.new.self;
       lengths =
           c.push_length.new.lengths;
     } in
@@ -227,5 +227,5 @@ returns g c = λ claims work o proved.
     let is : kept_of new ≡ with_made above spec work c.args.step.now c.in_ok-made.made (kept_of old) =
     (λ i. record { number = old.number; nodes = nodes i; links = links i; lengths = lengths i }) in
     taken_last above spec fine one claims work (kept_of old) o c.args.step.now c.in_ok-made.made next
-    c.add_made.new.taken nodes links c.in_ok-made.ensures.1 (get_or c.as_slice.result.now old.number
+    c.add.new.self nodes links c.in_ok-made.ensures.1 (get_or c.as_slice.result.now old.number
     c.index-as_slice-self.result).name named c.in_ok-total.total total c.in_default.ensures (kept_of new) is

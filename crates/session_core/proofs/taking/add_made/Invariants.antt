@@ -1,6 +1,0 @@
-use Rattle.std.proofs.Common.{◌≡◌}
-use Rattle.inference_rules.specs.Answers.{clauses_of}
-use Rattle.session_core.proofs.taking.add_made.Given as goal
-
-abbrev pub invariant-loop-clause : goal.invariant-loop-clause
-invariant-loop-clause l = clauses_of l.nodes.items ≡ l.yielded
