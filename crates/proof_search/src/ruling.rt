@@ -8,11 +8,12 @@ ghost use Rattle.proof_search.specs.Ruling.{ruling_step, rulings_by, rulings};
 
 use crate::at::{Asked, At, taken};
 use crate::setting::Setting;
+use block_steps::copy_place;
 use clause_core::{Place, Step};
 use clause_places::places_are_there;
 use routine_proof::Move;
 use std::alloc::Global;
-use term_core::{Node, OutOfMemory, Seq, Term};
+use term_core::{Node, OutOfMemory, Term};
 use term_order::TermOrder;
 
 /// The entries of the list that rewrite the term at a place by rules.
@@ -146,16 +147,4 @@ fn place_at(
         Some(place) => Ok(place),
         None => at.spots.place(alloc, index),
     }
-}
-
-/// A copy of the place.
-fn copy_place(alloc: Global, place: &Place) -> Result<Place, OutOfMemory>
-    ensures { IfOk result (λ made. made ≡ place.now) }
-{
-    Ok(Place {
-        conclusion: place.conclusion,
-        number: place.number,
-        left: place.left,
-        path: Seq::from_vec(place.path.as_slice().to_vec(alloc)?),
-    })
 }
