@@ -1,4 +1,4 @@
-"""What `examples/check` and `tests/check` have in common: runs of the program, beside what they have to write."""
+"""What the checks of `examples` and `tests` have in common: runs of the program, beside what they have to write."""
 import difflib
 import resource
 import subprocess
@@ -56,6 +56,11 @@ def check(usage, runs, missed):
         print(f"there is no program: {PROGRAM.relative_to(TOP)}")
         print(f"0 passed, {len(runs)} failed")
         return 1
+    return finished(runs, missed)
+
+
+def finished(runs, missed):
+    """Makes the runs, prints what failed, and gives the exit status."""
     passed = 0
     for call, run in runs:
         found = run()
