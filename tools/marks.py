@@ -1,6 +1,9 @@
 """How a place of a text is shown: the file, the line and the column, the line with a mark below the place, and the
 cure."""
 import unicodedata
+from collections import namedtuple
+
+Finding = namedtuple("Finding", "place cure", defaults=[None])  # a place of the text, and what to do there
 
 
 def seen(text):

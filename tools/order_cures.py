@@ -107,6 +107,8 @@ def path_cure(spec, order, rule, term):
     left = plain(rule.left, spec)
     call = blamed(order, left, term, spec)
     own, other = rule.left.name, call.name
+    if spec.is_variable(call):
+        return call.place, None  # the left side lacks it, so the line is about another text
     if order.levels[own] == order.levels[other]:
         return call.place, not_smaller(spec, order, left, call)
     if other in reached(calls(spec), own) and own in reached(calls(spec), other):

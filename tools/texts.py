@@ -4,10 +4,13 @@ terms.
 Nothing is checked here. The program says whether a text is accepted; these tools say where in the text something is,
 and what may be meant. So a declaration that can't be read is left out, and `Spec.whole` says that none was.
 """
+import re
 from collections import namedtuple
 
 KINDS = ("sort", "fun", "equal", "status", "order", "rule", "goal")
 RESERVED = {"spike", *KINDS, "if", "unless", "_"}
+
+ASCII_WORD = re.compile(r"#[^\n]*|[A-Za-z_][A-Za-z0-9_]*|[0-9]+|=>|[^ \t\r\n]")
 
 Word = namedtuple("Word", "text place")  # the place is the number of bytes before it
 Declaration = namedtuple("Declaration", "kind words")  # the first word is the reserved one
@@ -40,6 +43,9 @@ def word_end(text, begin):
 def words_and_comments(data):
     """Each comment, word and sign of a text, and the number of bytes before it."""
     text = data.decode("utf-8", "replace")
+    if text.isascii():
+        yield from (Word(found[0], found.start()) for found in ASCII_WORD.finditer(text))
+        return
     begin = place = 0
     while begin < len(text):
         end = word_end(text, begin)
