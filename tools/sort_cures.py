@@ -1,5 +1,6 @@
 """What to do about `refused sort`, for each kind of fault."""
 from lookalikes import nearest
+from syntax_cures import number_of
 from texts import shown, subterms
 
 BUILT_IN = ("and", "or", "not", "eq", "equal", "implies", "xor", "plus", "add", "le", "less")
@@ -83,8 +84,8 @@ def repeated_name(spec, place, word):
 def number_of_arguments(spec, place, word):
     found = spot(spec, place)
     if found and spec.symbol(word):
-        wanted = len(spec.symbol(word).args)
-        return f"`{signature(spec, word)}` has {wanted} argument{'s' * (wanted != 1)}, and here {len(found[0].args)}"
+        wanted = number_of(spec.symbol(word).args, "argument")
+        return f"`{signature(spec, word)}` has {wanted}, and here {len(found[0].args)}"
     return "functions of one `equal` line have the same number of arguments: give one more, or use `order kbo`"
 
 

@@ -19,6 +19,7 @@ SIGNS = (  # the beginning of what begins no word, and what to write
 )
 OPERATOR = ("there are no operators: declare a function and write it in front, as `plus(x, y)`, with `_` for `-` in a"
             " name")
+NOT_OPEN = "a comma is between arguments, and no parenthesis is open here: is one missing before it?"
 OTHER = "no name, number or sign begins so; a name begins with a letter or `_`"
 WORDS = {  # what other languages call a declaration
     "func": "fun", "function": "fun", "def": "fun", "define": "fun", "op": "fun", "data": "sort", "datatype": "sort",
@@ -95,6 +96,15 @@ class Fault:
         following = self.spec.words[self.at + 1].text if self.at + 1 < len(self.spec.words) else ""
         return self.ends and self.before not in KINDS and (not self.word or following.isidentifier())
 
+    def closes_later(self):
+        """Whether the rest of the declaration closes a parenthesis that it doesn't open."""
+        depth = 0
+        for word in self.spec.words[self.at:]:
+            depth += (word.text == "(") - (word.text == ")")
+            if depth < 0 or word.text in KINDS:
+                break
+        return depth < 0
+
     def seen(self, *texts):
         """Whether one of these is among the words of the declaration outside of parentheses."""
         depth = 0
@@ -110,6 +120,10 @@ def written(listed):
     return "".join(f"{word.text} " if word.text == "," else word.text for word in listed)
 
 
+def number_of(items, word):
+    return f"{len(items)} {word}{'s' * (len(items) != 1)}"
+
+
 def at_start(fault):
     """Faults of the first words."""
     if fault.at == 0:
@@ -123,6 +137,9 @@ def at_any_place(fault):
     """Faults that any declaration may have."""
     if fault.before == "(" and fault.word == ")":
         name = fault.spec.words[fault.at - 2]
+        symbol = fault.spec.symbol(name.text)
+        if symbol and symbol.args:
+            return name.place, f"`{name.text}` has {number_of(symbol.args, 'argument')}, which have to be written"
         return name.place, f"a constant has no parentheses: write `{name.text}`"
     if fault.before == "=" and fault.word == "=":
         return None, "one `=` stands for equality"
@@ -131,6 +148,14 @@ def at_any_place(fault):
     if fault.word in RESERVED - {"if", "unless"} and not fault.ends_declaration():
         return None, f"`{fault.word}` is a reserved word: take another name"
     return None
+
+
+def missing(fault):
+    """A sign where a term or a name has to be."""
+    awaits = fault.before in ("(", ",", "=", "|", ":", "=>", "if", "unless", *KINDS)
+    if not awaits or fault.ends or (fault.kind, fault.before, fault.word) == ("sort", "=", "|"):
+        return None
+    return None, f"a {'term' if fault.kind in ('rule', 'goal') else 'name'} is missing before `{fault.word}`"
 
 
 def parenthesis(fault):
@@ -144,6 +169,15 @@ def parenthesis(fault):
         return None, "an argument is its sort alone: leave the name and `:` out"
     if fault.word.isidentifier() and fault.before not in ("(", ","):
         return None, f"a comma is missing between `{fault.before}` and `{fault.word}`"
+    return None, f"in parentheses are arguments with commas between them, and no `{fault.word}`"
+
+
+def no_equals_sign(fault):
+    """Two terms without `=` between them, on one line: on the next line a declaration may have been meant."""
+    first = fault.words[0]
+    same = fault.spec.line(first.place) == fault.spec.line(fault.place)
+    if same and fault.word.isidentifier() and not fault.seen("="):
+        return None, f"`=` is missing before `{fault.word}`"
     return None
 
 
@@ -151,6 +185,8 @@ def in_goal(fault):
     if fault.text(1) and fault.word not in (":", "(") and len(fault.words) == 2:
         return None, "after the goal's name comes `:`"
     side = fault.side()
+    if fault.word == "," and fault.closes_later():
+        return None, NOT_OPEN
     if fault.word in ("if", "unless"):
         return None, "premises come first: `p = true => a = b`"
     if fault.ends and fault.seen(",") and not fault.seen("=>"):
@@ -162,7 +198,7 @@ def in_goal(fault):
         return None, "one of several conclusions is said by `|`; to say all of them write a goal for each"
     if side and fault.before not in ("=", ":", ",", "|", "=>") and (fault.ends or fault.word in (",", "|", "=>")):
         return side[0].place, f"this is no equation: write `{written(side)} = true`"
-    return None
+    return no_equals_sign(fault)
 
 
 def in_rule(fault):
@@ -176,9 +212,9 @@ def in_rule(fault):
         return None, "a rule is `left = right if test`, with `=` and the test at its end"
     if fault.word in ("then", "else", "when", "where"):
         return None, "a test comes after the right side: `rule f(x) = a if t`, and one more rule `unless t`"
-    if fault.before in ("if", "unless"):
-        return None, f"after `{fault.before}` comes a term of sort Bool"
-    return None
+    if fault.word == ",":
+        return None, NOT_OPEN
+    return no_equals_sign(fault)
 
 
 def in_sort(fault):
@@ -241,7 +277,8 @@ def syntax_cure(spec, place):
     """The place of what is to change, None where it is that of the refusal, and the cure; or None."""
     fault = Fault(spec, place)
     looks = {"goal": in_goal, "rule": in_rule, "sort": in_sort, "fun": in_fun}
-    tries = [at_start, at_any_place, order_of_kinds, parenthesis, looks.get(fault.kind, lambda _: None), unfinished]
+    look_at_kind = looks.get(fault.kind, lambda _: None)
+    tries = [at_start, at_any_place, order_of_kinds, missing, parenthesis, look_at_kind, unfinished]
     return next(filter(None, (look(fault) for look in tries)), None)
 
 
@@ -250,7 +287,7 @@ def term_cure(spec, place):
     fault = Fault(spec, place)
     if not fault.word and not fault.open_parenthesis():
         return None, "a term is missing"
-    tries = [at_any_place, parenthesis, lambda _: (None, "the term is over here")]
+    tries = [at_any_place, missing, parenthesis, lambda _: (None, "the term is over here")]
     return next(filter(None, (look(fault) for look in tries)), None)
 
 
