@@ -18,13 +18,9 @@ def word_at(spec, place):
 
 def placed_findings(spec, kind, place, rest):
     """What is found of a refusal that names a place."""
-    if kind == "text":
-        return [Finding(place, text_cure(spec.data, place))]
     if kind == "syntax":
         begin, cure = syntax_cure(spec, place) or (None, None)
         return [Finding(place if begin is None else begin, cure)]
-    if kind == "limit":
-        return [Finding(place, limit_cure(rest))]
     look = SORT_CURES.get(rest, lambda *_: None)
     return [Finding(place, look(spec, place, word_at(spec, place)))]
 
@@ -35,6 +31,8 @@ def findings(line, data):
     if not found:
         return []
     kind, place, rest = found.groups()
+    if kind in ("text", "limit"):
+        return [Finding(int(place), text_cure(data, int(place)) if kind == "text" else limit_cure(rest))] if place else []
     spec = Spec(data)
     if place is not None:
         return placed_findings(spec, kind, int(place), rest)

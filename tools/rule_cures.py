@@ -148,6 +148,8 @@ def is_about(spec, kind, parts):
 
 def rule_findings(spec, kind, rest):
     """What is found of a refusal that names rules or a function."""
+    if kind not in ADMISSION:
+        return []
     pattern_of_line, look = ADMISSION[kind]
     found = re.fullmatch(pattern_of_line, rest)
     return look(spec, *found.groups()) if found and is_about(spec, kind, found.groups()) else []

@@ -8,6 +8,7 @@ import re
 from collections import namedtuple
 
 KINDS = ("sort", "fun", "equal", "status", "order", "rule", "goal")
+MOST_DEPTH = 64  # of a term that is accepted
 RESERVED = {"spike", *KINDS, "if", "unless", "_"}
 
 ASCII_WORD = re.compile(r"#[^\n]*|[A-Za-z_][A-Za-z0-9_]*|[0-9]+|=>|[^ \t\r\n]")
@@ -124,9 +125,11 @@ class Reader:
         self.at += 1
         return int(text)
 
-    def term(self):
+    def term(self, depth=1):
         name = self.take()
-        return Term(name.text, self.in_parentheses(self.term), name.place)
+        if depth > MOST_DEPTH:
+            raise Unreadable
+        return Term(name.text, self.in_parentheses(lambda: self.term(depth + 1)), name.place)
 
     def equation(self):
         left = self.term()
