@@ -1,7 +1,7 @@
 """Names that look like others: which symbol a variable may be meant for."""
 from texts import subterms
 
-LEAST = 3  # characters of names that are compared: shorter ones are too often one edit apart by chance
+LEAST = 3  # characters of variables that are compared: shorter ones are too often one edit apart by chance
 
 
 def one_edit(a, b):
@@ -15,16 +15,16 @@ def one_edit(a, b):
     return len(a) + 1 == len(b) and a[at:] == b[at + 1:]
 
 
-def alike(a, b):
+def alike(a, b, least):
     """Whether one name may be a slip for the other: a capital in place of a small letter, or one edit."""
     if a == b:
         return False
-    return a.casefold() == b.casefold() or min(len(a), len(b)) >= LEAST and one_edit(a.casefold(), b.casefold())
+    return a.casefold() == b.casefold() or min(len(a), len(b)) >= least and one_edit(a.casefold(), b.casefold())
 
 
-def nearest(name, names):
+def nearest(name, names, least=2):
     """The first of the names that looks like this one, or None."""
-    return next((other for other in names if alike(name, other)), None)
+    return next((other for other in names if alike(name, other, least)), None)
 
 
 def suspects(spec, roots=None):
@@ -36,7 +36,7 @@ def suspects(spec, roots=None):
     for root in spec.terms() if roots is None else roots:
         for term in subterms(root):
             if spec.is_variable(term) and term.name not in bound and len(term.name) > 1:
-                symbol = nearest(term.name, symbols)
+                symbol = nearest(term.name, symbols, LEAST)
                 if symbol:
                     found.append((term, symbol))
     return found

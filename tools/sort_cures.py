@@ -1,5 +1,5 @@
 """What to do about `refused sort`, for each kind of fault."""
-from lookalikes import nearest
+from lookalikes import LEAST, nearest
 from syntax_cures import number_of
 from texts import shown, subterms
 
@@ -99,7 +99,11 @@ def wrong_sort(spec, place, word):
         wanted = spec.symbol(around.name).args[number - 1]
         here = f", and `{shown(term)}` a {own}" if own else ""
         return f"argument {number} of `{signature(spec, around.name)}` is a {wanted}{here}"
-    return "both sides of an equation have one sort" + (f", and this one is a {own}" if own else "")
+    sides = [(rule.left, rule.right) for rule in spec.rules]
+    sides += [equation for goal in spec.goals for equation in goal.premises + goal.conclusions]
+    other = next((sort_of(spec, left, left) for left, right in sides if right is root), None)
+    both = f": here a {other} and a {own}" if own and other else ""
+    return f"both sides of an equation have one sort{both}"
 
 
 def not_inferred(spec, place, word):
@@ -112,7 +116,7 @@ def not_on_the_left(spec, place, word):
     if left is None:
         return None
     own = [term.name for term in subterms(left) if not term.args]
-    similar = nearest(word, [*spec.constructors, *spec.functions, *own])
+    similar = nearest(word, [*spec.constructors, *spec.functions, *own], LEAST)
     if similar:
         return f"`{word}` is a variable, since nothing is declared so: write `{similar}`"
     return f"`{word}` is a variable that `{shown(left)}` doesn't have: use one of its variables, or declare `{word}`"
