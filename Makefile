@@ -7,7 +7,7 @@ TOP = $(DESTDIR)$(PREFIX)
 LIB = $(TOP)/lib/spike
 PROGRAM = crates/spike/out/spike
 TOOLS = where order expect
-MODULES = cures lookalikes marks order_cures orders rule_cures sort_cures syntax_cures texts
+MODULES = cures left_over lookalikes marks order_cures orders rule_cures sort_cures syntax_cures texts
 
 all: $(PROGRAM)
 

@@ -4,7 +4,8 @@ from collections import Counter
 from orders import (PathOrder, calls, changed, circles, order_of, parts, plain, refused, text, variables, with_status,
                     with_weights)
 
-NO_CURE = "change the rules: in each such call an argument has to become a part of what it is on the left side"
+NO_CURE = ("change the rules: in each such call an argument has to become a part of what it is on the left side, as"
+           " `x` is of `succ(x)`")
 
 
 def listed(names):

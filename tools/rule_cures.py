@@ -1,6 +1,7 @@
 """What to do about rules that aren't accepted: `refused linear`, `order`, `overlap`, `guards` and `coverage`."""
 import re
 
+from left_over import MOST_SHOWN, fresh, left_over
 from lookalikes import suspects
 from marks import Finding
 from order_cures import listed, order_cure
@@ -20,40 +21,35 @@ def order(spec, number, part):
     return [Finding(*order_cure(spec, int(number), int(part or 0)))]
 
 
-def narrowed(spec, wide, narrow):
-    """The left sides that the wider of two leaves beside the narrower one: a variable where the other has a constructor
-    is replaced by each other constructor. None where no variable is so."""
-    for number, (a, b) in enumerate(zip(wide.args, narrow.args)):
-        if spec.is_variable(a) and b.name in spec.constructors:
-            others = [con for con in spec.constructors.values() if con.name != b.name
-                      and con.result == spec.constructors[b.name].result]
-            fresh = [a._replace(name=con.name, args=[a._replace(name="_") for _ in con.args]) for con in others]
-            return [shown(wide._replace(args=[*wide.args[:number], new, *wide.args[number + 1:]])) for new in fresh]
-        inner = a.name == b.name and a.args and narrowed(spec, a, b)
-        if inner:
-            head, tail = wide.args[:number], wide.args[number + 1:]
-            return [shown(wide._replace(args=[*head, a._replace(name=new, args=[]), *tail])) for new in inner]
-    return None
+def rest_of(spec, rule):
+    """What a rule is left with beside those of its function with other left sides, in words; or None."""
+    own = pattern(spec, rule.left)
+    others = [other for other in spec.rules if other.left.name == rule.left.name and pattern(spec, other.left) != own]
+    rest = left_over(spec, others, rule.left)
+    if rest is None or len(rest) > MOST_SHOWN:
+        return "write this one for what the other rules leave"
+    return f"write this one for {listed(rest)}" if rest else "the other rules have all its values: leave this one out"
+
+
+def is_wider(spec, left, other):
+    """Whether some variable of a left side is where the other one has a constructor."""
+    pairs = list(zip(left.args, other.args))
+    return any(spec.is_variable(a) and not spec.is_variable(b) for a, b in pairs) or any(
+        is_wider(spec, a, b) for a, b in pairs)
 
 
 def overlap(spec, first, second):
-    first, second = int(first), int(second)
-    rules = [spec.rules[first - 1], spec.rules[second - 1]]
+    rules = [spec.rules[int(first) - 1], spec.rules[int(second) - 1]]
     found = [Finding(rule.place) for rule in rules]
     slips = suspects(spec, [rule.left for rule in rules])
     if slips:
         return found + [Finding(term.place, f"`{term.name}` is a variable, since nothing is declared so: write"
                                             f" `{symbol}`") for term, symbol in slips]
     # the later rule is mostly the one that was meant for the rest
-    for number, wide, narrow in ((second, rules[1].left, rules[0].left), (first, rules[0].left, rules[1].left)):
-        rest = narrowed(spec, wide, narrow)
-        if rest:
-            cure = ("rules aren't tried in order, so each needs a left side of its own: write this one for"
-                    f" {listed(rest)}")
-            found[number == second] = found[number == second]._replace(cure=cure)
-            return found
-    cure = "both rules match these values: leave one out, or make its left side smaller"
-    return [found[0], found[1]._replace(cure=cure)]
+    wide = 1 if is_wider(spec, rules[1].left, rules[0].left) else 0
+    cure = f"rules aren't tried in order, so each needs a left side of its own: {rest_of(spec, rules[wide])}"
+    found[wide] = found[wide]._replace(cure=cure)
+    return found
 
 
 def beside(spec, other, depth):
@@ -114,8 +110,12 @@ def guards(spec, number):
 
 def coverage(spec, name, values):
     left = f"{name}({values})" if values else name
-    if any(rule.left.name == name for rule in spec.rules):
-        cure = f"no rule matches `{left}`: add one, as `rule {left} = ..`, with variables where the value may be any"
+    own = [rule for rule in spec.rules if rule.left.name == name]
+    if own:
+        any_value = own[0].left._replace(args=[own[0].left._replace(name=x, args=[]) for x in fresh(spec, own[0].left)])
+        rest = left_over(spec, own, any_value)
+        shown_rest = rest if rest and len(rest) <= MOST_SHOWN else [left]
+        cure = f"no rule matches `{left}`: add {'rules' if len(shown_rest) > 1 else 'a rule'} for {listed(shown_rest)}"
     else:
         cure = f"`{name}` has no rule: add rules for all values of its arguments"
     return [Finding(spec.functions[name].place, cure)]
@@ -141,7 +141,8 @@ def is_about(spec, kind, parts):
     if kind == "linear":
         return [term.name for term in subterms(rule.left)].count(parts[1]) > 1
     if kind == "order":
-        known = all(spec.symbol(term.name) or spec.is_variable(term) for root in spec.terms() for term in subterms(root))
+        terms = [term for root in spec.terms() for term in subterms(root)]
+        known = all(spec.symbol(term.name) or spec.is_variable(term) for term in terms)
         return known and bool({(numbers[0], int(parts[1] or 0)), (numbers[0], -1)} & refused(spec, numbers))
     return True
 

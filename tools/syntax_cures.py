@@ -1,4 +1,6 @@
 """What to do about `refused text`, `refused syntax` and `refused limit`: what was meant, and where it begins."""
+import re
+
 from texts import KINDS, RESERVED, declarations
 
 SIGNS = (  # the beginning of what begins no word, and what to write
@@ -19,6 +21,16 @@ SIGNS = (  # the beginning of what begins no word, and what to write
 )
 OPERATOR = ("there are no operators: declare a function and write it in front, as `plus(x, y)`, with `_` for `-` in a"
             " name")
+FOR_ALL = "a goal holds for all values of its variables: leave the quantifier out, or write `goal g(x : Nat) : ..`"
+BEFORE = (  # what is on the line up to the character, and what to write
+    (r"\b(?:forall|all|exists)\b|[\u2200\u2203]$", FOR_ALL),
+    (r"\(\*$", "a comment begins with `#` and ends with the line"),
+    (r"^\s*fun\b.*-$", "write `fun plus(Nat, Nat) : Nat`: the sorts of the arguments, and that of the result"),
+)
+TEST_LAST = "a test comes after the right side: `rule f(x) = a if t`, and one more rule `unless t`"
+JOINED = {"and": "premises have a comma between them, and a goal has one conclusion or several with `|`",
+          "or": "conclusions have `|` between them", "implies": "premises come before `=>`",
+          "where": "premises come first: `p = true => a = b`", "when": "premises come first: `p = true => a = b`"}
 NOT_OPEN = "a comma is between arguments, and no parenthesis is open here: is one missing before it?"
 OTHER = "no name, number or sign begins so; a name begins with a letter or `_`"
 WORDS = {  # what other languages call a declaration
@@ -49,6 +61,10 @@ def text_cure(data, place):
         return "the bytes here aren't UTF-8: save the file as UTF-8"
     if text[0].isdecimal():
         return "a number has at most six digits"
+    before = data[data.rfind(b"\n", 0, place) + 1:place].decode("utf-8", "replace")
+    for words, cure in BEFORE:
+        if re.search(words, before + text[0]):
+            return cure
     for sign, cure in SIGNS:
         if text.startswith(sign):
             return cure
@@ -155,7 +171,10 @@ def missing(fault):
     awaits = fault.before in ("(", ",", "=", "|", ":", "=>", "if", "unless", *KINDS)
     if not awaits or fault.ends or (fault.kind, fault.before, fault.word) == ("sort", "=", "|"):
         return None
-    return None, f"a {'term' if fault.kind in ('rule', 'goal') else 'name'} is missing before `{fault.word}`"
+    if fault.kind == "rule" and fault.before == "=" and fault.word in ("if", "unless"):
+        return None, TEST_LAST
+    term = fault.kind == "rule" or fault.kind == "goal" and len(fault.words) > 1
+    return None, f"a {'term' if term else 'name'} is missing before `{fault.word}`"
 
 
 def parenthesis(fault):
@@ -165,6 +184,8 @@ def parenthesis(fault):
         return (None, "this parenthesis closes nothing: leave it out") if fault.word == ")" else None
     if fault.word in ("=", "=>", "|", "if", "unless") or fault.ends:
         return opened.place, f"the parenthesis after `{opened.text}` isn't closed"
+    if fault.kind == "goal" and opened is fault.words[1] and fault.word in (")", ","):
+        return None, f"a variable that the goal binds has its sort: `goal {opened.text}({fault.before} : Nat) : ..`"
     if fault.word == ":" and fault.kind in ("fun", "sort"):
         return None, "an argument is its sort alone: leave the name and `:` out"
     if fault.word.isidentifier() and fault.before not in ("(", ","):
@@ -185,6 +206,10 @@ def in_goal(fault):
     if fault.text(1) and fault.word not in (":", "(") and len(fault.words) == 2:
         return None, "after the goal's name comes `:`"
     side = fault.side()
+    if any(word.text in ("forall", "all", "exists") for word in fault.words[2:4]):
+        return None, FOR_ALL
+    if fault.word in JOINED:
+        return None, JOINED[fault.word]
     if fault.word == "," and fault.closes_later():
         return None, NOT_OPEN
     if fault.word in ("if", "unless"):
@@ -211,7 +236,7 @@ def in_rule(fault):
     if fault.word == "=>":
         return None, "a rule is `left = right if test`, with `=` and the test at its end"
     if fault.word in ("then", "else", "when", "where"):
-        return None, "a test comes after the right side: `rule f(x) = a if t`, and one more rule `unless t`"
+        return None, TEST_LAST
     if fault.word == ",":
         return None, NOT_OPEN
     return no_equals_sign(fault)
