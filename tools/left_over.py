@@ -72,6 +72,6 @@ def left_over(spec, rules, left):
                 found.append(left.name + (f"({', '.join(args)})" if args else ""))
             if len(found) > MOST_SHOWN:
                 break
-    except (TooFar, StopIteration, IndexError):
-        return None  # too many steps or variables, or a term with another number of arguments
+    except (TooFar, StopIteration, IndexError, KeyError):
+        return None  # too many steps or variables, or a term that isn't as it is declared
     return found
