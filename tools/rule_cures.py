@@ -22,7 +22,7 @@ def order(spec, number, part):
 
 
 def rest_of(spec, rule):
-    """What a rule is left with beside those of its function with other left sides, in words; or None."""
+    """What a rule is left with beside those of its function with other left sides, in words."""
     own = pattern(spec, rule.left)
     others = [other for other in spec.rules if other.left.name == rule.left.name and pattern(spec, other.left) != own]
     rest = left_over(spec, others, rule.left)

@@ -1,7 +1,6 @@
 """What to do about `refused sort`, for each kind of fault."""
 from lookalikes import LEAST, nearest
-from syntax_cures import number_of
-from texts import shown, subterms
+from texts import number_of, shown, subterms
 
 BUILT_IN = ("and", "or", "not", "eq", "equal", "implies", "xor", "plus", "add", "le", "less")
 

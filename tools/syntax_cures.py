@@ -1,7 +1,7 @@
 """What to do about `refused text`, `refused syntax` and `refused limit`: what was meant, and where it begins."""
 import re
 
-from texts import KINDS, RESERVED, declarations
+from texts import KINDS, RESERVED, declarations, number_of
 
 SIGNS = (  # the beginning of what begins no word, and what to write
     ("->", "a rule is `left = right`, and premises come before `=>`"),
@@ -134,10 +134,6 @@ class Fault:
 def written(listed):
     """Words of a term as they are written."""
     return "".join(f"{word.text} " if word.text == "," else word.text for word in listed)
-
-
-def number_of(items, word):
-    return f"{len(items)} {word}{'s' * (len(items) != 1)}"
 
 
 def at_start(fault):

@@ -231,3 +231,8 @@ def subterms(term):
 def shown(term):
     """The term as it is written."""
     return term.name + (f"({', '.join(map(shown, term.args))})" if term.args else "")
+
+
+def number_of(items, word):
+    """How many items there are, with their word."""
+    return f"{len(items)} {word}{'s' * (len(items) != 1)}"
