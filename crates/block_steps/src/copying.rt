@@ -39,8 +39,7 @@ pub fn copy_step(alloc: Global, step: &Step) -> Result<Step, OutOfMemory>
 fn copy_terms(alloc: Global, terms: &Seq<Term>) -> Result<Seq<Term>, OutOfMemory>
     ensures { IfOk result (λ made. made ≡ terms.now) }
 {
-    let made = copy_all(alloc, terms.as_slice())?;
-    Ok(Seq::from_vec(made.into_vec()))
+    Ok(Seq::from_vec(copy_all(alloc, terms.as_slice())?))
 }
 
 /// A copy of the place.

@@ -9,6 +9,7 @@ use Rattle.std.proofs.Math.Seq.{drop-cons}
 use Rattle.term_core.specs.Tree.{Tree, Trees, var, app, none, some, trees_of}
 use Rattle.term_core.specs.Variables.{occurrences, occurrences_all}
 use Rattle.term_core.specs.Gathered.{met, gathered}
+use Rattle.term_core.specs.Measures.{tree_bound, bounds}
 use Rattle.term_core.proofs.Items.{taken_next}
 use Rattle.term_core.proofs.Trees.{trees_of-inj}
 use Rattle.clause_core.specs.Tidied.{place_of, renumbered, renumbered_all}
@@ -185,3 +186,16 @@ others_left now before i d l m e =
     let r : drop (suc i) now ≡ drop (suc i) before = cc in
     let n : i + 1 ≡ suc i = omega arith in
     ap (λ k. drop k now) n ∙ r ∙ ap (λ k. drop k before) (sym n)
+
+mutual
+  -- a term without variables stays as it is
+  pub closed_kept : (olds : List ℕ) (t : Tree) → tree_bound t ≡ 0 → renumbered olds t ≡ t
+  closed_kept olds (var n) e = absurd (omega (arith, e))
+  closed_kept olds (app f ts) e = ap (λ us. app f us) (all_closed_kept olds ts e)
+
+  all_closed_kept : (olds : List ℕ) (ts : Trees) → bounds ts ≡ 0 → renumbered_all olds ts ≡ ts
+  all_closed_kept olds none e = refl
+  all_closed_kept olds (some t ts) e =
+      let p = closed_kept olds t (omega (arith, e)) in
+      let q = all_closed_kept olds ts (omega (arith, e)) in
+      cc

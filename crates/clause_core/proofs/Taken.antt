@@ -28,7 +28,7 @@ in_turn : (k m n : ℕ) → taken_with (Some k) n ≡ Some m → Numbered k (var
 in_turn k m n h = grind (arith, nat_tests, h)
 
 mutual
-  tree_taken : (t : Tree) (k m : ℕ) → Numbered k t m → taken_after (Some k) (occurrences t) ≡ Some m
+  pub tree_taken : (t : Tree) (k m : ℕ) → Numbered k t m → taken_after (Some k) (occurrences t) ≡ Some m
   tree_taken (var n) k m h = turn_taken k m n h
   tree_taken (app f ts) k m h = trees_taken ts k m h
 
@@ -40,7 +40,7 @@ mutual
       ∙ trees_taken ts h.0 m h.2
 
 mutual
-  tree_in_turn : (t : Tree) (k m : ℕ) → taken_after (Some k) (occurrences t) ≡ Some m → Numbered k t m
+  pub tree_in_turn : (t : Tree) (k m : ℕ) → taken_after (Some k) (occurrences t) ≡ Some m → Numbered k t m
   tree_in_turn (var n) k m h = in_turn k m n h
   tree_in_turn (app f ts) k m h = trees_in_turn ts k m h
 
@@ -58,3 +58,19 @@ taken_tidied c = (λ h. trees_in_turn (trees_of (sides c)) 0 (length c.ctx) h, �
 pub same_taken : (taken : Option ℕ) (n : ℕ) → IsTrue (option_eq eqb taken (Some n)) ↔ (taken ≡ Some n)
 same_taken None n = (λ h. cc, λ e. cc)
 same_taken (Some m) n = (λ h. elim (eqb_tells m n) [ inl e ↦ ap (λ k. Some k) e.1 | inr e ↦ absurd (let q : false ≡ true = sym e.0 ∙ h in cc) ], λ e. eq-eqb m n (let q : Some m ≡ Some n = e in cc))
+
+-- nothing is taken where a variable of the term isn't met in its turn
+pub none_taken :
+    (t : Tree) (k : ℕ) → ((m : ℕ) → Numbered k t m → ⊥) →
+    taken_after (Some k) (occurrences t) ≡ None
+none_taken t k h = by (taken_after (Some k) (occurrences t)) refl
+  where
+    by :
+        (taken : Option ℕ) → taken_after (Some k) (occurrences t) ≡ taken →
+        taken_after (Some k) (occurrences t) ≡ None
+    by None e = e
+    by (Some m) e = absurd (h m (tree_in_turn t k m e))
+
+pub none_stays : (ns : List ℕ) → taken_after None ns ≡ None
+none_stays [] = refl
+none_stays (n ∷ ns) = none_stays ns

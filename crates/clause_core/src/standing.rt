@@ -9,14 +9,14 @@ ghost use Rattle.clause_core.specs.Taken.{taken_with, taken_after};
 use crate::clauses::Clause;
 use crate::limits::{MOST_EQUATIONS, MOST_LEVELS, MOST_SYMBOLS};
 use spec_core::Equation;
-use term_core::{Node, Term, VarId};
+use term_core::Term;
 
 /// What a walk over the terms of a clause keeps: the number of symbols that it may still meet, and
 /// how many numbers the variables take, where each was met in its turn.
 #[derive(Drop)]
 struct Walk {
     room: u32,
-    taken: Option<usize>,
+    taken: Option<u64>,
 }
 
 /// Whether the clause is tidied, or None where it passes the limits of a clause in a proof. Each
@@ -37,11 +37,12 @@ pub(crate) fn is_tidied_within(clause: &Clause) -> Option<bool>
     if !walk_sides(premises, &mut walk) || !walk_sides(conclusions, &mut walk) {
         return None;
     }
-    Some(walk.taken == Some(clause.ctx.len()))
+    Some(walk.taken == Some(clause.ctx.len() as u64))
 }
 
 /// Whether the sides are within the limits. Where they are, they have been walked.
 fn walk_sides(equations: &[Equation], walk: &mut Walk) -> bool
+    requires { walk.old.room ≤ 4000 }
     ensures fits { IsTrue result ↔ ((sizes (trees_of (sides_of equations.now)) ≤ walk.old.room)
         × (depths (trees_of (sides_of equations.now)) ≤ 100)) }
     ensures room { IsTrue result →
@@ -52,64 +53,35 @@ fn walk_sides(equations: &[Equation], walk: &mut Walk) -> bool
     match equations {
         [] => true,
         [first, others @ ..] => {
-            walk_term(&first.left, MOST_LEVELS, walk)
-                && walk_term(&first.right, MOST_LEVELS, walk)
+            walk_term(&first.left, walk)
+                && walk_term(&first.right, walk)
                 && walk_sides(others, walk)
         }
     }
 }
 
-/// Whether the term has no more symbols than may still be met, and no more than so many levels.
-/// Where that is so, it has been walked.
-#[cycle(walk_term)]
-fn walk_term(term: &Term, levels: u32, walk: &mut Walk) -> bool
+/// Whether the term has no more symbols than may still be met, and is within the limit of depth.
+/// Where that is so, it is counted.
+fn walk_term(term: &Term, walk: &mut Walk) -> bool
+    requires { walk.old.room ≤ 4000 }
     ensures fits { IsTrue result ↔
-        ((tree_size term.now ≤ walk.old.room) × (tree_depth term.now ≤ levels)) }
+        ((tree_size term.now ≤ walk.old.room) × (tree_depth term.now ≤ 100)) }
     ensures room { IsTrue result → walk.new.room + tree_size term.now ≡ walk.old.room }
     ensures taken { IsTrue result →
         walk.new.taken ≡ taken_after walk.old.taken (occurrences term.now) }
 {
-    if levels == 0 || walk.room == 0 {
+    let size = term.size(MOST_SYMBOLS + 1);
+    if size > walk.room || term.depth(MOST_LEVELS + 1) > MOST_LEVELS {
         return false;
     }
-    walk.room -= 1;
-    match &term.node {
-        Node::Var(var) => {
-            walk.taken = with_variable(walk.taken, *var);
-            true
-        }
-        Node::App(_, terms) => walk_terms(terms.as_slice(), levels - 1, walk),
-    }
+    walk.room -= size;
+    walk.taken = taken_with_term(walk.taken, term);
+    true
 }
 
-/// The same of terms in their order.
-#[cycle(walk_term)]
-fn walk_terms(terms: &[Term], levels: u32, walk: &mut Walk) -> bool
-    ensures fits { IsTrue result ↔
-        ((sizes (trees_of terms.now) ≤ walk.old.room) × (depths (trees_of terms.now) ≤ levels)) }
-    ensures room { IsTrue result → walk.new.room + sizes (trees_of terms.now) ≡ walk.old.room }
-    ensures taken { IsTrue result →
-        walk.new.taken ≡ taken_after walk.old.taken (occurrences_all (trees_of terms.now)) }
+/// How many numbers are taken with the variables of this term and those taken before it.
+fn taken_with_term(taken: Option<u64>, term: &Term) -> Option<u64>
+    ensures { result ≡ taken_after taken (occurrences term.now) }
 {
-    match terms {
-        [] => true,
-        [first, others @ ..] => {
-            walk_term(first, levels, walk) && walk_terms(others, levels, walk)
-        }
-    }
-}
-
-/// How many numbers are taken with this variable, where so many were taken before it.
-fn with_variable(taken: Option<usize>, var: VarId) -> Option<usize>
-    ensures { result ≡ taken_with taken var.0 }
-{
-    let count = taken?;
-    let number = var.0 as usize;
-    if number < count {
-        return Some(count);
-    }
-    if number == count {
-        return Some(number + 1);
-    }
-    None
+    term.numbered_after(taken?)
 }

@@ -14,8 +14,8 @@ use std::mem;
 use term_core::{Node, OutOfMemory, Seq, SortId, Term, Terms, VarId};
 
 /// The clause with its variables numbered by first occurrence, premises before conclusions and
-/// left sides before right ones. Variables that don't occur are left out. No term is copied. The
-/// time is that of the occurrences times that of the variables.
+/// left sides before right ones. Variables that don't occur are left out. Terms
+/// without variables are kept. The time is that of the occurrences times that of the variables.
 pub fn tidy(alloc: Global, clause: Clause) -> Result<Clause, OutOfMemory>
     ensures { IfOk result (λ made. made ≡ tidied clause) }
 {
@@ -87,8 +87,8 @@ fn renumber_equations(
     let items = equations.into_vec();
     let mut made = Vec::with_capacity(alloc, items.len())?;
     for equation in items {
-        let left = renumber(equation.left, olds)?;
-        let right = renumber(equation.right, olds)?;
+        let left = renumber(alloc, equation.left, olds)?;
+        let right = renumber(alloc, equation.right, olds)?;
         made.push(Equation { left, right })?;
     }
     Ok(Seq::from_vec(made))
@@ -96,10 +96,13 @@ fn renumber_equations(
 
 /// The term, renumbered.
 #[cycle(renumber)]
-fn renumber(term: Term, olds: &mut Vec<u32>) -> Result<Term, OutOfMemory>
+fn renumber(alloc: Global, term: Term, olds: &mut Vec<u32>) -> Result<Term, OutOfMemory>
     ensures olds { OnOk result (olds.new.items ≡ gathered olds.old.items (occurrences term)) }
     ensures made { IfOk result (λ made. made ≡ renumbered olds.new.items term) }
 {
+    if term.bound() == 0 {
+        return Ok(term);
+    }
     let sym = match &term.node {
         Node::Var(var) => return Ok(Term::var(new_number(*var, olds)?)),
         Node::App(sym, _) => *sym,
@@ -107,15 +110,19 @@ fn renumber(term: Term, olds: &mut Vec<u32>) -> Result<Term, OutOfMemory>
     match term.node {
         Node::Var(_) => unreachable!(),
         Node::App(_, args) => {
-            let made = renumber_all(args.into_vec(), olds)?;
-            Ok(Term::app(sym, Terms::from_vec(made)))
+            let made = renumber_all(alloc, args.into_vec()?, olds)?;
+            Ok(Term::app(sym, Terms::from_vec(alloc, made)?))
         }
     }
 }
 
 /// The terms in their order, renumbered.
 #[cycle(renumber)]
-fn renumber_all(terms: Vec<Term>, olds: &mut Vec<u32>) -> Result<Vec<Term>, OutOfMemory>
+fn renumber_all(
+    alloc: Global,
+    terms: Vec<Term>,
+    olds: &mut Vec<u32>,
+) -> Result<Vec<Term>, OutOfMemory>
     ensures olds { OnOk result
         (olds.new.items ≡ gathered olds.old.items (occurrences_all (trees_of terms.items))) }
     ensures made { IfOk result (λ made.
@@ -124,7 +131,7 @@ fn renumber_all(terms: Vec<Term>, olds: &mut Vec<u32>) -> Result<Vec<Term>, OutO
     let mut terms = terms;
     for index in 0..terms.len() {
         let term = mem::replace(&mut terms[index], Term::var(VarId(0)));
-        terms[index] = renumber(term, olds)?;
+        terms[index] = renumber(alloc, term, olds)?;
     }
     Ok(terms)
 }

@@ -9,3 +9,4 @@ mod WalkedPlaces
 mod LookedAt
 mod PatternReferences
 mod AskedAmong
+mod PathCounts

@@ -1,4 +1,4 @@
-ghost use Rattle.std.specs.Prelude.{◌≡◌, ◌+◌, ◌≤◌, ◌++◌, IfOk, true, false, length, map};
+ghost use Rattle.std.specs.Prelude.{◌≡◌, ◌+◌, ◌≤◌, ◌++◌, IfOk, IfSome, true, false, length, map};
 ghost use Rattle.std.specs.List.{AllByRecursion};
 ghost use Rattle.term_core.specs.Tree.{trees_of};
 ghost use Rattle.clause_core.specs.Clauses.{sides_of};
@@ -149,12 +149,28 @@ fn pass_arguments(
 {
     match terms {
         [] => Ok(Some(index)),
-        [first, others @ ..] => match pass_term(first, index, path)? {
-            None => {
-                path.push(number)?;
-                Ok(None)
+        [first, others @ ..] => {
+            if let Some(left) = left_behind(first, index) {
+                return pass_arguments(number + 1, others, left, path);
             }
-            Some(left) => pass_arguments(number + 1, others, left, path),
-        },
+            match pass_term(first, index, path)? {
+                None => {
+                    path.push(number)?;
+                    Ok(None)
+                }
+                Some(left) => pass_arguments(number + 1, others, left, path),
+            }
+        }
     }
+}
+
+/// How far the index is past the paths of the term, where its size shows that it is.
+fn left_behind(term: &Term, index: usize) -> Option<usize>
+    ensures { IfSome result (λ left. index ≡ length (paths term.now) + left) }
+{
+    let size = term.size(u32::MAX);
+    if size == u32::MAX {
+        return None;
+    }
+    index.checked_sub(size as usize)
 }

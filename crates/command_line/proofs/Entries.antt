@@ -1,5 +1,5 @@
 -- The table of commands: each entry is its command, and no two have one name.
-use Rattle.std.proofs.Common.{◌≡◌, ◌≢◌, ◌∙◌, ◌<◌, ◌+◌, ◌⊎◌, inl, inr, ℕ, not, true, false, true≢false, List}
+use Rattle.std.proofs.Common.{◌≡◌, ◌≢◌, ◌∙◌, ◌<◌, ◌+◌, ◌⊎◌, inl, inr, ℕ, zero, suc, not, true, false, true≢false, Bool, ◌&&◌, List}
 use Rattle.std.proofs.Common.{[], ◌∷◌, ◌++◌, sym, subst, refl, ap, map, take, get_or, length, add-one}
 use Rattle.std.proofs.Math.Seq.{take-suc}
 use Rattle.std.proofs.lemmas.List.{map-append}
@@ -119,178 +119,50 @@ IsAloneAmong is_app apps =
     AllByRecursion
     (λ (app : App). (app ≡ is_app) ⊎ (not (bytes_eq is_app.top.name app.top.name) ≡ true)) apps
 
+abbrev is_other : App → App → Bool
+is_other is_app app = not (bytes_eq is_app.top.name app.top.name)
+
+abbrev are_others : App → List App → Bool
+are_others is_app [] = true
+are_others is_app (app ∷ apps) = is_other is_app app && are_others is_app apps
+
+-- all have other names but the one of this index, from 0
+abbrev is_alone_at : App → ℕ → List App → Bool
+is_alone_at is_app k [] = true
+is_alone_at is_app zero (app ∷ apps) = are_others is_app apps
+is_alone_at is_app (suc k) (app ∷ apps) = is_other is_app app && is_alone_at is_app k apps
+
+both_true : (a b : Bool) → (a && b) ≡ true → (a ≡ true) × (b ≡ true)
+both_true true true e = (refl, refl)
+both_true true false e = absurd (true≢false (sym e))
+both_true false b e = absurd (true≢false (sym e))
+
+others_by :
+    (is_app : App) (apps : List App) → are_others is_app apps ≡ true → IsAloneAmong is_app apps
+others_by is_app [] e = tt
+others_by is_app (app ∷ apps) e =
+    let both = both_true (is_other is_app app) (are_others is_app apps) e in
+    (inr both.0, others_by is_app apps both.1)
+
+alone_by :
+    (is_app : App) (k : ℕ) (apps : List App) → get_or apps k is_app ≡ is_app →
+    is_alone_at is_app k apps ≡ true → IsAloneAmong is_app apps
+alone_by is_app k [] at e = tt
+alone_by is_app zero (app ∷ apps) at e = (inl at, others_by is_app apps e)
+alone_by is_app (suc k) (app ∷ apps) at e =
+    let both = both_true (is_other is_app app) (is_alone_at is_app k apps) e in
+    (inr both.0, alone_by is_app k apps at both.1)
+
 alone : (word : CommandWord) → IsAloneAmong (app_of_word word) commands
-alone Check = (
-  inl refl,
-  (
-    inr refl,
-    (
-      inr refl,
-      (
-        inr refl,
-        (
-          inr refl,
-          (
-            inr refl,
-            (inr refl, (inr refl, (inr refl, tt))),
-          ),
-        ),
-      ),
-    ),
-  ),
-)
-alone Eval = (
-  inr refl,
-  (
-    inl refl,
-    (
-      inr refl,
-      (
-        inr refl,
-        (
-          inr refl,
-          (
-            inr refl,
-            (inr refl, (inr refl, (inr refl, tt))),
-          ),
-        ),
-      ),
-    ),
-  ),
-)
-alone Prove = (
-  inr refl,
-  (
-    inr refl,
-    (
-      inl refl,
-      (
-        inr refl,
-        (
-          inr refl,
-          (
-            inr refl,
-            (inr refl, (inr refl, (inr refl, tt))),
-          ),
-        ),
-      ),
-    ),
-  ),
-)
-alone Refute = (
-  inr refl,
-  (
-    inr refl,
-    (
-      inr refl,
-      (
-        inl refl,
-        (
-          inr refl,
-          (
-            inr refl,
-            (inr refl, (inr refl, (inr refl, tt))),
-          ),
-        ),
-      ),
-    ),
-  ),
-)
-alone Replay = (
-  inr refl,
-  (
-    inr refl,
-    (
-      inr refl,
-      (
-        inr refl,
-        (
-          inl refl,
-          (
-            inr refl,
-            (inr refl, (inr refl, (inr refl, tt))),
-          ),
-        ),
-      ),
-    ),
-  ),
-)
-alone Load = (
-  inr refl,
-  (
-    inr refl,
-    (
-      inr refl,
-      (
-        inr refl,
-        (
-          inr refl,
-          (
-            inl refl,
-            (inr refl, (inr refl, (inr refl, tt))),
-          ),
-        ),
-      ),
-    ),
-  ),
-)
-alone Upgrade = (
-  inr refl,
-  (
-    inr refl,
-    (
-      inr refl,
-      (
-        inr refl,
-        (
-          inr refl,
-          (
-            inr refl,
-            (inl refl, (inr refl, (inr refl, tt))),
-          ),
-        ),
-      ),
-    ),
-  ),
-)
-alone Trim = (
-  inr refl,
-  (
-    inr refl,
-    (
-      inr refl,
-      (
-        inr refl,
-        (
-          inr refl,
-          (
-            inr refl,
-            (inr refl, (inl refl, (inr refl, tt))),
-          ),
-        ),
-      ),
-    ),
-  ),
-)
-alone Session = (
-  inr refl,
-  (
-    inr refl,
-    (
-      inr refl,
-      (
-        inr refl,
-        (
-          inr refl,
-          (
-            inr refl,
-            (inr refl, (inr refl, (inl refl, tt))),
-          ),
-        ),
-      ),
-    ),
-  ),
-)
+alone Check = alone_by (app_of_word Check) 0 commands refl refl
+alone Eval = alone_by (app_of_word Eval) 1 commands refl refl
+alone Prove = alone_by (app_of_word Prove) 2 commands refl refl
+alone Refute = alone_by (app_of_word Refute) 3 commands refl refl
+alone Replay = alone_by (app_of_word Replay) 4 commands refl refl
+alone Load = alone_by (app_of_word Load) 5 commands refl refl
+alone Upgrade = alone_by (app_of_word Upgrade) 6 commands refl refl
+alone Trim = alone_by (app_of_word Trim) 7 commands refl refl
+alone Session = alone_by (app_of_word Session) 8 commands refl refl
 
 refused_among :
     (is_app : App) (words : List Text) → IsNamed is_app.top.name words →

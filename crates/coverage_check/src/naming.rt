@@ -90,9 +90,9 @@ fn smalls(alloc: Global, sig: &Signature, sorts: &[SortId]) -> Result<Terms, Out
 fn before(alloc: Global, first: Term, others: Terms) -> Result<Terms, OutOfMemory>
     ensures { IfOk result (λ made. made ≡ first ∷ others) }
 {
-    let mut items = others.into_vec();
+    let mut items = others.into_vec()?;
     items.insert(0, first)?;
-    Ok(Terms::from_vec(items))
+    Terms::from_vec(alloc, items)
 }
 
 /// The symbol applied to the first `count` of the terms, before the rest.
@@ -101,11 +101,8 @@ fn closed(alloc: Global, sym: SymId, count: usize, terms: Terms) -> Result<Terms
     ensures { IfOk result (λ made.
         made ≡ application sym.0 (trees_of (take count terms)) ∷ drop count terms) }
 {
-    let mut items = terms.into_vec();
+    let mut items = terms.into_vec()?;
     let rest = items.split_off(count)?;
-    before(
-        alloc,
-        Term::app(sym, Terms::from_vec(items)),
-        Terms::from_vec(rest),
-    )
+    let first = Term::app(sym, Terms::from_vec(alloc, items)?);
+    before(alloc, first, Terms::from_vec(alloc, rest)?)
 }

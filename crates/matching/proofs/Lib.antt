@@ -2,4 +2,5 @@
 pub mod Extending
 pub mod BoundEntries
 -- What only this crate's own proofs use.
+mod Larger
 mod SampleMatches

@@ -1,5 +1,6 @@
-ghost use Rattle.std.specs.Prelude.{IfOk};
-ghost use Rattle.term_core.specs.Tree.{var as variable};
+ghost use Rattle.std.specs.Prelude.{◌≡◌, IfOk, IsTrue, List, Option};
+ghost use Rattle.term_core.specs.Tree.{Tree, trees_of, var as variable};
+ghost use Rattle.substitutions.specs.Substitution.{apply, apply_all};
 ghost use Rattle.matching.specs.Extending.{Binds, BindsAll};
 
 use crate::bindings::Bindings;
@@ -19,6 +20,9 @@ pub fn bind<'a>(
         Node::Var(var) => bind_variable(*var, term, bindings),
         Node::App(sym, patterns) => match &term.node {
             Node::App(other, terms) if sym == other => {
+                if some_is_larger(patterns.as_slice(), terms.as_slice()) {
+                    return Ok(false);
+                }
                 bind_all(patterns.as_slice(), terms.as_slice(), bindings)
             }
             _ => Ok(false),
@@ -47,6 +51,34 @@ fn bind_all<'a>(
         }
         _ => Ok(false),
     }
+}
+
+/// Whether one of the patterns is larger than the term in its place. Then no substitution makes the
+/// patterns the terms, which is known before any of them is walked.
+fn some_is_larger(patterns: &[Term], terms: &[Term]) -> bool
+    ensures { IsTrue result → (s : List (Option Tree)) →
+        apply_all s (trees_of patterns.now) ≡ trees_of terms.now → ⊥ }
+{
+    match (front(patterns), front(terms)) {
+        (Some((pattern, patterns)), Some((term, terms))) => {
+            is_larger(pattern, term) || some_is_larger(patterns, terms)
+        }
+        _ => false,
+    }
+}
+
+/// Whether the pattern has more symbols and variables than the term, or more levels. A substitution
+/// makes neither less.
+fn is_larger(pattern: &Term, term: &Term) -> bool
+    ensures { IsTrue result → (s : List (Option Tree)) → apply s pattern.now ≡ term.now → ⊥ }
+{
+    if pattern.size(u32::MAX) > term.size(u32::MAX) {
+        return true;
+    }
+    if pattern.depth(u32::MAX) > term.depth(u32::MAX) {
+        return true;
+    }
+    false
 }
 
 /// Matches a variable with a term. Where the variable was met before, both terms are compared.

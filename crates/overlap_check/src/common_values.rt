@@ -40,7 +40,7 @@ pub(crate) fn common_values(
     let smalls = small_values(alloc, sig, first, second)?;
     let unified = unifier.apply(alloc, &first.left)?;
     let call = smalls.apply(alloc, &unified)?;
-    Ok(Some(arguments(call)))
+    Ok(Some(arguments(call)?))
 }
 
 /// The term with `by` added to the number of each variable.
@@ -94,12 +94,12 @@ fn add_small_values(
 }
 
 /// The arguments of a call.
-fn arguments(call: Term) -> Seq<Term>
+fn arguments(call: Term) -> Result<Seq<Term>, OutOfMemory>
     requires { (f : ℕ) × (ts : Trees) × (call ≡ application f ts) }
-    ensures { (f : ℕ) × (call ≡ application f (trees_of result)) }
+    ensures { IfOk result (λ made. (f : ℕ) × (call ≡ application f (trees_of made))) }
 {
     match call.node {
         Node::Var(_) => unreachable!(),
-        Node::App(_, args) => Seq::from_vec(args.into_vec()),
+        Node::App(_, args) => Ok(Seq::from_vec(args.into_vec()?)),
     }
 }

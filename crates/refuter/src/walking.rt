@@ -319,7 +319,7 @@ impl<'a> Walk<'a> {
             .odometer
             .push_first(alloc, bank, sorts, depth, bound, row)?;
         let values = bank.terms(alloc, row)?;
-        Ok(Terms::from_vec(values))
+        Terms::from_vec(alloc, values)
     }
 }
 

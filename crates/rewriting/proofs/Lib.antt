@@ -5,7 +5,7 @@ pub mod OneRun
 -- What only this crate's own proofs use.
 pub mod FirstRules
 pub mod Fine
-pub mod Slotting
+pub mod Rests
 pub mod Steps
 pub mod Falls
 pub mod Searching

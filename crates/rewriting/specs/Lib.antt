@@ -7,7 +7,6 @@ pub mod Laws
 pub mod Examples
 -- What only this crate's own contracts speak of.
 pub mod Narrow
-pub mod Slots
 pub mod Found
 pub mod Walks
 pub mod Openings

@@ -11,7 +11,6 @@ mod normal;
 mod rewriter;
 mod rewritten;
 mod rules;
-mod slots;
 mod trace;
 mod walk;
 

@@ -42,7 +42,7 @@ impl<'a> Rewriter<'a> {
             }
             trace.add(alloc, index as u32 + 1)?;
             let rule = &self.rules()[index];
-            let made = rewrite(alloc, rule, term)?;
+            let made = rewrite(alloc, rule, &term)?;
             let Some(next) = self.open(alloc, &rule.right, made, budget, trace)? else {
                 return Ok(None);
             };
@@ -76,7 +76,7 @@ impl<'a> Rewriter<'a> {
         match term.node {
             Node::Var(var) => Ok(Some(Term::var(var))),
             Node::App(_, args) => {
-                let args = args.into_vec();
+                let args = args.into_vec()?;
                 match self.walk_all(alloc, patterns.as_slice(), args, budget, trace)? {
                     Some(normal) => Ok(Some(Term::app(*sym, normal))),
                     None => Ok(None),

@@ -76,7 +76,7 @@ fn check<O: TermOrder>(alloc: Global, spec: &Spec, order: &O) -> Result<(), Admi
         return Err(AdmitFault::Guards { rule });
     }
     if let Some((fun, values)) = uncovered_function(alloc, spec)? {
-        let values = Seq::from_vec(values.into_vec());
+        let values = Seq::from_vec(values.into_vec()?);
         return Err(AdmitFault::Coverage { fun, values });
     }
     Ok(())

@@ -56,11 +56,15 @@ impl Subst {
         done
     }
 
-    /// The term with each variable exchanged for its entry, all at once.
+    /// The term with each variable exchanged for its entry, all at once. Terms without variables
+    /// are shared.
     #[cycle(apply)]
     pub fn apply(&self, alloc: Global, term: &Term) -> Result<Term, OutOfMemory>
         ensures { IfOk result (λ made. made ≡ apply self.now.terms term.now) }
     {
+        if term.bound() == 0 {
+            return term.copy(alloc);
+        }
         match &term.node {
             Node::Var(var) => match self.get(*var) {
                 Some(image) => image.copy(alloc),

@@ -4,11 +4,15 @@
 //! [`Seq`] as the list of its items and a [`Name`] as the list of its bytes. The layers above use
 //! that each call on terms is exact against that tree, and [`OutOfMemory`] as the one answer that
 //! no contract ties to a cause.
+//!
+//! Copies of a term share its arguments, so that they take no memory. What limits and the numbering
+//! of variables ask of a term is kept with its arguments (`measures`).
 #![tactic(auto)]
 
 mod ids;
 mod laws;
 mod lists;
+mod measures;
 mod memory;
 mod names;
 mod occurring;

@@ -12,7 +12,12 @@ pub fn occurs(number: usize, term: &Term) -> bool
 {
     match &term.node {
         Node::Var(var) => var.0 as usize == number,
-        Node::App(_, args) => occurs_in_any(number, args.as_slice()),
+        Node::App(_, args) => {
+            if number as u64 >= term.bound() {
+                return false;
+            }
+            occurs_in_any(number, args.as_slice())
+        }
     }
 }
 

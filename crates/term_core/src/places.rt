@@ -94,10 +94,7 @@ fn exchanged(alloc: Global, terms: &Terms, index: usize, new: Term) -> Result<Te
     ensures { IfOk result (λ made. made ≡ slice_set terms.now index new) }
 {
     let terms = terms.as_slice();
-    let mut made = copy_all(alloc, &terms[..index])?;
-    made.push(new)?;
-    for term in &terms[index + 1..] {
-        made.push(term.copy(alloc)?)?;
-    }
-    Ok(made)
+    let mut made = copy_all(alloc, terms)?;
+    made[index] = new;
+    Terms::from_vec(alloc, made)
 }

@@ -1,10 +1,16 @@
-ghost use Rattle.std.specs.Prelude.{◌≡◌, ◌≤◌, ◌↔◌, [], ◌∷◌, ◌++◌, Some, IfOk, OnOk, OnErr, IsTrue, MatchOption, length, min, slice_get};
-ghost use Rattle.term_core.specs.Tree.{var as variable, app as application, trees_of, tree_size, sizes, tree_depth, depths};
+ghost use Rattle.std.specs.Prelude.{◌≡◌, ◌≤◌, ◌↔◌, ℕ, [], ◌∷◌, ◌++◌, Some, IfOk, OnOk, OnErr, IsTrue};
+ghost use Rattle.std.specs.Prelude.{MatchOption, length, min, slice_get};
+ghost use Rattle.term_core.specs.Tree.{var as variable, app as application, trees_of};
+ghost use Rattle.term_core.specs.Tree.{tree_size, tree_depth};
+ghost use Rattle.term_core.specs.Measures.{measure_of, measures_of, tree_bound};
+ghost use Rattle.term_core.specs.Variables.{Numbered};
 
 use crate::ids::{SymId, VarId};
+use crate::measures::Measure;
 use crate::memory::OutOfMemory;
 use std::alloc::Global;
 use std::marker::Model;
+use std::rc::Rc;
 
 /// A variable, or a symbol applied to terms.
 #[cycle(term)]
@@ -21,11 +27,20 @@ pub enum Node {
     App(SymId, Terms),
 }
 
-/// Terms in their order.
+/// Terms in their order. Copies share them, so that a copy takes no memory.
 #[cycle(term)]
 #[derive(Drop)]
 pub struct Terms {
+    alloc: Global,
+    shared: Option<Rc<Measured>>,
+}
+
+/// Terms of which there are some, with what is kept of them.
+#[cycle(term)]
+#[derive(Drop)]
+struct Measured {
     items: Vec<Term>,
+    measure: Measure,
 }
 
 impl Model for Terms {
@@ -38,15 +53,22 @@ impl Model for Terms {
 
     ghost coded = { coded_list coded_tree };
 
-    ghost use Rattle.term_core.specs.Measure.{list_weight, most_le};
+    ghost use Rattle.std.specs.Prelude.{option_map};
+    ghost use Rattle.term_core.specs.Shared.{terms_in, IsMeasured};
 
-    ghost view = { λ a. a.items.items };
+    ghost view = { λ a. terms_in (option_map (λ rc. rc.value) a.shared) };
+
+    ghost invariant = { λ a. IsMeasured (option_map (λ rc. rc.value) a.shared) };
+
+    ghost use Rattle.term_core.specs.Measure.{list_weight, most_le};
 
     ghost size = { list_weight };
 
     ghost use Rattle.std.proofs.Common.{arith};
+    ghost use Rattle.term_core.specs.Falling.{falls_to_members};
 
-    ghost size_decreases = { λ a h. omega (arith, most_le a.items.items) };
+    ghost size_decreases = { λ a h.
+        falls_to_members _ (λ m. omega (arith, most_le m.items.items)) a.shared };
 }
 
 impl Model for Term {
@@ -74,7 +96,8 @@ impl Terms {
         ensures { result ≡ [] }
     {
         Terms {
-            items: Vec::new(alloc),
+            alloc,
+            shared: None,
         }
     }
 
@@ -82,60 +105,103 @@ impl Terms {
     pub fn with_capacity(alloc: Global, count: usize) -> Result<Terms, OutOfMemory>
         ensures { IfOk result (λ made. made ≡ []) }
     {
+        Terms::from_vec(alloc, Vec::with_capacity(alloc, count)?)
+    }
+
+    pub fn from_vec(alloc: Global, items: Vec<Term>) -> Result<Terms, OutOfMemory>
+        ensures { IfOk result (λ made. made ≡ items.items) }
+    {
+        let measure = measure_all(&items);
+        let shared = Rc::new(alloc, Measured { items, measure })?;
         Ok(Terms {
-            items: Vec::with_capacity(alloc, count)?,
+            alloc,
+            shared: Some(shared),
         })
     }
 
-    pub fn from_vec(items: Vec<Term>) -> Terms
-        ensures { result ≡ items.items }
+    /// The terms, which are copied where another one shares them.
+    pub fn into_vec(self) -> Result<Vec<Term>, OutOfMemory>
+        ensures { IfOk result (λ items. items.items ≡ self) }
     {
-        Terms { items }
-    }
-
-    pub fn into_vec(self) -> Vec<Term>
-        ensures { result.items ≡ self }
-    {
-        self.items
+        let alloc = self.alloc;
+        let Some(shared) = self.shared else {
+            return Ok(Vec::new(alloc));
+        };
+        match Rc::try_unwrap(shared) {
+            Ok(alone) => Ok(alone.items),
+            Err(shared) => copy_all(alloc, &shared.items),
+        }
     }
 
     pub fn as_slice(&self) -> &[Term]
         ensures { result.now ≡ self.now }
     {
-        self.items.as_slice()
+        match &self.shared {
+            None => &[],
+            Some(shared) => shared.items.as_slice(),
+        }
     }
 
     pub fn get(&self, index: usize) -> Option<&Term>
         ensures { MatchOption result (length self.now ≤ index)
             (λ t. slice_get self.now index ≡ Some t.now) }
     {
-        self.items.get(index)
+        self.as_slice().get(index)
     }
 
     pub fn len(&self) -> usize
         ensures { result ≡ length self.now }
     {
-        self.items.len()
+        self.as_slice().len()
     }
 
     pub fn is_empty(&self) -> bool
         ensures { IsTrue result ↔ (self.now ≡ []) }
     {
-        self.items.is_empty()
+        self.as_slice().is_empty()
     }
 
+    /// What is kept of the terms.
+    pub(crate) fn measure(&self) -> Measure
+        ensures { result ≡ measures_of (trees_of self.now) }
+    {
+        match &self.shared {
+            None => Measure::of_none(),
+            Some(shared) => shared.measure,
+        }
+    }
+
+    /// Adds a term. Where others share the terms, these are copied.
     pub fn push(&mut self, term: Term) -> Result<(), OutOfMemory>
         ensures pushed { OnOk result (self.new ≡ self.old ++ term ∷ []) }
         ensures kept { OnErr result (self.new ≡ self.old) }
     {
-        self.items.push(term)?;
+        let own = term.measure();
+        let measure = self.measure().and(own);
+        if let Some(shared) = &mut self.shared {
+            if let Some(alone) = Rc::get_mut(shared) {
+                alone.items.push(term)?;
+                alone.measure = measure;
+                return Ok(());
+            }
+        }
+        let mut items = copy_all(self.alloc, self.as_slice())?;
+        items.push(term)?;
+        self.shared = Some(Rc::new(self.alloc, Measured { items, measure })?);
         Ok(())
     }
 
-    pub fn copy(&self, alloc: Global) -> Result<Terms, OutOfMemory>
+    pub fn copy(&self, _alloc: Global) -> Result<Terms, OutOfMemory>
         ensures { IfOk result (λ r. r ≡ self.now) }
     {
-        copy_all(alloc, &self.items)
+        let shared = match &self.shared {
+            None => None,
+            Some(shared) => Some(shared.clone()?),
+        };
+        Ok(Terms {
+            alloc: self.alloc,
+            shared,
+        })
     }
 }
 
@@ -156,34 +222,49 @@ impl Term {
         }
     }
 
-    /// The number of symbols and variables, or `cap` where that is less. A large term is not
-    /// walked past `cap`.
-    #[cycle(size)]
-    pub fn size(&self, cap: u32) -> u32
-        ensures { result ≡ min (tree_size self.now) cap }
+    /// What is kept of the term.
+    pub(crate) fn measure(&self) -> Measure
+        ensures { result ≡ measure_of self.now }
     {
-        if cap == 0 {
-            return 0;
-        }
         match &self.node {
-            Node::Var(_) => 1,
-            Node::App(_, args) => 1 + size_all(&args.items, cap - 1),
+            Node::Var(var) => Measure::of_variable(*var),
+            Node::App(_, args) => args.measure().below_symbol(),
         }
     }
 
+    /// The number of symbols and variables, or `cap` where that is less.
+    pub fn size(&self, cap: u32) -> u32
+        ensures { result ≡ min (tree_size self.now) cap }
+    {
+        self.measure().size.min(cap)
+    }
+
     /// The number of symbols and variables on the longest way down from the root, or `cap` where
-    /// that is less. A deep term is not walked below `cap`.
-    #[cycle(depth)]
+    /// that is less.
     pub fn depth(&self, cap: u32) -> u32
         ensures { result ≡ min (tree_depth self.now) cap }
     {
-        if cap == 0 {
-            return 0;
+        self.measure().depth.min(cap)
+    }
+
+    /// One more than the greatest number of a variable, and 0 where there is none.
+    pub fn bound(&self) -> u64
+        ensures { result ≡ tree_bound self.now }
+    {
+        self.measure().bound
+    }
+
+    /// How many variables are numbered after the term where these many are before it, if its
+    /// variables are numbered by first occurrence.
+    pub fn numbered_after(&self, before: u64) -> Option<u64>
+        ensures { MatchOption result ((m : ℕ) → Numbered before self.now m → ⊥)
+            (λ m. Numbered before self.now m) }
+    {
+        let measure = self.measure();
+        if measure.need as u64 > before {
+            return None;
         }
-        match &self.node {
-            Node::Var(_) => 1,
-            Node::App(_, args) => 1 + depth_all(&args.items, cap - 1),
-        }
+        Some(measure.bound.max(before))
     }
 
     /// Whether both are the same tree.
@@ -193,56 +274,43 @@ impl Term {
     {
         match (&self.node, &other.node) {
             (Node::Var(a), Node::Var(b)) => a == b,
-            (Node::App(f, xs), Node::App(g, ys)) => f == g && same_all(&xs.items, &ys.items),
+            (Node::App(f, xs), Node::App(g, ys)) => {
+                f == g && xs.measure() == ys.measure() && same_all(xs.as_slice(), ys.as_slice())
+            }
             _ => false,
         }
     }
 
-    #[cycle(copy)]
     pub fn copy(&self, alloc: Global) -> Result<Term, OutOfMemory>
         ensures { IfOk result (λ r. r ≡ self.now) }
     {
         match &self.node {
             Node::Var(var) => Ok(Term::var(*var)),
-            Node::App(sym, args) => Ok(Term::app(*sym, copy_all(alloc, &args.items)?)),
+            Node::App(sym, args) => Ok(Term::app(*sym, args.copy(alloc)?)),
         }
     }
 }
 
 /// Copies of the terms, in their order.
-#[cycle(copy)]
-pub fn copy_all(alloc: Global, terms: &[Term]) -> Result<Terms, OutOfMemory>
-    ensures { IfOk result (λ r. r ≡ terms.now) }
+pub fn copy_all(alloc: Global, terms: &[Term]) -> Result<Vec<Term>, OutOfMemory>
+    ensures { IfOk result (λ r. r.items ≡ terms.now) }
 {
-    let mut made = Terms::with_capacity(alloc, terms.len())?;
+    let mut made = Vec::with_capacity(alloc, terms.len())?;
     for term in terms {
         made.push(term.copy(alloc)?)?;
     }
     Ok(made)
 }
 
-/// The sum of the sizes, or `cap` where that is less.
-#[cycle(size)]
-fn size_all(terms: &[Term], cap: u32) -> u32
-    ensures { result ≡ min (sizes (trees_of terms.now)) cap }
+/// The measure of the terms.
+fn measure_all(terms: &[Term]) -> Measure
+    ensures { result ≡ measures_of (trees_of terms.now) }
 {
-    let mut size: u32 = 0;
+    let mut measure = Measure::of_none();
     for term in terms {
-        size += term.size(cap - size);
+        measure = measure.and(term.measure());
     }
-    size
-}
-
-/// The greatest depth, or `cap` where that is less.
-#[cycle(depth)]
-fn depth_all(terms: &[Term], cap: u32) -> u32
-    ensures { result ≡ min (depths (trees_of terms.now)) cap }
-{
-    let mut depth: u32 = 0;
-    for term in terms {
-        depth = depth.max(term.depth(cap));
-    }
-    depth
+    measure
 }
 
 #[cycle(same)]

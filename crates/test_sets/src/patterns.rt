@@ -30,7 +30,7 @@ pub(crate) fn uncovered(
     let rows = rows_of(alloc, patterns)?;
     match covers(alloc, sig, &rows, &[sort])? {
         Coverage::Covered => Ok(None),
-        Coverage::Missing(values) => Ok(values.into_vec().pop()),
+        Coverage::Missing(values) => Ok(values.into_vec()?.pop()),
     }
 }
 

@@ -62,7 +62,7 @@ impl Bank {
             left -= 1;
             let (sym, args) = self.cells.at(order[left]);
             let taken = made.split_off(made.len() - args.len())?;
-            made.push(Term::app(SymId(sym), Terms::from_vec(taken)))?;
+            made.push(Term::app(SymId(sym), Terms::from_vec(alloc, taken)?))?;
         }
         match made.pop() {
             Some(term) => Ok(term),

@@ -5,11 +5,12 @@ use Rattle.term_core.specs.declared.ids.SymId.{SymId}
 use Rattle.term_core.specs.declared.tree.Node.{Node}
 use Rattle.term_core.specs.Measure.{weight, list_weight, list_weight_is}
 use Rattle.term_core.specs.View.{tree_of}
+use Rattle.term_core.proofs.Bounds.{no_occurrence}
 use Rattle.term_core.proofs.Trees.{weight-member}
 use Rattle.term_core.specs.Variables.{occurrences, occurrences_all}
 use Rattle.term_core.specs.Gathered.{gathered}
 use Rattle.clause_core.specs.Tidied.{renumbered, renumbered_all}
-use Rattle.clause_core.proofs.Renumbering.{renumbered_all-trees_of, renumbered_next, gathered_next, next_left, others_left}
+use Rattle.clause_core.proofs.Renumbering.{closed_kept, renumbered_all-trees_of, renumbered_next, gathered_next, next_left, others_left}
 use Rattle.clause_core.proofs.tidying.+renumber.Goals as goal
 
 pub renumber-returns-clause-made : goal.renumber-returns-clause-made
@@ -18,16 +19,25 @@ renumber-returns-clause-made t c =
     let f = c.in-App-node.field-0 in
     let ts = c.in-App-node.args in
     let view : app f.0 (trees_of ts) ≡ c.args.term = ap tree_of (sym c.in-App-node.is) ∙ c.term.view_is in
-    let made : c.from_vec.result ≡ map (renumbered olds) ts = c.from_vec.ensures ∙ c.in_ok-made-in-App-node.ensures.made ∙ ap (λ us. map (renumbered olds) us) (c.into_vec.ensures ∙ c.in-App-node.args-is) in
+    let made : c.in_ok-from_vec-in-App-node.field-0 ≡ map (renumbered olds) ts = c.in_ok-from_vec-in-App-node.ensures ∙ c.in_ok-made-in-App-node.ensures.made ∙ ap (λ us. map (renumbered olds) us) (c.in_ok-into_vec-in-App-node.ensures ∙ c.in-App-node.args-is) in
     let both : Node.App c.in-App.sym c.in-App.field-1 ≡ Node.App f ts = sym c.in-App.is ∙ c.in-App-node.is in
     let same : c.in-App.sym ≡ f = cc in
     c.app.ensures ∙ ap (λ us. app c.in-App.sym.0 us) (ap trees_of made ∙ sym (renumbered_all-trees_of olds ts)) ∙ ap (λ (g : SymId). app g.0 (renumbered_all olds (trees_of ts))) same ∙ ap (renumbered olds) view
+
+pub renumber-returns-then-bound-eq0-clause-olds : goal.renumber-returns-then-bound-eq0-clause-olds
+renumber-returns-then-bound-eq0-clause-olds t c =
+    let closed = no_occurrence c.args.term (sym c.bound.ensures ∙ c.if-bound-eq0.true) in
+    sym (ap (gathered c.args.olds.now.items) closed)
+
+pub renumber-returns-then-bound-eq0-clause-made : goal.renumber-returns-then-bound-eq0-clause-made
+renumber-returns-then-bound-eq0-clause-made t c =
+    sym (closed_kept _ c.args.term (sym c.bound.ensures ∙ c.if-bound-eq0.true))
 
 pub renumber-renumber_all-requires : goal.renumber-renumber_all-requires
 renumber-renumber_all-requires t c =
     let ts = c.in-App-node.args in
     let view : app c.in-App-node.field-0.0 (trees_of ts) ≡ c.args.term = ap tree_of (sym c.in-App-node.is) ∙ c.term.view_is in
-    (omega (arith, ap weight view, list_weight_is ts, ap list_weight (c.into_vec.ensures ∙ c.in-App-node.args-is)), tt)
+    (omega (arith, ap weight view, list_weight_is ts, ap list_weight (c.in_ok-into_vec-in-App-node.ensures ∙ c.in-App-node.args-is)), tt)
 
 -- the term that is taken out is the one that was there at first
 taken_out : (now before : List Tree) (i : ℕ) (t there : Tree) → i < length now → length now ≡ length before → drop i now ≡ drop i before → t ≡ there → there ≡ get_or now i there → t ≡ get_or before i t

@@ -1,4 +1,4 @@
-use Rattle.std.proofs.Common.{◌≡◌, ◌+◌, ◌-◌, ◌∷◌, take, drop, length, ap, sym, ◌∙◌, arith}
+use Rattle.std.proofs.Common.{◌≡◌, ◌+◌, ◌-◌, ◌∷◌, take, drop, length, ap, refl, sym, ◌∙◌, arith}
 use Rattle.std.specs.Prelude.{Some}
 use Rattle.term_core.specs.Tree.{var, app, trees_of}
 use Rattle.term_core.specs.View.{tree_of}
@@ -55,6 +55,28 @@ pass_arguments-returns-in_ok-push-in-None t c =
     c.args.index c.args.path.now.items c.pass_term.new.path.items c.push.new.self.items
     c.in_ok-push-in-None.ensures.items (rw c.in-None.is at c.in_ok-pass_term-in-len1-up.ensures)
 
+pub pass_arguments-returns-in-Some-2 : goal.pass_arguments-returns-in-Some-2
+pass_arguments-returns-in-Some-2 t c =
+    let ts = c.args.terms.now in
+    let u = c.first-item.result in
+    let others = take (length ts - 1) (drop 1 ts) in
+    let k = c.args.index in
+    let n = c.args.number in
+    let old = c.args.path.now.items in
+    let base = c.pass_term.new.path.items in
+    let new = c.pass_arguments-in-Some-2.new.path.items in
+    let first : ts ≡ u ∷ others =
+    slice_front ts u c.in-len1-up.len_at_least c.first-item.is in
+    let passed : Passes (paths u) k old base (Some c.in-Some-2.left) =
+    rw c.in-Some-2.is at c.in_ok-pass_term-in-len1-up.ensures in
+    if_ok_map c.pass_arguments-in-Some-2.result
+    (Passes (argument_paths (n + 1) (trees_of others)) c.in-Some-2.left base new)
+    (Passes (argument_paths n (trees_of ts)) k old new)
+    (λ r h.
+    passes_arguments n u ts others first k old base new c.in-Some-2.left r passed.0 passed.1 h)
+    c.pass_arguments-in-Some-2.ensures
+
+-- a first argument whose size tells that the index is behind it
 pub pass_arguments-returns-in-Some : goal.pass_arguments-returns-in-Some
 pass_arguments-returns-in-Some t c =
     let ts = c.args.terms.now in
@@ -63,15 +85,12 @@ pass_arguments-returns-in-Some t c =
     let k = c.args.index in
     let n = c.args.number in
     let old = c.args.path.now.items in
-    let base = c.pass_term.new.path.items in
     let new = c.pass_arguments.new.path.items in
+    let left = c.in-Some.left in
     let first : ts ≡ u ∷ others =
     slice_front ts u c.in-len1-up.len_at_least c.first-item.is in
-    let passed : Passes (paths u) k old base (Some c.in-Some.left) =
-    rw c.in-Some.is at c.in_ok-pass_term-in-len1-up.ensures in
     if_ok_map c.pass_arguments.result
-    (Passes (argument_paths (n + 1) (trees_of others)) c.in-Some.left base new)
+    (Passes (argument_paths (n + 1) (trees_of others)) left old new)
     (Passes (argument_paths n (trees_of ts)) k old new)
-    (λ r h.
-    passes_arguments n u ts others first k old base new c.in-Some.left r passed.0 passed.1 h)
+    (λ r h. passes_arguments n u ts others first k old old new left r c.in-Some.ensures refl h)
     c.pass_arguments.ensures

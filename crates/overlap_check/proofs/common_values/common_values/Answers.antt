@@ -30,4 +30,4 @@ returns c =
     let smalls = c.in_ok-smalls.ensures in
     let general : IfSome (Some s) (λ u. IsMostGeneral left apart u.terms) = subst (λ (o : Option Subst). IfSome o (λ u. IsMostGeneral left apart u.terms)) c.in-Some.is c.in_ok-unifier.ensures.general in
     let keeps : IfSome (Some s) (λ u. KeepsSorts left apart u.terms) = subst (λ (o : Option Subst). IfSome o (λ u. KeepsSorts left apart u.terms)) c.in-Some.is c.in_ok-unifier.ensures.sorted in
-    are_common c.args.sig.now c.args.first.now c.args.second.now c.requires.first c.requires.second c.len.result apart c.len.ensures c.in_ok-apart.ensures s.terms c.in_ok-smalls.smalls.terms smalls.0 c.in_ok-unified.unified c.in_ok-call.call smalls.1 c.in_ok-unified.ensures c.in_ok-call.ensures (λ e. let f : false ≡ true = c.if-same.ensures.1 e in cc) general keeps smalls.2 c.arguments.ensures.0 (trees_of c.arguments.result) c.arguments.ensures.1
+    are_common c.args.sig.now c.args.first.now c.args.second.now c.requires.first c.requires.second c.len.result apart c.len.ensures c.in_ok-apart.ensures s.terms c.in_ok-smalls.smalls.terms smalls.0 c.in_ok-unified.unified c.in_ok-call.call smalls.1 c.in_ok-unified.ensures c.in_ok-call.ensures (λ e. let f : false ≡ true = c.if-same.ensures.1 e in cc) general keeps smalls.2 c.in_ok-arguments.ensures.0 (trees_of c.in_ok-arguments.field-0) c.in_ok-arguments.ensures.1

@@ -2,6 +2,7 @@
 use Rattle.std.proofs.Common.{◌≡◌, ℕ, zero, suc, ◌<◌, List, [], ◌∷◌, true, false, inl, inr, refl, sym, subst, length, get_or, take, add-one, arith}
 use Rattle.term_core.specs.Tree.{Tree, trees_of}
 use Rattle.term_core.specs.Variables.{Occurs, OccursAny}
+use Rattle.term_core.proofs.Bounds.{occurs_below}
 use Rattle.term_core.proofs.Trees.{weight-member}
 use Rattle.term_core.proofs.occurring.+occurs.Goals as goal
 
@@ -43,3 +44,9 @@ occurs_in_any-loop-term-preserved t c =
     absent_more c.args.number c.args.terms.now c.loop-term.term-index c.term-item.result
     c.loop-term-test.true c.term-item.is c.loop-term.invariant
     (λ o. let q : false ≡ true = c.if-occurs.ensures.1 o in cc))
+
+pub occurs-returns-then-number-bound : goal.occurs-returns-then-number-bound
+occurs-returns-then-number-bound t c = (
+  λ yes. absurd (let q : false ≡ true = yes in cc),
+  λ o. absurd (omega (arith, c.if-number-bound.true, c.bound.ensures, occurs_below c.args.number c.args.term.now o)),
+)

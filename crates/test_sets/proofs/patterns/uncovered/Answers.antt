@@ -35,9 +35,9 @@ returns c =
     let missing : IsMissing sig (rows_of ps) (c.args.sort ∷ []) c.in-Missing.values = subst (λ rs. IsMissing sig rs (c.args.sort ∷ []) c.in-Missing.values) made is.0 in
     let found = uncovered sig c.args.sort ps c.in-Missing.values missing (subst (λ rs. IsNamed sig rs (c.args.sort ∷ []) c.in-Missing.values) made is.1) in
     let v = found.0 in
-    let items : c.into_vec.result.items ≡ v ∷ [] = c.into_vec.ensures ∙ found.1 in
+    let items : c.in_ok-into_vec-in-Missing.field-0.items ≡ v ∷ [] = c.in_ok-into_vec-in-Missing.ensures ∙ found.1 in
     let count = ap (λ (ts : List Tree). length ts) items in
-    let last : vec_len c.into_vec.result - 1 ≡ 0 = omega (arith, count) in
-    let there : get_or c.into_vec.result.items (vec_len c.into_vec.result - 1) v ≡ v = λ i. get_or (items i) (last i) v in
+    let last : vec_len c.in_ok-into_vec-in-Missing.field-0 - 1 ≡ 0 = omega (arith, count) in
+    let there : get_or c.in_ok-into_vec-in-Missing.field-0.items (vec_len c.in_ok-into_vec-in-Missing.field-0 - 1) v ≡ v = λ i. get_or (items i) (last i) v in
     let popped : c.pop.result ≡ Some v = c.pop.ensures.value v (omega (arith, count)) ∙ ap (λ (t : Tree). Some t) there in
     subst (λ (o : Option Tree). MatchOption o (AreCovering sig c.args.sort ps) (IsUncovered sig c.args.sort ps)) (sym popped) found.2

@@ -19,7 +19,7 @@ use Rattle.rewriting.specs.Openings.{Opened, IsOpening, Advanced, IsWalkOfAll}
 use Rattle.rewriting.proofs.NormalTerms.{variable_normal}
 use Rattle.rewriting.proofs.Fine.{sorted_narrow, match_fine, parts, args_of_instance, same_symbol, image_done}
 use Rattle.rewriting.proofs.Falls.{less_left, use_falls, right_below_room}
-use Rattle.rewriting.proofs.Slotting.{rest_set, rest_first, instance_at}
+use Rattle.rewriting.proofs.Rests.{rest_set, rest_first, instance_at}
 use Rattle.rewriting.proofs.Steps.{exceeds_after, root_exceeds, opened_again, exceeds_again, opened_normal, opened_copy, advance_none, advance, advance_exceeds, all_advanced, same_item, one_more, grows, popped, if_some, added_at, one_deeper}
 use Rattle.rewriting.proofs.rewriter.Rewriter.+walk.Goals as goal
 use Rattle.rewriting.proofs.rewriter.Rewriter.+walk.Goals.{walk-In-Some-2}
@@ -35,8 +35,8 @@ open-walk_all-requires t c =
     let old = c.args.trace.now.uses.items in
     let e : app c.in-App.sym.0 (trees_of c.in-App.patterns) ≡ c.args.pattern.now = ap tree_of (sym c.in-App.is) ∙ c.pattern.view_is in
     let d : app c.in-App-node.field-0.0 (trees_of c.in-App-node.args) ≡ c.args.term = ap tree_of (sym c.in-App-node.is) ∙ c.term.view_is in
-    let items = c.into_vec-args.result.items in
-    let j : items ≡ c.in-App-node.args = c.into_vec-args.ensures ∙ c.in-App-node.args-is in
+    let items = c.in_ok-args-in-App-node.args.items in
+    let j : items ≡ c.in-App-node.args = c.in_ok-args-in-App-node.ensures ∙ c.in-App-node.args-is in
     let s = c.requires.instance.0 in
     let all = args_of_instance s c.in-App.sym.0 c.in-App-node.field-0.0 c.in-App.patterns c.as_slice.result.now c.in-App-node.args items c.args.pattern.now c.args.term e c.as_slice.ensures d j c.requires.instance.2 in
     let same : c.in-App-node.field-0.0 ≡ c.in-App.sym.0 = same_symbol s c.in-App.sym.0 c.in-App-node.field-0.0 c.in-App.patterns c.in-App-node.args c.args.pattern.now c.args.term e d c.requires.instance.2 in
@@ -65,8 +65,8 @@ open-returns-in-Some-clause-opened t c =
     let old = c.args.trace.now.uses.items in
     let e : app c.in-App.sym.0 (trees_of c.in-App.patterns) ≡ c.args.pattern.now = ap tree_of (sym c.in-App.is) ∙ c.pattern.view_is in
     let d : app c.in-App-node.field-0.0 (trees_of c.in-App-node.args) ≡ c.args.term = ap tree_of (sym c.in-App-node.is) ∙ c.term.view_is in
-    let items = c.into_vec-args.result.items in
-    let j : items ≡ c.in-App-node.args = c.into_vec-args.ensures ∙ c.in-App-node.args-is in
+    let items = c.in_ok-args-in-App-node.args.items in
+    let j : items ≡ c.in-App-node.args = c.in_ok-args-in-App-node.ensures ∙ c.in-App-node.args-is in
     let s = c.requires.instance.0 in
     let all = args_of_instance s c.in-App.sym.0 c.in-App-node.field-0.0 c.in-App.patterns c.as_slice.result.now c.in-App-node.args items c.args.pattern.now c.args.term e c.as_slice.ensures d j c.requires.instance.2 in
     let same : c.in-App-node.field-0.0 ≡ c.in-App.sym.0 = same_symbol s c.in-App.sym.0 c.in-App-node.field-0.0 c.in-App.patterns c.in-App-node.args c.args.pattern.now c.args.term e d c.requires.instance.2 in
@@ -84,8 +84,8 @@ open-returns-in-None-clause-opened t c =
     let old = c.args.trace.now.uses.items in
     let e : app c.in-App.sym.0 (trees_of c.in-App.patterns) ≡ c.args.pattern.now = ap tree_of (sym c.in-App.is) ∙ c.pattern.view_is in
     let d : app c.in-App-node.field-0.0 (trees_of c.in-App-node.args) ≡ c.args.term = ap tree_of (sym c.in-App-node.is) ∙ c.term.view_is in
-    let items = c.into_vec-args.result.items in
-    let j : items ≡ c.in-App-node.args = c.into_vec-args.ensures ∙ c.in-App-node.args-is in
+    let items = c.in_ok-args-in-App-node.args.items in
+    let j : items ≡ c.in-App-node.args = c.in_ok-args-in-App-node.ensures ∙ c.in-App-node.args-is in
     let s = c.requires.instance.0 in
     let all = args_of_instance s c.in-App.sym.0 c.in-App-node.field-0.0 c.in-App.patterns c.as_slice.result.now c.in-App-node.args items c.args.pattern.now c.args.term e c.as_slice.ensures d j c.requires.instance.2 in
     let same : c.in-App-node.field-0.0 ≡ c.in-App.sym.0 = same_symbol s c.in-App.sym.0 c.in-App-node.field-0.0 c.in-App.patterns c.in-App-node.args c.args.pattern.now c.args.term e d c.requires.instance.2 in
@@ -146,12 +146,16 @@ walk-bounds-rules-index t c =
 pub walk-rewrite-requires : goal.walk-rewrite-requires
 walk-rewrite-requires t c =
     let spec = c.args.self.now in
+    let s = (found_rule (goal.at.walk-rewrite-requires t c).In-Some-2).0 in
     let found = (found_rule (goal.at.walk-rewrite-requires t c).In-Some-2).1 in
     let rule = c.index-rules-index.result in
     let same : rule ≡ found.rule = same_item spec.rules c.rules.result.now c.in-Some-2.index rule found.rule c.rules.ensures found.listed c.index-rules-index.is in
     let at : slice_get spec.rules c.in-Some-2.index ≡ Some rule = found.listed ∙ ap (λ (r : Rule). Some r) (sym same) in
-    let sorted = c.requires.fine.rules c.in-Some-2.index rule at in
-    (spec.sig, sorted)
+    let matched = subst (λ (r : Rule). apply s r.left ≡ c.loop-term.term) (sym same) found.matched.0 in
+    record {
+      sorted = (spec.sig, c.requires.fine.rules c.in-Some-2.index rule at);
+      fits = (s, matched);
+    }
 
 pub walk-open-requires-in-Some-2 : goal.walk-open-requires-in-Some-2
 walk-open-requires-in-Some-2 t c =

@@ -1,9 +1,10 @@
 use Rattle.std.proofs.Common.{◌≡◌, ap, sym, ◌∙◌, map, arith}
 use Rattle.term_core.specs.Tree.{app, trees_of}
 use Rattle.term_core.specs.View.{tree_of}
+use Rattle.term_core.proofs.Bounds.{occurs_below}
 use Rattle.term_core.proofs.Trees.{weight-member}
 use Rattle.substitutions.specs.Substitution.{apply, apply_all}
-use Rattle.substitutions.proofs.Instances.{apply_all-trees_of}
+use Rattle.substitutions.proofs.Instances.{apply_all-trees_of, apply_closed}
 use Rattle.substitutions.proofs.subst.Subst.+apply.Goals as goal
 
 pub apply-returns-in_ok-apply_all-in-App : goal.apply-returns-in_ok-apply_all-in-App
@@ -17,3 +18,9 @@ apply-returns-in_ok-apply_all-in-App t c =
 
 pub apply_all-apply-requires : goal.apply_all-apply-requires
 apply_all-apply-requires t c = (omega (arith, weight-member c.args.terms.now c.loop-term.term-index c.term-item.result c.loop-term-test.true c.term-item.is), tt)
+
+pub apply-returns-then-bound-eq0 : goal.apply-returns-then-bound-eq0
+apply-returns-then-bound-eq0 t c =
+    let closed = apply_closed c.args.term.now c.args.self.now.terms
+    (λ n o. omega (arith, occurs_below n c.args.term.now o, c.bound.ensures, c.if-bound-eq0.true)) in
+    rw closed c.copy.ensures
