@@ -26,10 +26,10 @@ impl<'a> Rewriter<'a> {
     /// The normal form of the term by leftmost-innermost uses of rules without guards, of which the
     /// one of least number is used at each place. `budget` is the greatest number of uses.
     ///
-    /// The term is copied once. Each subterm is normalized once: what stands for a variable of a
+    /// Each subterm is normalized once: what stands for a variable of a
     /// rule is normal already. A use costs by its place's length and the rule, and nothing for the
-    /// rest of the term. What stands for a variable is moved, and adds to the cost only where the
-    /// variable occurs more than once on a side: it is compared, or copied, there.
+    /// rest of the term. What stands for a variable is shared, and adds to the cost only where the
+    /// variable occurs more than once on the left side: it is compared there.
     ///
     /// The stack grows with the length of the place and a right side's depth alone, so with the
     /// depth of the terms on the way, and not with the number of uses.

@@ -3,6 +3,7 @@ use Rattle.std.specs.Prelude.{◌≡◌, true, false, [], ◌∷◌}
 use Rattle.term_core.specs.Tree.{Tree, var, app, none, some}
 use Rattle.term_core.specs.Places.{IsAt, HasNoPlace, IsReplaced}
 use Rattle.term_core.specs.Variables.{occurrences, firsts, Occurs, Numbered}
+use Rattle.term_core.specs.Measures.{tree_bound, tree_need}
 use Rattle.term_core.specs.Same.{same_tree}
 use Rattle.term_core.specs.Contexts.{Context, hole, under, plug}
 use Rattle.term_core.specs.Ground.{IsGroundIn}
@@ -46,6 +47,11 @@ pub record WorkedExamples : Type 0 where
   -- x is 0 and is met first, y is 1; in g(y, x) alone the first variable that is met is no 0
   pub numbered : Numbered 0 outer 2
   pub numbered_otherwise : Numbered 0 inner 2 → ⊥
+  -- both variables are below 2; g(y, x) is numbered where one variable was numbered before it
+  pub bounded : tree_bound outer ≡ 2
+  pub closed_bound : tree_bound closed ≡ 0
+  pub needs_none : tree_need outer ≡ 0
+  pub needs_one : tree_need inner ≡ 1
   -- a term is the same tree as itself, and no other
   pub same_as_itself : same_tree outer outer ≡ true
   pub other_tree : same_tree outer inner ≡ false
