@@ -4,7 +4,7 @@
 //   a descriptor    of a file for the counts, which outlive the program however it ends
 //   kinds           which calls fail: 1 for requests for memory, 2 for reads and opening, 4 for writes, or a sum of these
 //   first, last     the first and the last call of a kind that fail, from 1
-//   step            of these calls, each so many-th fails
+//   step            of these calls, how many calls there are from one that fails to the next
 //   error           the number of the error
 //   most            how many bytes a read or a write moves at most
 //

@@ -40,7 +40,7 @@ first_in_range f n k e l clean h =
     let z : (j : ℕ) → j ≡ 0 + j = λ j. omega arith in
     in_range f 0 n k e l (λ j i. subst (λ x. Clean (f x)) (z j) (clean j i)) (subst (λ x. First (f x) e) (z k) h)
 
--- what stands before a place stands before it in a longer list
+-- what comes before a place comes before it in a longer list
 get_taken : {X : Type 0} (xs : List X) (j k : ℕ) → j < k → slice_get (take k xs) j ≡ slice_get xs j
 get_taken [] j zero l = absurd (omega arith)
 get_taken [] j (suc k) l = refl
@@ -65,7 +65,7 @@ module _ (above : Tree → Tree → Type 0) (one : OneRelation above) (spec : Sp
   none_so : (P : Goal → Type 0) → (P goal → ⊥) → OfGoal spec name P → ⊥
   none_so P h = not_of_goal spec fine name goal named P h
 
-  -- a step behind which one is refused isn't refused
+  -- a step after which one is refused isn't refused
   before_refused : (k : ℕ) (why : Why) → Refused k why goal → (j : ℕ) → j < k → (reason : Why) → Refused j reason goal → ⊥
   before_refused k why h j l reason (step, made, at, makes, refused) =
       none_refused above one spec fine usable (goal_clause goal) (take k steps) h.1 h.3 j reason (step, made, get_taken steps j k l ∙ at, subst (λ s. StepsMake above spec usable (goal_clause goal ∷ []) 0 s made) (sym (take_taken steps j k l)) makes, refused)

@@ -49,7 +49,7 @@ counted_taken (m ∷ ms) (suc k) own is =
     let r = counted_taken ms k own is in
     (omega (arith, r.0, counted_cons m (take k ms), counted_cons m (take (suc k) ms)), omega (arith, r.1, counted_cons m (take k ms), counted_cons m ms))
 
--- the children of the next node are numbered behind those of this one
+-- the children of the next node are numbered after those of this one
 pub next_child : (made : List Children) (k : ℕ) (own : Children) → slice_get made k ≡ Some own → first_child made (suc k) ≡ first_child made k + length own.clauses
 next_child made k own is = let p = counted_taken made k own is in omega (arith, p.0)
 

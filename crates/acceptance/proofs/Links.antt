@@ -77,7 +77,7 @@ module _ (made : List Children) (k : ℕ) (m : Children) (is : slice_get made k 
   pub allowed_by : AllByRecursion (λ (l : ℕ × Relation). ChildIsAllowed made l.1) (child_links (first_child made k) m.clauses) → AllByRecursion (λ (l : ℕ × Relation). ReferenceIsAllowed made k l.0 l.1) (ref_links m.refs) → NodeIsAllowed made k
   allowed_by cs rs = record { children = of_children (λ j r. ChildIsAllowed made r) cs; refs = of_refs (λ j r. ReferenceIsAllowed made k j r) rs }
 
--- behind the last node nothing leads anywhere
+-- after the last node nothing leads anywhere
 pub allowed_past : (made : List Children) (k : ℕ) → slice_get made k ≡ None → NodeIsAllowed made k
 allowed_past made k none = record {
   children = λ j r h. absurd (let q : Some h.0 ≡ None = sym h.3 ∙ none in cc);

@@ -24,7 +24,7 @@ module _ (above : Tree → Tree → Type 0) (spec : Spec) where
       let z : k + suc (length steps) ≡ suc k + length steps = omega arith in
       (p.0, steps_longer usable (nodes ++ clauses_of n) (suc k) steps made p.1 step m (subst (λ j. StepMakes above spec usable ((nodes ++ clauses_of n) ++ flat_map clauses_of made) j step m) z (subst (λ ns. StepMakes above spec usable ns (k + suc (length steps)) step m) a q)))
 
-  -- the next claim is accepted behind all claims so far
+  -- the next claim is accepted after all claims so far
   pub claims_longer : (budget : ℕ) (before claims : List Claim) → ClaimsAreAccepted above spec budget before claims → (claim : Claim) → ClaimIsAccepted above spec budget (before ++ claims) claim → ClaimsAreAccepted above spec budget before (claims ++ claim ∷ [])
   claims_longer budget before [] p claim q = (subst (λ cs. ClaimIsAccepted above spec budget cs claim) (append-nil before) q, tt)
   claims_longer budget before (c ∷ claims) p claim q =

@@ -48,7 +48,7 @@ module _ (above : Tree → Tree → Type 0) (one : OneRelation above) (spec : Sp
     same_made : (others : List Children) → StepsMake above spec (ProvedBefore spec before) (goal_clause goal ∷ []) 0 steps others → others ≡ made
     same_made others p = steps_one above one spec fine (ProvedBefore spec before) (goal_clause goal ∷ []) 0 steps others made p makes
 
-    -- nor nodes without a step, where there are as many, ...
+    -- nor nodes without a step, if there are as many, ...
     pub not_pending : length (nodes_of (goal_clause goal) made) ≡ length steps → IsPending above spec (ProvedBefore spec before) (goal_clause goal) steps → ⊥
     not_pending finished (others, p, more) =
         let n : length (nodes_of (goal_clause goal) others) ≡ length steps = ap (λ (x : List Children). length (nodes_of (goal_clause goal) x)) (same_made others p) ∙ finished in

@@ -1,4 +1,4 @@
--- The steps of a block make one thing, and where they do no step is refused.
+-- The steps of a block make one thing, and if they do no step is refused.
 use Rattle.std.proofs.Common.{◌≡◌, ℕ, zero, suc, ◌+◌, List, [], ◌∷◌, ◌++◌, Some, None, take, inl, inr, refl, sym, ◌∙◌, subst, arith, append_assoc}
 use Rattle.std.specs.Prelude.{Ok, Err, flat_map, slice_get}
 use Rattle.std.proofs.lemmas.List.{append-nil}
@@ -38,7 +38,7 @@ module _ (above : Tree → Tree → Type 0) (one : OneRelation above) (spec : Sp
       let r : ms ≡ ns = steps_one (nodes ++ clauses_of m) (suc k) steps ms ns p.1 (subst (λ x. StepsMake above spec usable (nodes ++ clauses_of x) (suc k) steps ns) (sym e) q.1) in
       λ i. e i ∷ r i
 
-  -- a step behind those that make something makes something too, over the nodes that these make
+  -- a step after those that make something makes something too, over the nodes that these make
   makes_at : (nodes : List Clause) (k : ℕ) (steps : List Step) (ms : List Children) → StepsMake above spec usable nodes k steps ms → (j : ℕ) (step : Step) → slice_get steps j ≡ Some step → (ns : List Children) → StepsMake above spec usable nodes k (take j steps) ns → (m : Children) × StepMakes above spec usable (nodes ++ flat_map clauses_of ns) (k + j) step m
   makes_at nodes k [] ms p j step at ns q = absurd (let e : None ≡ Some step = at in cc)
   makes_at nodes k (s ∷ steps) [] p j step at ns q = absurd p
@@ -65,7 +65,7 @@ module _ (above : Tree → Tree → Type 0) (one : OneRelation above) (spec : Sp
       let r : Ok m ≡ Err why = says_one above one p.clause nodes _ _ (step_one spec fine p.clause usable nodes step) (Ok m) (Err why) p.says s in
       cc
 
-  -- where all steps make something none is refused
+  -- if all steps make something none is refused
   pub none_refused : (start : Clause) (steps : List Step) (ms : List Children) → StepsMake above spec usable (start ∷ []) 0 steps ms → (k : ℕ) (why : Why) → StepIsRefused above spec usable start steps k why → ⊥
   none_refused start steps ms p k why (step, ns, at, q, r) =
       let m = makes_at (start ∷ []) 0 steps ms p k step at ns q in

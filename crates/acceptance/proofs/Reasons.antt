@@ -1,4 +1,4 @@
--- The tests of a step for each reason: where it is refused, the one of its reason is the first that finds something.
+-- The tests of a step for each reason: if it is refused, the one of its reason is the first that finds something.
 use Rattle.std.proofs.Common.{◌≡◌, ℕ, ◌<◌, inl, inr, refl, ap, arith}
 use Rattle.spec_core.specs.Findings.{test, each, First}
 use Rattle.clause_core.specs.declared.answers.Why.{Why}

@@ -8,7 +8,7 @@ use Rattle.acceptance.specs.Strict.{LeadsTo, Strict, strict, ReferenceIsAllowed,
 use Rattle.acceptance.specs.AllowedAnswers.{IsWholeBlock, TellsStrict, FallsBy, AllowedBy, ChildrenFallBy, ReferencesFallBy, ChildrenAreAllowed, ReferencesAllowedBy}
 use Rattle.acceptance.proofs.Flags.{children_within}
 
--- a flag that is set stands in the list
+-- a flag that is set is in the list
 set_within : (flags : List Bool) (j : ℕ) → get_or flags j false ≡ true → j < length flags
 set_within [] j e = absurd (let q : false ≡ true = e in cc)
 set_within (b ∷ bs) zero e = omega arith
@@ -32,7 +32,7 @@ module _ (made : List Children) (whole : IsWholeBlock made) (flags : List Bool) 
     is_strict j (inl e) = absurd (same_is_not_less e)
     is_strict j (inr h) = (tells.tells j (omega (arith, h.1)) (omega (arith, set_within flags j h.2, tells.long))).0 h.2
 
-    -- a node is strict where all that it leads to falls by the flags behind it, ...
+    -- a node is strict if all that it leads to falls by the flags after it, ...
     pub strict_by_flags : ChildrenFallBy made flags k → ReferencesFallBy made flags k → Strict made k
     strict_by_flags cs rs = strict (λ j r h. either j r (falls j r h)) (λ j h. is_strict j (falls j Same h))
       where
@@ -64,7 +64,7 @@ module _ (made : List Children) (whole : IsWholeBlock made) (flags : List Bool) 
     flag_of j r here (inr (e, inl l)) = inr (e, inl l)
     flag_of j r here (inr (e, inr s)) = inr (e, inr ((tells.tells j (omega arith) here).1 s))
 
-    -- a node is allowed where its references are by all flags, and there alone
+    -- a node is allowed if and only if its references are by all flags
     pub allowed_by_flags : ChildrenAreAllowed made k → ReferencesAllowedBy made flags k → NodeIsAllowed made k
     allowed_by_flags cs rs = record { children = cs; refs = λ j r h. by_flag j r (rs j r h) }
 

@@ -151,7 +151,7 @@ allowed (suc (suc (suc (suc (suc zero))))) = allowed_by made 5 _ refl tt (inr (r
 allowed (suc (suc (suc (suc (suc (suc k)))))) = allowed_past made (suc (suc (suc (suc (suc (suc k)))))) refl
 
 module _ (budget : ℕ) (before : List Claim) (first : IsClaimed unit_goal.name before → ⊥) where
-  -- behind claims that aren't on this goal
+  -- after claims that aren't on this goal
   shown_by : (goals : List Goal) → IsGoalNamed (with_goals goals) unit_goal.name unit_goal →
       ClaimIsAccepted AboveInSums (with_goals goals) budget before (proves_unit unit_steps)
   shown_by goals named = record { goal = unit_goal; named = named; first = first; shown = record { within = start_within; made = made; makes = makes goals (ProvedBefore (with_goals goals) before); finished = refl; allowed = allowed } }

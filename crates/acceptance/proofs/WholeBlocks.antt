@@ -1,4 +1,4 @@
--- Where each node of a block has its step, it can be tested what is allowed: references are to nodes, and there are few.
+-- If each node of a block has its step, it can be tested what is allowed: references are to nodes, and there are few.
 use Rattle.std.proofs.Common.{◌≡◌, ℕ, zero, suc, ◌+◌, ◌≤◌, ◌<◌, ◌^◌, List, [], ◌∷◌, ◌++◌, Some, None, Ok, Err, map, length, inl, inr, sym, ◌∙◌, ap, subst, arith, length-append}
 use Rattle.std.specs.Prelude.{flat_map, slice_get, sum}
 use Rattle.std.specs.List.{AllByRecursion, AllZip}
@@ -20,7 +20,7 @@ use Rattle.clause_core.specs.Steps.{row_of}
 use Rattle.acceptance.specs.Blocks.{clauses_of, nodes_of, StepMakes, StepsMake}
 use Rattle.acceptance.specs.AllowedAnswers.{IsWholeBlock}
 
--- there is a node of this number
+-- there is a node with this number
 abbrev IsMade : List Clause → ℕ × Clause → Type 0
 IsMade nodes r = (d : Clause) × (slice_get nodes r.0 ≡ Some d)
 
@@ -91,7 +91,7 @@ module _ (above : Tree → Tree → Type 0) (spec : Spec) (usable : ℕ → Type
   step_made : (nodes : List Clause) (k : ℕ) (step : Step) (m : Children) → StepMakes above spec usable nodes k step m → ((i : ℕ) (r : Reference) → slice_get m.refs i ≡ Some r → r.node < length nodes) × (length nodes + length m.clauses ≤ 10000)
   step_made nodes k step m p = says_made above p.clause nodes (row_of spec usable nodes p.clause step) (rows_refer spec usable nodes p.clause step) m p.says
 
-  -- behind a step there are few nodes
+  -- after a step there are few nodes
   few_nodes : (nodes : List Clause) (k : ℕ) (s : Step) (steps : List Step) (m : Children) (made : List Children) → StepsMake above spec usable nodes k (s ∷ steps) (m ∷ made) → length nodes + counted (m ∷ made) ≤ 10000
   few_nodes nodes k s [] m [] p = omega (arith, (step_made nodes k s m p.0).1, counted_cons m [])
   few_nodes nodes k s [] m (n ∷ made) p = absurd p.1

@@ -36,7 +36,7 @@ abbrev pub HasFailed : Spec → ℕ → Goal → NamedValues → Type 0
 HasFailed spec steps goal values = IsVerdict spec (values_in values) steps goal Fails
 
 module _ (above : Tree → Tree → Type 0) (spec : Spec) (steps : ℕ) where
-  -- what a claim on the goal says is shown, where the goals that the claims before it prove may be
+  -- what a claim on the goal says is shown, if the goals that the claims before it prove may be
   -- used; nothing is asked of an open claim
   abbrev pub IsShown : List Claim → Goal → Outcome → Type 0
   IsShown before goal (Proved block) =
@@ -57,6 +57,6 @@ module _ (above : Tree → Tree → Type 0) (spec : Spec) (steps : ℕ) where
   ClaimsAreAccepted before (claim ∷ claims) =
       ClaimIsAccepted before claim × ClaimsAreAccepted (before ++ claim ∷ []) claims
 
--- each claim is accepted, behind the claims before it
+-- each claim is accepted, after the claims before it
 abbrev pub IsAccepted : (Tree → Tree → Type 0) → Spec → Report → Type 0
 IsAccepted above spec report = ClaimsAreAccepted above spec report.steps [] report.claims

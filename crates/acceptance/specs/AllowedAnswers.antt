@@ -19,7 +19,7 @@ TellsAllowed made All = AllAreAllowed made
 TellsAllowed made (Not node) =
     (¬ (NodeIsAllowed made node)) × ((j : ℕ) → j < node → NodeIsAllowed made j)
 
--- the flag of node k, and that of each node behind it, says whether the node is strict
+-- the flag of node k, and that of each node after it, says whether the node is strict
 pub record TellsStrict (made : List Children) (k : ℕ) (flags : List Bool) : Type 0 where
   pub long : length flags ≡ length made
   pub tells :

@@ -14,7 +14,7 @@ use Rattle.acceptance.specs.Strict.{AllAreAllowed}
 abbrev pub clauses_of : Children → List Clause
 clauses_of m = map (λ (child : Child). child.clause) m.clauses
 
--- the nodes of a block that begins with this clause: behind it the children, in the order in which
+-- the nodes of a block that begins with this clause: after it the children, in the order in which
 -- they are made
 abbrev pub nodes_of : Clause → List Children → List Clause
 nodes_of start made = start ∷ flat_map clauses_of made

@@ -28,7 +28,7 @@ module _ (spec : Spec) where
   IsGoalNamed name goal =
       (number : ℕ) × (slice_get spec.goals number ≡ Some goal) × (goal.name ≡ name)
 
-  -- the goals that may be used behind these claims, by their numbers: those that they prove
+  -- the goals that may be used after these claims, by their numbers: those that they prove
   abbrev pub ProvedBefore : List Claim → ℕ → Type 0
   ProvedBefore before number =
       (goal : Goal) × (slice_get spec.goals number ≡ Some goal) × IsProvedBy goal.name before

@@ -84,7 +84,7 @@ abbrev pub RefusedOnNaturals : Report → ℕ → ReplayWhy → Type 0
 RefusedOnNaturals report line why = IsFirstRefusal AboveInSums naturals report line why
 
 pub record WorkedExamples : Type 0 where
-  -- a proof of plus(x, zero) = x by cases of x, behind an open claim
+  -- a proof of plus(x, zero) = x by cases of x, after an open claim
   pub accepted : AcceptedOnNaturals (only (proves_unit unit_steps))
   pub behind_open :
       AcceptedOnNaturals (record { steps = 1; claims = leaves_open ∷ proves_unit unit_steps ∷ [] })
@@ -92,7 +92,7 @@ pub record WorkedExamples : Type 0 where
   pub by_proved :
       IsAccepted AboveInSums two_units
       (record { steps = 1; claims = proves_unit unit_steps ∷ proves_again ∷ [] })
-  -- where each case is shown by the goal itself, the second step refers to what isn't smaller
+  -- if each case is shown by the goal itself, the second step refers to what isn't smaller
   pub circular : RefusedOnNaturals (only (proves_unit circular_steps)) 5 NotSmaller
   -- a step too many has no node, and with the first step alone two nodes have none
   pub step_too_many :

@@ -30,7 +30,7 @@ pub record OneVerdict (above : Tree → Tree → Type 0) : Type 0 where
       IsFirstRefusal above spec report line why → IsFirstRefusal above spec report other reason →
       (line ≡ other) × (why ≡ reason)
 
--- where the steps of a claim's block make something, and each node has its step, it can be tested
+-- if the steps of a claim's block make something, and each node has its step, it can be tested
 -- what is allowed
 abbrev pub BlocksAreWhole : (Tree → Tree → Type 0) → Type 0
 BlocksAreWhole above =

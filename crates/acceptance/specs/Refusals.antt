@@ -27,7 +27,7 @@ lines_of (Proved block) = suc (length block.steps)
 lines_of (Refuted index values) = suc (length values)
 lines_of (Open budget) = 1
 
--- the first line of the claim behind these; lines count from 1, and two stand before all claims
+-- the first line of the claim after these; lines count from 1, and two come before all claims
 abbrev pub line_after : List Claim → ℕ
 line_after before = 3 + sum (map (λ (claim : Claim). lines_of claim.outcome) before)
 
@@ -44,11 +44,11 @@ Refusal = ℕ × ReplayWhy
 abbrev pub OfGoal : Spec → List ℕ → (Goal → Type 0) → Type 0
 OfGoal spec name P = (goal : Goal) × IsGoalNamed spec name goal × P goal
 
--- the tests of a claim on the goal of this name, behind these claims; its first line is given
+-- the tests of a claim on the goal of this name, after these claims; its first line is given
 module _
     (above : Tree → Tree → Type 0) (spec : Spec) (before : List Claim) (line : ℕ) (name : List ℕ)
   where
-    -- those of a block of these steps, which stand on the lines behind the first one
+    -- those of a block of these steps, which are on the lines after the first one
     module _ (steps : List Step) where
       -- step k is refused for this reason
       abbrev pub reason_test : ℕ → Why → Search Refusal
@@ -81,7 +81,7 @@ module _
           (then pending_test
           (each order_test (range_with_len 0 (length steps)))))
 
-    -- those of an outcome, where a verdict has this many steps for each side; an open one has none
+    -- those of an outcome, if a verdict has this many steps for each side; an open one has none
     abbrev pub outcome_tests : ℕ → Outcome → Search Refusal
     outcome_tests budget (Proved block) = block_tests block.steps
     outcome_tests budget (Refuted index values) =

@@ -8,7 +8,7 @@ pub fn one_verdict<O: TermOrder>()
     ensures { (o : O) → OneVerdict (O.above o) }
 {}
 
-/// What the steps of a block make meets what [`allowed`](crate::allowed) requires, where each node
+/// What the steps of a block make meets what [`allowed`](crate::allowed) requires, if each node
 /// has its step.
 pub fn blocks_are_whole<O: TermOrder>(order: &O)
     ensures { BlocksAreWhole (O.above order.now) }

@@ -8,7 +8,7 @@ use Rattle.spec_core.specs.TermText.{symbol_text, term_text}
 use Rattle.spec_admit.specs.declared.faults.AdmitFault.{AdmitFault}
 use Rattle.spec_admit.specs.declared.faults.AdmitFault.TheVariants.{Linear, Order, Overlap, Guards, Coverage, OutOfMemory}
 
--- a value behind `, `
+-- a value after `, `
 abbrev pub other_text : Sig → Tree → List ℕ
 other_text sig v = codes ", " ++ term_text sig [] v
 

@@ -7,7 +7,7 @@ use Rattle.std.proofs.lemmas.Bool.Decides.{nat_tests}
 use Rattle.term_core.proofs.Numbers.{same_or_not, below_or_last}
 use Rattle.bank_core.specs.Links.{HasHash, IsLast, IsIn, AreLinked, place_of}
 
--- the last number with one property is that with another one, where both are the same below n
+-- the last number with one property is that with another one, if both are the same below n
 last_along :
     (P Q : ℕ → Type 0) (n r : ℕ) → ((k : ℕ) → k < n → P k → Q k) →
     ((k : ℕ) → k < n → Q k → P k) → IsLast P n r → IsLast Q n r
@@ -22,7 +22,7 @@ pub get_end : (xs : List ℕ) (x : ℕ) → get_or (xs ++ x ∷ []) (length xs) 
 get_end [] x = refl
 get_end (y ∷ ys) x = get_end ys x
 
--- one more entry, before which its bucket's last one stands
+-- one more entry, which comes after its bucket's last one
 module _ (first hs bs : List ℕ) (hash : ℕ) (h : AreLinked first hs bs) (same : length bs ≡ length hs)
     (lt : place_of (length first) hash < length first) where
   m : ℕ

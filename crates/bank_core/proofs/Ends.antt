@@ -31,7 +31,7 @@ at_end (z ∷ xs) x y (suc k) e =
       | inr a ↦ inr (ap suc a.0, a.1)
     ]
 
--- where no two places have the same item, one that is nowhere can be added
+-- if no two places have the same item, one that is nowhere can be added
 pub distinct_more : {X : Type 0} (xs : List X) (x : X) →
     ((j k : ℕ) (y : X) → slice_get xs j ≡ Some y → slice_get xs k ≡ Some y → j ≡ k) →
     ((k : ℕ) → slice_get xs k ≡ Some x → ⊥) → (j k : ℕ) (y : X) →

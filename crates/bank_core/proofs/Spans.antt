@@ -1,4 +1,4 @@
--- Spans of arguments, which stay where further arguments are added.
+-- Spans of arguments, which stay when further arguments are added.
 use Rattle.std.proofs.Common.{◌≡◌, ℕ, ◌+◌, ◌≤◌, List, [], ◌∷◌, ◌++◌, refl, ap, ◌∙◌, arith, map, length}
 use Rattle.std.proofs.Common.{length-append, length-drop, take, drop}
 use Rattle.std.specs.List.{AllByRecursion}

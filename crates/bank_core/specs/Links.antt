@@ -2,19 +2,19 @@
 use Rattle.std.specs.Prelude.{◌≡◌, ℕ, suc, ◌-◌, ◌<◌, ◌≤◌, List, length, slice_index}
 use Rattle.std.specs.Int.Bits.{bit_and}
 
--- the entry of this number has this hash
+-- the entry with this number has this hash
 abbrev pub HasHash : List ℕ → ℕ → ℕ → Type 0
 HasHash hashes hash k = slice_index hashes k ≡ hash
 
--- the bucket of a hash, where there are this many
+-- the bucket of a hash, if there are this many
 unfoldable pub place_of : ℕ → ℕ → ℕ
 place_of count hash = bit_and hash (count - 1)
 
--- the entry of this number is in this bucket
+-- the entry with this number is in this bucket
 abbrev pub IsIn : ℕ → List ℕ → ℕ → ℕ → Type 0
 IsIn count hashes place k = place_of count (slice_index hashes k) ≡ place
 
--- r is the number after that of the last of the numbers below n that have the property, or 0 where none has it
+-- r is the number after that of the last of the numbers below n that have the property, or 0 if none has it
 pub record IsLast (P : ℕ → Type 0) (n r : ℕ) : Type 0 where
   pub within : r ≤ n
   pub none : (k : ℕ) → r ≤ k → k < n → P k → ⊥

@@ -6,7 +6,7 @@ use std::alloc::Global;
 use std::marker::Model;
 use term_core::OutOfMemory;
 
-/// A head, and where its arguments stand.
+/// A head, and where its arguments are.
 #[derive(Clone, Copy)]
 struct Span<H> {
     head: H,

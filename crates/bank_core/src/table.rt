@@ -83,7 +83,7 @@ impl<H: Part, A: Part> Table<H, A> {
         None
     }
 
-    /// The place of the entry with this head and these arguments. It is added where none is the
+    /// The place of the entry with this head and these arguments. It is added if none is the
     /// same.
     #[inline(always)]
     pub fn add(&mut self, head: H, args: &[A]) -> Result<u32, OutOfMemory>

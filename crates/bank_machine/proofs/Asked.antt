@@ -61,7 +61,7 @@ goes_along k b (g ∷ gs) (x ∷ hs) [] h a = absurd a
 goes_along zero b (g ∷ gs) (x ∷ hs) (y ∷ us) h a = (h.0 ∙ a.0, h.1 ∙ ap (λ w. boolean w) a.1)
 goes_along (suc k) b (g ∷ gs) (x ∷ hs) (y ∷ us) h a = (h.0 ∙ a.0, h.1 ∙ a.1, goes_along k b gs hs us h.2 a.2)
 
--- of a whole group, where the first k guards are the same, the next one has the same test
+-- of a whole group, if the first k guards are the same, the next one has the same test
 pub same_test : {ms : List (ℕ × List Guard)} → Whole ms → (i j k : ℕ) (gs hs : List Guard) (g : Guard) → In (i, gs) ms → In (j, hs) ms → Agrees k gs hs → slice_get gs k ≡ Some g → (h : Guard) × (drop k hs ≡ h ∷ drop (suc k) hs) × (g.test ≡ h.test) × GoesOn k (boolean h.wanted) gs hs
 same_test w i j k [] hs g p q a at = absurd (let e : None ≡ Some g = at in cc)
 same_test (alone {k = l}) i j k (x ∷ gs) hs g (inl p) q a at = absurd (let e : (x ∷ gs) ≡ [] = ap (λ (y : ℕ × List Guard). y.1) p in cc)

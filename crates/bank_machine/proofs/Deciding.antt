@@ -1,4 +1,4 @@
--- Where a test has its answer, the rule that goes on does so with the first slots.
+-- If a test has its answer, the rule that goes on does so with the first slots.
 use Rattle.std.proofs.Common.{◌≡◌, ℕ, zero, suc, ◌+◌, ◌-◌, ◌<◌, ◌≤◌, List, [], ◌∷◌, ◌++◌, Option, Some, None, refl, ap, sym, ◌∙◌, subst, arith, length, length-drop, take, drop, get_or}
 use Rattle.std.specs.Prelude.{slice_get, reverse}
 use Rattle.std.specs.List.{AllByRecursion}

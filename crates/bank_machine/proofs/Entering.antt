@@ -1,4 +1,4 @@
--- Where a left side matches a call, a frame for the call is entered.
+-- If a left side matches a call, a frame for the call is entered.
 use Rattle.std.proofs.Common.{◌≡◌, ℕ, suc, ◌<◌, List, [], ◌∷◌, Some, refl, ap, sym, ◌∙◌, subst, arith, length, drop, get_or}
 use Rattle.std.specs.Prelude.{slice_get}
 use Rattle.std.specs.List.{AllByRecursion}
@@ -58,7 +58,7 @@ same_arity sig ctx dtx f ts us s u a b =
     let is : a.0 ≡ b.0 = cc in
     sorted_count sig ctx ts a.0.args a.3 ∙ ap (λ (i : SymInfo). length i.args) is ∙ sym (sorted_count sig dtx us b.0.args b.3)
 
--- the code of a rule's first block, whose variables stand in these slots
+-- the code of a rule's first block, whose variables are in these slots
 abbrev IsFirst : Sig → ℕ → Rule → List ℕ → ℕ → List Step → End → Type 0
 IsFirst sig number rule homes n steps end = IsNext sig homes number rule 0 n steps end
 

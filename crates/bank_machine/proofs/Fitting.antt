@@ -93,7 +93,7 @@ built_entries spec env [] h = tt
 built_entries spec env (x ∷ homes) h = (h 0 x refl, built_entries spec env homes (λ n y e. h (suc n) y e))
 
 module _ (spec : Spec) (fine : IsWellSorted spec) where
-  -- the code that follows where some guards hold
+  -- the code that follows if some guards hold
   next_fit : (homes : List ℕ) (number k : ℕ) (rule : Rule) (env xs : List Tree) (steps : List Step) (end : End) (s : SortId) → slice_get spec.rules number ≡ Some rule → Fills spec.sig homes env xs → IsNext spec.sig homes number rule k (length env) steps end → Sorted spec.sig [] (instance xs rule.left) s → IsFit spec env steps end s
   next_fit homes number k rule env xs steps end s listed fills (inl (e, body)) p = body_fit spec homes xs rule.right env steps end s body fills.holds (right_sorted spec.sig rule s xs (fine.rules number rule listed) p)
   next_fit homes number k rule env xs steps end s listed fills (inr (g, i, taken, at, codes, e)) p =

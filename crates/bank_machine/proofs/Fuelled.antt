@@ -79,7 +79,7 @@ module _ (p : Program) where
   most : ℕ
   most = most_guards p.spec.rules
 
-  -- a frame that is entered has at most so many moves
+  -- a frame that is entered has at most this many moves
   entered_moves : (sig : Sig) (homes : List ℕ) (number : ℕ) (rule : Rule) (n place : ℕ) (steps : List Step) (end : End) → IsNext sig homes number rule 0 n steps end → IsCodeAt p.code place steps end → block_moves (most_guards p.spec.rules) (suc (length p.code)) steps end < call_moves p + 1
   entered_moves sig homes number rule n place steps end h at =
       let b = behind_next (most_guards p.spec.rules) (suc (length p.code)) sig homes number rule 0 n steps end h in
@@ -106,7 +106,7 @@ module _ (p : Program) where
   stack_is : (cells : List Cell) (stack : Stack) (s : State) → IsAt p.code cells stack s → stack_moves p stack ≡ state_moves (most_guards p.spec.rules) (suc (length p.code)) s
   stack_is cells stack s at = omega (arith, block_is (most_guards p.spec.rules) (suc (length p.code)) p.code stack.next s.top.steps s.top.end at.code, frames_are (most_guards p.spec.rules) (suc (length p.code)) p.code cells stack.places stack.base (reverse stack.waiting) s.waiting at.waits)
 
-  -- the fuel falls where the machine moves
+  -- the fuel falls when the machine moves
   pub move_falls : (old new : List Cell) (before after : Stack) (s next : State) (left c : ℕ) → c ≤ left → IsAt p.code old before s → IsAt p.code new after next → Moves p.spec s c next → fuel p after (left - c) < fuel p before left
   move_falls old new before after s next left zero le a b m =
       let z : left - 0 ≡ left = omega arith in

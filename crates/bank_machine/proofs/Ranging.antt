@@ -14,7 +14,7 @@ use Rattle.bank_machine.specs.States.{State, Moves, builds, enters, enters_last,
 use Rattle.bank_machine.specs.Ranged.{AreThere, IsRanged, IsRangedState}
 
 module _ (rules : List Rule) (sig : Sig) (homes : List ℕ) where
-  -- behind the code of a term its slot is there, as all others, and the rest goes on
+  -- after the code of a term its slot is there, as all others, and the rest goes on
   pub record RangedAfter (next : ℕ) (steps : List Step) (s end : ℕ) : Type 0 where
     pub low : s < end
     pub le : next ≤ end

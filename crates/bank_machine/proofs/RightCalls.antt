@@ -31,7 +31,7 @@ no_values_more calls new one h e none i other known at value =
 pub says_nothing : (old new : KeptCalls) → HaveNoValues new.calls.items → SaysNoMore old new
 says_nothing old new h f ps known (i, one, at, is) = absurd (h i one known at is.value)
 
--- what is known of a call that stands in a place
+-- what is known of a call that is in a place
 pub says_known : (kept : KeptCalls) (i : ℕ) (one : KeptCall) (f : ℕ) (ps : List ℕ) → slice_get kept.calls.items i ≡ Some one → one.sym ≡ f → one.args.items ≡ ps → IfSome one.known (Says kept f ps)
 says_known kept i one f ps at a b = by one.known refl
   where
@@ -52,7 +52,7 @@ says_also old mid new place one f ps known before lt e is g qs other (i, two, at
       | inr apart ↦ inl (before g qs other (i, two, sym (set_other mid.calls.items place i one apart) ∙ there, k))
     ]
 
--- nothing is known any more of what stood in a place
+-- what was known of the call in a place is forgotten
 pub says_less : (old mid new : KeptCalls) (place : ℕ) (one : KeptCall) → SaysNoMore old mid → place < length mid.calls.items → new.calls.items ≡ set mid.calls.items place one → one.known ≡ None → SaysNoMore old new
 says_less old mid new place one before lt e none g qs other (i, two, at, k) =
     let there : slice_get (set mid.calls.items place one) i ≡ Some two = subst (λ xs. slice_get xs i ≡ Some two) e at in

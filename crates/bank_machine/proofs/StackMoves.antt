@@ -89,7 +89,7 @@ end_next code k [] end e h at =
 end_next code k (x ∷ xs) end e h at = absurd (ends_not e x (some_same (slice_get code k) (ends e) (does x) at h.0))
 
 module _ (p : Program) (old : List Cell) (before : Stack) (s : State) (sort : SortId) (w : Works p old before s sort) where
-  -- where a step is next
+  -- if a step is next
   module _ (st : Step) (there : slice_get p.code before.next ≡ Some (does st)) where
     next : StepNext p.code before.next s.top.steps s.top.end st
     next = step_next p.code before.next s.top.steps s.top.end st w.at.code there
@@ -103,7 +103,7 @@ module _ (p : Program) (old : List Cell) (before : Stack) (s : State) (sort : So
     step_pays : (left : ℕ) → Pays p left before s → Owes p.spec p.code (frame s.top.env (st ∷ next.rest) s.top.end) left (reverse before.waiting) s.waiting
     step_pays left pays = subst (λ steps. Owes p.spec p.code (frame s.top.env steps s.top.end) left (reverse before.waiting) s.waiting) next.is pays
 
-  -- where an end is next
+  -- if an end is next
   module _ (e : End) (there : slice_get p.code before.next ≡ Some (ends e)) where
     at_end : (s.top.steps ≡ []) × (s.top.end ≡ e)
     at_end = end_next p.code before.next s.top.steps s.top.end e w.at.code there
@@ -160,7 +160,7 @@ module _ (p : Program) (old : List Cell) (before : Stack) (s : State) (sort : So
         no_match_nothing p.spec s f (slots s.top.env ss) v n fine ready.1.function ready.1.built
         (λ k rule xs at is. found.by (entries s.top.env ss) ready.0 terms ready_args k rule xs at (is ∙ ap (λ z. app f z) (sym (slots_listed s.top.env ss)))) calls g
 
-    -- the arguments stand from this place on
+    -- the arguments are at the places from this one on
     pub call_at : (base : ℕ) (from : List ℕ) → base ≤ length from → AreTerms old (drop base from) (trees_of (entries s.top.env ss)) → IsCallAt p.spec old f base from
     call_at base from le terms = (entries s.top.env ss, ready.0, le, terms, ready_args)
 

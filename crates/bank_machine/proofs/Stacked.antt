@@ -1,4 +1,4 @@
--- How the stack changes where a slot is added, a call is entered and a frame returns.
+-- How the stack changes when a slot is added, a call is entered and a frame returns.
 use Rattle.std.proofs.Common.{◌≡◌, ℕ, zero, suc, ◌≤◌, List, [], ◌∷◌, ◌++◌, refl, ap, sym, ◌∙◌, subst, arith, length, length-append, take, drop}
 use Rattle.std.proofs.lemmas.List.{take-append-le, drop-append-le}
 use Rattle.term_core.specs.Tree.{Tree, trees_of}
@@ -55,7 +55,7 @@ module _ (cells : List Cell) (CodeAt : ℕ → List Step → End → Type 0) whe
         waits = waits_above stack (take base stack ++ p ∷ []) h.base held waiting e w.3;
       }
 
--- where the bank gets further cells, all stays
+-- when the bank gets further cells, all stays
 waits_kept : (old new : List Cell) (CodeAt : ℕ → List Step → End → Type 0) (stack : List ℕ) (base : ℕ) (hs : List Held) (fs : List Frame) → AddsCells old new → Waits old CodeAt stack base hs fs → Waits new CodeAt stack base hs fs
 waits_kept old new CodeAt stack base [] [] adds w = w
 waits_kept old new CodeAt stack base [] (f ∷ fs) adds w = absurd w

@@ -11,12 +11,12 @@ use Rattle.rule_code.specs.Programs.{Program}
 use Rattle.bank_machine.specs.Sound.{IsReady}
 use Rattle.bank_machine.specs.States.{Frame, Enters}
 
--- from `base` on stand the arguments of a call of the function with values
+-- the places from `base` on are those of the arguments of a call of the function with values
 abbrev pub IsCallAt : Spec → List Cell → ℕ → ℕ → List ℕ → Type 0
 IsCallAt spec cells f base places = (env : List Tree) × (s : SortId) × (base ≤ length places)
     × AreTerms cells (drop base places) (trees_of env) × IsReady spec f (trees_of env) s
 
--- a frame for the call, whose slots stand there and whose code begins at the place; or no left side matches
+-- a frame for the call, whose slots are there and whose code begins at the place; or no left side matches
 abbrev pub FoundBy : Program → List Cell → ℕ → ℕ → List ℕ → List Tree → Option ℕ → Type 0
 FoundBy p cells f base new env (Some place) = (entered : Frame)
     × Enters p.spec f (trees_of env) entered × AreTerms cells (drop base new) (trees_of entered.env)

@@ -13,9 +13,9 @@ abbrev pub most_guards : List Rule → ℕ
 most_guards [] = 0
 most_guards (r ∷ rs) = max (length r.guards) (most_guards rs)
 
--- where a rule has at most `most` guards, and a block at most `room` instructions
+-- if a rule has at most `most` guards, and a block at most `room` instructions
 module _ (most room : ℕ) where
-  -- the moves behind an end: a test leads to one with a higher number
+  -- the moves after an end: a test leads to one with a higher number
   abbrev pub behind : End → ℕ
   behind (slot s) = 0
   behind (last f ss) = 0
@@ -49,11 +49,11 @@ stack_moves p s = moves_from (most_guards p.spec.rules) (suc (length p.code)) (d
 abbrev pub call_moves : Program → ℕ
 call_moves p = suc (length p.code + most_guards p.spec.rules * suc (length p.code))
 
--- falls at each move, where so many uses of rules are left
+-- falls at each move, if this many uses of rules are left
 abbrev pub fuel : Program → Stack → ℕ → ℕ
 fuel p s left = left * call_moves p + stack_moves p s
 
--- the most cells that a run within the budget adds: the term, and then each use of a rule, runs through at most so many
--- instructions, of which each adds one cell at most
+-- the most cells that a run within the budget adds: the term, and then each use of a rule, runs through at most
+-- this many instructions, of which each adds one cell at most
 unfoldable pub most_added : Program → ℕ → ℕ
 most_added p budget = suc budget * (suc (length p.code) * suc (most_guards p.spec.rules))

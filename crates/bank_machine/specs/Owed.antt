@@ -13,8 +13,8 @@ use Rattle.bank_machine.specs.Stacks.{Stack}
 use Rattle.bank_machine.specs.States.{Frame, frame, State}
 
 module _ (spec : Spec) (code : List Instruction) where
-  -- the frame waits for the call of the function with these slots, and so much of the budget was left when it began. What
-  -- the top frame gives, the call gives at its cost and what was paid since then
+  -- the frame waits for the call of the function with these slots, and this much of the budget was left when it
+  -- began. What the top frame gives, the call gives at its cost and what was paid since then
   pub record IsOwed (top : Frame) (left : ℕ) (held : Held) (waits : Frame) (f : ℕ) (ss : List ℕ) :
       Type 0 where
     pub place : ℕ
@@ -25,7 +25,7 @@ module _ (spec : Spec) (code : List Instruction) where
     pub gives : (w : Tree) (n m : ℕ) → Does spec top.env top.steps top.end w n
         → m + left ≡ held.left + n → Gives spec (app f (slots waits.env ss)) w m
 
-  -- so it is for the first frame that waits, and for each other one, where the frame before it is as it was at its call
+  -- so it is for the first frame that waits, and for each other one, if the frame before it is as it was at its call
   abbrev pub Owes : Frame → ℕ → List Held → List Frame → Type 0
   Owes top left [] fs = Unit {0}
   Owes top left (h ∷ hs) [] = Unit {0}

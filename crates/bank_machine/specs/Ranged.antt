@@ -16,7 +16,7 @@ module _ (rules : List Rule) where
   IsRangedEnd n (decide s number k homes) =
       (s < n) × AreThere n homes × AreOwnHomes rules number n homes
 
-  -- where n slots are there, and each step adds one, the steps and the end look at slots that are there
+  -- if n slots are there, and each step adds one, the steps and the end look at slots that are there
   abbrev pub IsRanged : ℕ → List Step → End → Type 0
   IsRanged n [] end = IsRangedEnd n end
   IsRanged n (build f ss ∷ steps) end = AreThere n ss × IsRanged (suc n) steps end

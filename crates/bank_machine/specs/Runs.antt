@@ -16,7 +16,7 @@ use Rattle.bank_machine.specs.declared.answers.BankEval.{BankEval}
 use Rattle.bank_machine.specs.declared.answers.BankEval.TheVariants.{Value, Spent}
 use Rattle.bank_machine.specs.States.{State, state, StateGives, Runs}
 
--- the values stand at these places
+-- the values are at these places
 abbrev pub StandAt : List Cell → List ValueId → List Tree → Type 0
 StandAt cells ids values = AreTerms cells (map (λ (id : ValueId). id.0) ids) (trees_of values)
 
@@ -28,7 +28,7 @@ pub record CanRun (p : Program) (cells : List Cell) (side : ℕ) (ids : List Val
   pub built : AllByRecursion (λ (v : Tree). IsBuilt p.spec.sig v) values
   pub sorted : Sorted p.spec.sig [] (instance values term) sort
 
--- the term gives the value at this place at this cost, which is within the budget; or, where left sides don't overlap and
+-- the term gives the value at this place at this cost, which is within the budget; or, if left sides don't overlap and
 -- groups are whole, it gives no value at a cost within the budget
 abbrev pub IsBankEval : Spec → List Cell → Tree → ℕ → BankEval → Type 0
 IsBankEval spec cells t budget (Value id steps) =
@@ -36,7 +36,7 @@ IsBankEval spec cells t budget (Value id steps) =
 IsBankEval spec cells t budget Spent =
     NoOverlap spec → GroupsAreWhole spec → (v : Tree) (n : ℕ) → Gives spec t v n → n ≤ budget → ⊥
 
--- from the state the machine runs to its end; or, where left sides don't overlap and groups are whole, to a state that
+-- from the state the machine runs to its end; or, if left sides don't overlap and groups are whole, to a state that
 -- gives nothing for what is left of the budget
 abbrev pub Ran : Spec → List Cell → State → ℕ → BankEval → Type 0
 Ran spec cells s budget (Value id steps) = (env : List Tree) × (i : ℕ)

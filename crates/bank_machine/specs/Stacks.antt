@@ -31,7 +31,7 @@ abbrev pub gathered : List ℕ → ℕ → List ℕ → List ℕ
 gathered places base [] = []
 gathered places base (s ∷ ss) = slice_index places (base + s) ∷ gathered places base ss
 
--- the last frame that waits, which began to wait where so much was left, goes on with this place in its next slot; or
+-- the last frame that waits, which began to wait when this much was left, goes on with this place in its next slot; or
 -- none waits
 abbrev pub IsReturned : Stack → Stack → ℕ → Option ℕ → Type 0
 IsReturned old new place (Some left) = (rest : List Held) × (back : Held)

@@ -31,7 +31,7 @@ abbrev pub state : List Tree → List Step → End → List Frame → State
 state env steps end waiting = record { top = frame env steps end; waiting = waiting }
 
 module _ (spec : Spec) where
-  -- where the first waiting frame gets the value v, all of them give w at the cost
+  -- if the first waiting frame gets the value v, all of them give w at the cost
   abbrev pub Resumes : List Frame → Tree → Tree → ℕ → Type 0
   Resumes [] v w n = (w ≡ v) × (n ≡ 0)
   Resumes (f ∷ fs) v w n = (u : Tree) × (m : ℕ) × (k : ℕ)
@@ -42,7 +42,7 @@ module _ (spec : Spec) where
   StateGives s w n = (u : Tree) × (m : ℕ) × (k : ℕ) × Does spec s.top.env s.top.steps s.top.end u m
       × Resumes s.waiting u w k × (n ≡ m + k)
 
-  -- a frame for the call of f with these values: a rule matches them, its variables stand in slots, and the code of its
+  -- a frame for the call of f with these values: a rule matches them, its variables are in slots, and the code of its
   -- first test is under way, or that of its right side
   pub record Enters (f : ℕ) (vs : Trees) (entered : Frame) : Type 0 where
     pub number : ℕ
@@ -59,7 +59,7 @@ module _ (spec : Spec) where
     pub code : IsNext spec.sig homes number rule 0 (length entered.env) entered.steps entered.end
     pub own : AreOwnHomes spec.rules number (length entered.env) homes
 
-  -- a frame that goes on where the rule's test k has its answer in a slot: a rule with the same left side goes on with
+  -- a frame that goes on if the rule's test k has its answer in a slot: a rule with the same left side goes on with
   -- the answer, the variables' slots stay, and the code of its next test is under way, or that of its right side
   pub record Follows (env : List Tree) (s number k : ℕ) (homes : List ℕ) (entered : Frame) : Type 0
     where
@@ -100,7 +100,7 @@ module _ (spec : Spec) where
         → Moves (state env (call f ss ∷ steps) end waiting) c
         (state (env ++ v ∷ []) steps end waiting)
 
-  -- the next step, or the end where there is none, is the call of a function with these values
+  -- the next step, or the end if there is none, is the call of a function with these values
   abbrev pub CallsIn : List Tree → List Step → End → ℕ → Trees → Type 0
   CallsIn env [] (slot s) f vs = ⊥
   CallsIn env [] (decide s number k homes) f vs = ⊥
@@ -121,7 +121,7 @@ module _ (spec : Spec) where
       → next.left ≡ rule.left → GoesOn k (instance env (var s)) rule.guards next.guards → ⊥
   NoneGoesIn env (step ∷ steps) end = ⊥
 
-  -- no rule with the same left side goes on where the next move is the answer of a test
+  -- no rule with the same left side goes on if the next move is the answer of a test
   abbrev pub NoneGoesOn : State → Type 0
   NoneGoesOn s = NoneGoesIn s.top.env s.top.steps s.top.end
 

@@ -25,7 +25,7 @@ module _ (p : Program) where
   abbrev pub IsWorking : List Cell → Stack → Type 0
   IsWorking cells stack = (s : State) × (sort : SortId) × Works cells stack s sort
 
-  -- the same, where so much of the budget is left, and what is paid since each call began is part of its cost
+  -- the same, if this much of the budget is left, and what is paid since each call began is part of its cost
   abbrev pub IsUnderWay : List Cell → ℕ → Stack → Type 0
   IsUnderWay cells left stack =
       (s : State) × (sort : SortId) × Works cells stack s sort × Pays p left stack s
@@ -35,7 +35,7 @@ module _ (p : Program) where
   IsMoved cells left stack s cost = (next : State) × Moves p.spec s cost next
       × IsAt p.code cells stack next × Pays p (left - cost) stack next
 
-  -- a move whose cost is within what is left; the value's place, at the end of the last frame; or where left sides don't
+  -- a move whose cost is within what is left; the value's place, at the end of the last frame; or if left sides don't
   -- overlap and groups are whole, what the state gives costs more than what is left, if it gives anything
   abbrev pub Turns : List Cell → ℕ → Stack → State → Turn → Type 0
   Turns cells left stack s (Moved cost) = (cost ≤ left) × IsMoved cells left stack s cost

@@ -8,8 +8,8 @@ use term_core::OutOfMemory;
 use value_bank::Bank;
 
 impl<'a> Machine<'a> {
-    /// Finds the rule that matches the call whose arguments stand from `base` on. Then the slots of
-    /// its left side stand there, and the place is given where its code begins.
+    /// Finds the rule that matches the call whose arguments begin at `base`. Then the slots of
+    /// its left side are there, and the place is given where its code begins.
     pub(crate) fn find(
         &self,
         bank: &Bank,

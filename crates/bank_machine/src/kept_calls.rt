@@ -34,8 +34,8 @@ pub(crate) struct KeptCall {
 }
 
 impl KeptCall {
-    /// Another call takes the place of this one. Where its arguments find no room, nothing is known
-    /// of what stands there.
+    /// Another call takes the place of this one. If there is no room for its arguments, nothing is
+    /// known of the call in this place.
     fn replace(&mut self, sym: u32, args: &[u32], known: Known) -> Result<(), OutOfMemory>
         ensures kept { OnOk result (IsKept self.new sym args.now known) }
         ensures cleared { OnErr result (self.new.known ≡ None) }
@@ -50,7 +50,7 @@ impl KeptCall {
 }
 
 /// A table of calls whose values are known, over the bank in which their arguments and values have
-/// their places. It has a fixed size, and each call has one place in it, where the last call stands
+/// their places. It has a fixed size, and each call has one place in it, which holds the last call
 /// that was kept there: what isn't found is computed. It takes no memory before a call is kept.
 #[derive(Drop)]
 pub struct KeptCalls {

@@ -6,7 +6,7 @@ pub fn moves_are_right()
     ensures { MovesAreRight }
 {}
 
-/// What a state gives, the next state gives at what is left of the cost after the move, where left
+/// What a state gives, the next state gives at what is left of the cost after the move, if left
 /// sides don't overlap and groups are whole.
 pub fn moves_are_whole()
     ensures { MovesAreWhole }
@@ -17,29 +17,29 @@ pub fn at_its_end()
     ensures { AtItsEnd }
 {}
 
-/// Where a call is next, what the state gives costs at least one use of a rule.
+/// If a call is next, what the state gives costs at least one use of a rule.
 pub fn calls_cost()
     ensures { CallsCost }
 {}
 
-/// Where no left side matches the next call, the state gives nothing.
+/// If no left side matches the next call, the state gives nothing.
 pub fn no_match_gives_nothing()
     ensures { NoMatchGivesNothing }
 {}
 
-/// Where no rule goes on with the answer of a test, the state gives nothing.
+/// If no rule goes on with the answer of a test, the state gives nothing.
 pub fn none_goes_on_gives_nothing()
     ensures { NoneGoesOnGivesNothing }
 {}
 
-/// Where the code of a term runs to its end, the term gives the value of the slot at the cost of the
+/// If the code of a term runs to its end, the term gives the value of the slot at the cost of the
 /// run.
 pub fn run_gives()
     ensures { RunGives }
 {}
 
 /// What a term gives costs what a run from its code has cost so far, and what the state that it has
-/// come to gives costs, where left sides don't overlap and groups are whole.
+/// come to gives costs, if left sides don't overlap and groups are whole.
 pub fn run_is_whole()
     ensures { RunIsWhole }
 {}

@@ -54,7 +54,7 @@ impl<'a> Machine<'a> {
         })
     }
 
-    /// Compiles a term with so many variables, and gives the place of its code.
+    /// Compiles a term with this many variables, and gives the place of its code.
     pub fn with_term(
         self,
         alloc: Global,

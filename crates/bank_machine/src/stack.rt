@@ -53,7 +53,7 @@ impl Stack {
         Ok(())
     }
 
-    /// Adds a slot with this place, and goes on behind the step.
+    /// Adds a slot with this place, and goes on after the step.
     #[inline(always)]
     pub(crate) fn put(&mut self, place: u32) -> Result<(), OutOfMemory>
         requires { self.old.next + 1 < 2 ^ 64 }
@@ -66,7 +66,7 @@ impl Stack {
         Ok(())
     }
 
-    /// The frame waits behind the step, where so much of the budget is left, and one with these slots
+    /// The frame waits after the step with this much of the budget left, and one with these slots
     /// is on top.
     #[inline(always)]
     pub(crate) fn call(&mut self, args: &[u32], left: u32) -> Result<(), OutOfMemory>

@@ -73,7 +73,7 @@ impl<'a> Machine<'a> {
         Ok(Turn::Moved(0))
     }
 
-    /// Calls a function with the values of slots. Where the call's value is known, the frame goes on
+    /// Calls a function with the values of slots. If the call's value is known, the frame goes on
     /// with it.
     #[inline(always)]
     pub(crate) fn call(

@@ -1,6 +1,6 @@
 //! Reads a file's specification and counts its declarations, for the figures of `bench/run`.
 //!
-//! It stands on spec_syntax, and promises nothing beyond being safe.
+//! It uses spec_syntax, and promises nothing beyond being safe.
 #![tactic(auto)]
 
 use anyhow::{Result, bail};

@@ -8,7 +8,7 @@ use spec_core::Equation;
 use std::alloc::Global;
 use term_core::{Seq, SymId, Term, Terms};
 
-/// How many symbols stand above the constant of a side.
+/// How many symbols are above the constant of a side.
 const LEVELS: u32 = 12;
 
 /// The symbol of the towers. Its number is greater than those of the constants.
@@ -17,8 +17,8 @@ const TOWER: SymId = SymId(1000);
 /// The constant of a side that is above all others.
 const GREATEST: u32 = 999;
 
-/// Whether a clause of so many equations is greater than one that differs in all sides or in one,
-/// as 1 or 0, which is asked so many times.
+/// Whether a clause of `count` equations is greater than one that differs in all sides or in one,
+/// as 1 or 0. The answer is computed `times` times.
 pub fn compared(alloc: Global, count: u32, all_differ: bool, times: u32) -> Result<u64> {
     let sides = count.saturating_mul(2);
     let others = if all_differ { sides } else { 0 };
@@ -31,7 +31,7 @@ pub fn compared(alloc: Global, count: u32, all_differ: bool, times: u32) -> Resu
     Ok(u64::from(is_less))
 }
 
-/// A clause of so many conclusions and one more that has the constant `last` on its right side. The
+/// A clause of `count` conclusions. The last one has the constant `last` on its right side, and the
 /// constants of the others count from `start`.
 fn clause(alloc: Global, count: u32, start: u32, last: u32) -> Result<Clause>
     ensures { IfOk result (λ clause. SidesAreTestable clause) }
@@ -58,7 +58,7 @@ fn clause(alloc: Global, count: u32, start: u32, last: u32) -> Result<Clause>
     Ok(clause)
 }
 
-/// A constant under one symbol so many times.
+/// A constant under [`LEVELS`] times the symbol of the towers.
 fn tower(alloc: Global, constant: u32) -> Result<Term> {
     let mut term = Term::app(SymId(constant), Terms::new(alloc));
     for _level in 0..LEVELS {

@@ -1,7 +1,7 @@
 //! Normalizes the left side of a file's first goal, or compares two clauses without a file, for
 //! the figures of `bench/run`.
 //!
-//! It stands on spec_syntax, sort_check, path_order, clause_core and rewriting, and promises nothing
+//! It uses spec_syntax, sort_check, path_order, clause_core and rewriting, and promises nothing
 //! beyond being safe. The words are `normalize FILE BUDGET TIMES` or `compare
 //! one|all EQUATIONS TIMES`.
 #![tactic(auto)]
@@ -65,7 +65,7 @@ fn specification(alloc: Global, bytes: &[u8]) -> Result<Spec>
     }
 }
 
-/// How many uses the left side of the first goal's first conclusion takes, which is normalized so
+/// How many uses the left side of the first goal's first conclusion takes. It is normalized this
 /// many times.
 fn normalized(alloc: Global, spec: &Spec, budget: u32, times: u32) -> Result<u64>
     requires fine { IsWellSorted spec.now }

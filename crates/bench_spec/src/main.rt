@@ -73,13 +73,13 @@ fn searched_in(rt: &HostRuntime, file: &str, depth: u32, tries: u32) -> Result<u
     searched(alloc, &spec, depth, tries)
 }
 
-/// What is done with a file's text so many times.
+/// What is done with a file's text this many times.
 fn repeated_in(rt: &HostRuntime, mode: &str, file: &str, times: u32) -> Result<u64> {
     let bytes = fs::read(rt, file)?;
     repeated(rt.alloc(), mode, &bytes, times)
 }
 
-/// The evaluation of a term over a file's specification, so many times.
+/// The evaluation of a term over a file's specification, this many times.
 fn evaluated_in(rt: &HostRuntime, file: &str, term: &str, budget: u32, times: u32) -> Result<u64> {
     let alloc = rt.alloc();
     let bytes = fs::read(rt, file)?;
@@ -87,7 +87,7 @@ fn evaluated_in(rt: &HostRuntime, file: &str, term: &str, budget: u32, times: u3
     evaluated(alloc, &spec, term.as_bytes(), budget, times)
 }
 
-/// What is done with a text so many times.
+/// What is done with a text this many times.
 fn repeated(alloc: Global, mode: &str, bytes: &[u8], times: u32) -> Result<u64> {
     if mode == "sort" {
         return sorted(alloc, bytes, times);
@@ -132,7 +132,7 @@ fn specification(alloc: Global, bytes: &[u8]) -> Result<Spec>
     }
 }
 
-/// How many rules and goals a text's specification has, which is sorted so many times.
+/// How many rules and goals a text's specification has. It is sorted this many times.
 fn sorted(alloc: Global, bytes: &[u8], times: u32) -> Result<u64> {
     let raw = raw_specification(alloc, bytes)?;
     let mut count: u64 = 0;
@@ -160,7 +160,7 @@ fn searched(alloc: Global, spec: &Spec, depth: u32, tries: u32) -> Result<u64>
     Ok(total)
 }
 
-/// The cost of a term, which is evaluated so many times.
+/// The cost of a term. It is evaluated this many times.
 fn evaluated(alloc: Global, spec: &Spec, text: &[u8], budget: u32, times: u32) -> Result<u64>
     requires { IsWellSorted spec.now }
 {
@@ -181,7 +181,7 @@ fn evaluated(alloc: Global, spec: &Spec, text: &[u8], budget: u32, times: u32) -
     Ok(cost)
 }
 
-/// How many rules a specification has, whose left sides are compared so many times.
+/// How many rules a specification has. Their left sides are compared this many times.
 fn compared(alloc: Global, spec: &Spec, times: u32) -> Result<u64>
     requires { IsWellSorted spec.now }
 {
@@ -195,7 +195,7 @@ fn compared(alloc: Global, spec: &Spec, times: u32) -> Result<u64>
     Ok(spec.rules.len() as u64)
 }
 
-/// How many symbols have left sides that match all values, which is asked so many times.
+/// How many symbols have left sides that match all values. This is computed this many times.
 fn covered(alloc: Global, spec: &Spec, times: u32) -> Result<u64>
     requires { IsWellSorted spec.now }
 {
@@ -229,8 +229,8 @@ fn covered_functions(alloc: Global, spec: &Spec) -> Result<u64>
     Ok(count)
 }
 
-/// How many rules have a left side above their right side, which is asked so many times. The rules
-/// are gone through from another place in each turn, so that no answer can be kept.
+/// How many rules have a left side above their right side. This is computed this many times. Each
+/// turn goes through the rules from another place, so that no answer can be kept.
 fn ordered(spec: &Spec, times: u32) -> Result<u64> {
     let rules = spec.rules.as_slice();
     let mut count: u64 = 0;

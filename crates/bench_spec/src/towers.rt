@@ -78,7 +78,7 @@ fn one_argument(alloc: Global) -> Result<Seq<u8>, OutOfMemory>
     Ok(status)
 }
 
-/// Whether a left term is above the right one in some of so many turns.
+/// Whether a left term is above the right one in one of this many turns.
 fn some_is_greater<O: TermOrder>(order: &O, lefts: &[Term], right: &Term, times: u32) -> bool {
     let mut place: usize = 0;
     for _time in 0..times {
@@ -95,7 +95,7 @@ fn some_is_greater<O: TermOrder>(order: &O, lefts: &[Term], right: &Term, times:
     false
 }
 
-/// A term of about this size, most of its symbols this one, with ends of this number.
+/// A term of about this size, most of its symbols this one, whose ends have this number.
 fn shaped(
     alloc: Global,
     shape: &str,

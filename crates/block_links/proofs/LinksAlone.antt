@@ -42,7 +42,7 @@ module _
 abbrev link_of : Child → Child
 link_of d = record { clause = without_sides; relation = d.relation }
 
--- an item of a list stands at its place in the list of what is made of each
+-- an item of a list is at its place in the list of what is made of each
 pub there_mapped :
     {A B : Type 0} (f : A → B) (xs : List A) (k : ℕ) (x : A) → slice_get xs k ≡ Some x →
     slice_get (map f xs) k ≡ Some (f x)
@@ -50,7 +50,7 @@ there_mapped f [] k x at = absurd (let q : None ≡ Some x = at in cc)
 there_mapped f (y ∷ xs) zero x at = let q : Some y ≡ Some x = at in ap (λ z. Some (f z)) (cc)
 there_mapped f (y ∷ xs) (suc k) x at = there_mapped f xs k x at
 
--- and what stands there is made of one
+-- and what is there is made of one
 pub made_of :
     {A B : Type 0} (f : A → B) (xs : List A) (k : ℕ) (y : B) → slice_get (map f xs) k ≡ Some y →
     (x : A) × (slice_get xs k ≡ Some x) × (f x ≡ y)
@@ -117,7 +117,7 @@ module _ (made : List Children) where
       let there = subst (λ (x : Children). slice_get x.refs i ≡ Some d) (sym m.2) get in
       (m.0, i, d, m.1, there, rel, num)
 
-  -- a node is allowed where it is by its links
+  -- a node is allowed if it is by its links
   pub allowed_by_links : (k : ℕ) → NodeIsAllowed (map links_of made) k → NodeIsAllowed made k
   allowed_by_links = allowed_too (map links_of made) made child_there ref_there
 

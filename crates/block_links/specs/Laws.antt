@@ -5,7 +5,7 @@ use Rattle.acceptance.specs.Strict.{NodeIsAllowed}
 use Rattle.acceptance.specs.AllowedAnswers.{IsWholeBlock}
 use Rattle.block_links.specs.Links.{links_of}
 
--- by its links a node is allowed exactly where it is, and the links of a whole block are one
+-- by its links a node is allowed if and only if it is, and the links of a whole block are one
 pub record LinksDecide : Type 0 where
   pub allowed :
       (made : List Children) (k : ℕ) → NodeIsAllowed (map links_of made) k ↔ NodeIsAllowed made k

@@ -7,7 +7,7 @@ use Rattle.clause_core.specs.declared.answers.Children.{Children}
 abbrev pub without_sides : Clause
 without_sides = record { ctx = []; premises = []; conclusions = [] }
 
--- the relations of the children, which stand here without their clauses, and the references
+-- the relations of the children, which are here without their clauses, and the references
 abbrev pub links_of : Children → Children
 links_of made = record {
   clauses =

@@ -27,7 +27,7 @@ pub fn apart(alloc: Global, made: Children) -> Result<(Vec<Clause>, Children), O
     Ok((nodes, Children { clauses, refs }))
 }
 
-/// The clause that stands where one is left out: without variables, premises and conclusions.
+/// The clause in place of one that is left out: without variables, premises and conclusions.
 pub fn clause_without_sides(alloc: Global) -> Clause
     ensures { result ≡ without_sides }
 {

@@ -14,7 +14,7 @@ use Rattle.block_links.specs.Links.{links_of}
 use Rattle.block_steps.specs.declared.taken_steps.TakenSteps.{TakenSteps}
 
 module _ (above : Tree → Tree → Type 0) (spec : Spec) (usable : ℕ → Type 0) where
-  -- each node that is made can stand in a block, there are few, and each step has its own
+  -- each node that is made can be in a block, there are few, and each step has its own
   pub record AreFewNodes (taken : TakenSteps) : Type 0 where
     pub nodes : AreNodes spec.sig (clauses_of taken.nodes.items)
     pub few : length taken.nodes.items ≤ 10000
@@ -32,7 +32,7 @@ module _ (above : Tree → Tree → Type 0) (spec : Spec) (usable : ℕ → Type
       IsRefused above spec usable (clauses_of old.nodes.items) (length old.links.items) step why
   TakesStep old new step (Err no_memory) = Unit {0}
 
--- the last link is dropped, with as many nodes as it has children; where there is none, nothing is
+-- the last link is dropped, with as many nodes as it has children; if there is none, nothing is
 pub record TakesBack (old new : TakenSteps) : Type 0 where
   pub last :
       (links : List Children) (link : Children) → old.links.items ≡ links ++ link ∷ [] →

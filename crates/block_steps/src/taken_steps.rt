@@ -22,7 +22,7 @@ pub struct TakenSteps {
 }
 
 impl TakenSteps {
-    /// A block that begins with this clause, where no step is taken.
+    /// A block that begins with this clause, in which no step is taken.
     pub fn new(alloc: Global, start: Clause) -> Result<TakenSteps, OutOfMemory>
         ensures nodes { IfOk result (λ taken. clauses_of taken.nodes.items ≡ start ∷ []) }
         ensures links { IfOk result (λ taken. taken.links.items ≡ []) }

@@ -70,7 +70,7 @@ proves_not (Open budget) not h = h
 module _ (spec : Spec) where
   module _ (fine : IsWellSorted spec) (before : List Claim) (claim : Claim) (number : ℕ)
       (is : IsNumberOf spec claim.goal number) where
-    -- a goal of this number has the claim's name, and one of the name this number
+    -- a goal with this number has the claim's name, and one of the name this number
     its_name : (goal : Goal) → slice_get spec.goals number ≡ Some goal → claim.goal ≡ goal.name
     its_name goal at =
         sym is.2 ∙ ap (λ (g : Goal). g.name) (one_get spec.goals number number is.0 goal is.1 at refl)

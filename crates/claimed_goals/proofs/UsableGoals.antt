@@ -1,4 +1,4 @@
--- Where two words say the same of which goals may be used, by their numbers, steps make the same and are
+-- If two words say the same of which goals may be used, by their numbers, steps make the same and are
 -- refused for the same reasons.
 use Rattle.std.proofs.Common.{ℕ, suc, List, [], ◌∷◌, ◌++◌, inl, inr, take}
 use Rattle.std.specs.Prelude.{◌↔◌, Result, Ok, Err}

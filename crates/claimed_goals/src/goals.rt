@@ -12,7 +12,7 @@ use term_core::OutOfMemory;
 /// The goals that the claims so far are on, by their numbers.
 #[derive(Drop)]
 pub struct ClaimedGoals {
-    /// Whether a claim is on the goal of this number.
+    /// Whether a claim is on the goal with this number.
     pub claimed: Vec<bool>,
     /// The numbers of the goals that are proved.
     pub proved: Vec<u32>,
@@ -29,7 +29,7 @@ impl ClaimedGoals {
         })
     }
 
-    /// Whether a claim is on the goal of this number.
+    /// Whether a claim is on the goal with this number.
     pub fn is_claimed(&self, number: usize) -> bool
         requires { number < length self.now.claimed.items }
         ensures { result ≡ slice_index_or self.now.claimed.items number false }
@@ -37,7 +37,7 @@ impl ClaimedGoals {
         self.claimed[number]
     }
 
-    /// Counts a claim with this outcome on the goal of this number.
+    /// Counts a claim with this outcome on the goal with this number.
     pub fn add(&mut self, number: usize, outcome: &Outcome) -> Result<(), OutOfMemory>
         requires within { number < length self.old.claimed.items }
         requires small { number < 2 ^ 32 }

@@ -16,14 +16,14 @@ among_here e [] i d lt is h = absurd (omega arith)
 among_here e (x ∷ es) zero d lt is h = inl (subst (IsEither e) is h)
 among_here e (x ∷ es) (suc i) d lt is h = inr (among_here e es i d (omega arith) is h)
 
--- what is among the equations from a place on and isn't the one there is among the ones behind it
+-- what is among the equations from a place on and isn't the one there is among the ones after it
 pub among_later : (e : Equation) (es : List Equation) (i : ℕ) (d : Equation) → i < length es → d ≡ get_or es i d → (IsEither e d → ⊥) → Among e (drop i es) → Among e (drop (i + 1) es)
 among_later e [] i d lt is h a = absurd (omega arith)
 among_later e (x ∷ es) zero d lt is h (inl a) = absurd (h (subst (IsEither e) (sym is) a))
 among_later e (x ∷ es) zero d lt is h (inr a) = a
 among_later e (x ∷ es) (suc i) d lt is h a = rw add-one (rw add-one at (among_later e es i d (omega arith) is h a))
 
--- nothing is among the equations behind the last one
+-- nothing is among the equations after the last one
 pub among_none : (e : Equation) (es : List Equation) (i : ℕ) → length es ≤ i → Among e (drop i es) → ⊥
 among_none e [] zero past h = h
 among_none e [] (suc i) past h = h

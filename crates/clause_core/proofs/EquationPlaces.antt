@@ -1,5 +1,5 @@
--- An equation's place among its clause's is its number less one, and what stands round it is the
--- list before that place and the list behind it.
+-- An equation's place among its clause's is its number less one, and what is round it is the
+-- list before that place and the list after it.
 use Rattle.std.proofs.Common.{◌≡◌, ℕ, suc, ◌+◌, ◌-◌, ◌<◌, ◌≤◌, List, [], ◌∷◌, ◌++◌, length, take, drop, get_or, append_assoc, refl, ap, sym, ◌∙◌, arith}
 use Rattle.std.proofs.lemmas.List.{length-take, length-drop, take_all}
 use Rattle.term_core.proofs.Items.{parted_at}
@@ -15,7 +15,7 @@ length_parted : (xs : List Equation) (e : Equation) (ys : List Equation) → len
 length_parted [] e ys = omega arith
 length_parted (x ∷ xs) e ys = omega (arith, length_parted xs e ys)
 
--- an equation of a number stands within the list
+-- an equation of a number is within the list
 pub number_within : (own : List Equation) (number : ℕ) → EquationAt own number → (1 ≤ number) × (number ≤ length own)
 number_within own number at =
     let long : length own ≡ length (at.before ++ (at.equation ∷ at.after)) = ap (λ (es : List Equation). length es) at.is in
@@ -31,7 +31,7 @@ cut_before : (xs : List Equation) (e : Equation) (ys : List Equation) → (take 
 cut_before [] e ys = (refl, refl)
 cut_before (x ∷ xs) e ys = let r = cut_before xs e ys in (ap (λ zs. x ∷ zs) r.0, r.1)
 
--- what stands round the equation of a number
+-- what is round the equation of a number
 pub round_equation : (own : List Equation) (number : ℕ) (at : EquationAt own number) → (take (number - 1) own ≡ at.before) × (drop (number - 1 + 1) own ≡ at.after)
 round_equation own number at =
     let place : number - 1 ≡ length at.before = omega (arith, at.place) in

@@ -28,7 +28,7 @@ among_without k n (m ∷ ms) d = elim (eqb_tells m k) [
     other : m ≡ k → (m == n) ≡ false
     other p = elim (eqb_tells m n) [ inl q ↦ absurd (d (sym p ∙ q.1)) | inr q ↦ q.0 ]
 
--- meeting a number behind the first one
+-- meeting a number after the first one
 met_behind : (k n : ℕ) (ns : List ℕ) → met (k ∷ without k ns) n ≡ k ∷ without k (met ns n)
 met_behind k n ns = elim (eqb_tells k n) [
   | inl e ↦ (

@@ -16,7 +16,7 @@ module _ (c : Clause) (place : Place) (e : Equation) (at : EquationAt (equations
   same_equation : (p : TermAt c place) → p.at.equation ≡ e
   same_equation p = (equation_one (equations place.conclusion c) place.number p.at at).1 ∙ is
 
-  -- the term at the place stands at its path in the side of its equation
+  -- the term at the place is at its path in the side of its equation
   pub stands : (p : TermAt c place) → IsAt place.path (side place.left e) p.term
   stands p = subst (λ d. IsAt place.path (side place.left d) p.term) (same_equation p) (term_is_at c place p)
 

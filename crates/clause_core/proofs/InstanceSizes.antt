@@ -37,7 +37,7 @@ pub depth_of_instance :
     tree_depth (apply entries (app f (trees_of ts))) ≡ 1 + depths (trees_of (map (apply entries) ts))
 depth_of_instance entries f ts = ap (λ us. 1 + depths us) (apply_all-trees_of entries ts)
 
--- an equation's instance stands among those of its list
+-- an equation's instance is among those of its list
 pub instance_at :
     (entries : List (Option Tree)) (es : List Equation) (i : ℕ) (e : Equation) → i < length es → e ≡ get_or es i e →
     equation_instance entries e ≡ get_or (map (equation_instance entries) es) i (equation_instance entries e)

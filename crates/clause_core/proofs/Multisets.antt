@@ -76,7 +76,7 @@ has_member (x ∷ xs) h = (x, contained_in (x ∷ xs) x (inl refl))
 none_in_nil : {X : Type 0} (x : X) → Contains [] x → ⊥
 none_in_nil x i = in_contained [] x i
 
--- all members cancel where the lists have the same members
+-- all members cancel if the lists have the same members
 pub all_cancel : {X : Type 0} (xs ys : List X) → IsPermutation xs ys → AreRests xs ys [] []
 all_cancel xs ys p = record {
   common = xs;

@@ -35,7 +35,7 @@ nothing_is_not_whole : {ms : List (ℕ × List Guard)} → Whole ms → ms ≡ [
 nothing_is_not_whole alone e = cc
 nothing_is_not_whole (split test begins at_true at_false) e = nothing_is_not_whole at_true (ap (wanting true) e)
 
--- where one guard list wants a test true, and none wants it false
+-- if one guard list wants a test true, and none wants it false
 one_sided : {ms : List (ℕ × List Guard)} → Whole ms → (n : ℕ) (test : Tree) (gs : List Guard) → ms ≡ (n, record { test = test; wanted = true } ∷ gs) ∷ [] → ⊥
 one_sided (alone {k}) n test gs e =
     let g : Guard = record { test = test; wanted = true } in

@@ -20,7 +20,7 @@ pub goal_one : (spec : Spec) → IsWellSorted spec → (usable : ℕ → Type 0)
 goal_one spec fine usable name g h = one_get spec.goals g.number h.number g.goal h.goal g.is h.is (fine.names g.number h.number g.goal h.goal g.is h.is (g.named ∙ sym h.named))
 
 module _ (spec : Spec) (c : Clause) where
-  -- rows agree on an instance where they agree on what comes behind it
+  -- rows agree on an instance if they agree on what comes after it
   pub with_instance_one : (d e : Clause) → d ≡ e → (terms : List Tree) (rest : Clause → Row) → ((x y : Clause) → x ≡ y → Agree (rest x) (rest y)) → Agree (with_instance spec c d terms rest) (with_instance spec c e terms rest)
   with_instance_one d e p terms rest h = (
     forth (λ x. AreTermsFor spec c x terms) p,

@@ -19,7 +19,7 @@ use Rattle.clause_core.specs.Patterns.{IsPatternOf, AreCovering}
 use Rattle.clause_core.specs.Splitting.{covered_by, cover_row}
 use Rattle.clause_core.proofs.OneAnswer.{Agree, forth, back}
 
--- where one pattern is sorted over two contexts, a variable that stands in it has one sort
+-- if one pattern is sorted over two contexts, a variable that occurs in it has one sort
 mutual
   same_sorts : (sig : Sig) (a b : List SortId) (t : Tree) (s : SortId) → Sorted sig a t s → Sorted sig b t s → (n : ℕ) → In n (occurrences t) → slice_get a n ≡ slice_get b n
   same_sorts sig a b (var m) s p q n (inl e) = ap (λ k. slice_get a k) e ∙ p ∙ sym q ∙ ap (λ k. slice_get b k) (sym e)

@@ -24,12 +24,12 @@ split_at none k t at = absurd (let q : None ≡ Some t = at in cc)
 split_at (some u us) zero t at = let q : Some u ≡ Some t = at in let e : u ≡ t = cc in (none, us, (λ i. some (e i) us), refl)
 split_at (some u us) (suc k) t at = let r = split_at us k t at in (some u r.0, r.1, (let e : us ≡ around r.0 t r.1 = r.2 in λ i. some u (e i)), omega (arith, r.3))
 
--- what a context is round stands at its path
+-- what a context is round is at its path
 pub at_plug : (c : Context) (t : Tree) → IsAt (path_of c) (plug c t) t
 at_plug hole t = refl
 at_plug (under f before c after) t = (plug c t, (length (list_of before), refl, get_around before (plug c t) after), at_plug c t)
 
--- what stands at a path has a context round it
+-- what is at a path has a context round it
 pub context_at : (path : List ℕ) (t s : Tree) → IsAt path t s → (c : Context) × (t ≡ plug c s) × (path ≡ path_of c)
 context_at [] t s at = (hole, sym at, refl)
 context_at (n ∷ path) (var m) s at = absurd at
@@ -46,7 +46,7 @@ replaced_plug hole t new = refl
 replaced_plug (under f before c after) t new =
     (plug c t, plug c new, around before (plug c new) after, (length (list_of before), refl, get_around before (plug c t) after), replaced_plug c t new, (length (list_of before), refl, set_around before (plug c t) (plug c new) after), refl)
 
--- the term at a place stands at its path, and the place is there wherever a term stands at the path
+-- the term at a place is at its path, and the place is there wherever a term is at the path
 pub term_is_at : (c : Clause) (place : Place) (p : TermAt c place) → IsAt place.path (side place.left p.at.equation) p.term
 term_is_at c place p = subst (λ path. IsAt path (side place.left p.at.equation) p.term) (sym p.path) (subst (λ t. IsAt (path_of p.round) t p.term) (sym p.is) (at_plug p.round p.term))
 

@@ -27,7 +27,7 @@ place_later m n ms e = ap (λ b. cond (not b) (1 + place_of ms n) 0) e
 pub met_or_not : (olds : List ℕ) (n : ℕ) → Met olds n ⊎ (place_of olds n ≡ length olds)
 met_or_not olds n = grind (arith, prefix_len-le-length (λ m. not (m == n)) olds)
 
--- a number keeps its place where others are added
+-- a number keeps its place when others are added
 pub place_kept : (olds more : List ℕ) (n : ℕ) → Met olds n → place_of (olds ++ more) n ≡ place_of olds n
 place_kept [] more n h = absurd (omega (arith, h))
 place_kept (m ∷ ms) more n h = elim (eqb_tells m n) [
@@ -78,7 +78,7 @@ met_old olds n h = ap (λ b. cond b olds (olds ++ n ∷ [])) (any_met olds n h)
 pub met_new : (olds : List ℕ) (n : ℕ) → place_of olds n ≡ length olds → met olds n ≡ olds ++ n ∷ []
 met_new olds n h = ap (λ b. cond b olds (olds ++ n ∷ [])) (any_new olds n h)
 
--- what is met is added behind what was there
+-- what is met is added after what was there
 met_more : (olds : List ℕ) (n : ℕ) → (more : List ℕ) × (met olds n ≡ olds ++ more) × Met (olds ++ more) n
 met_more olds n = elim (met_or_not olds n) [
   | inl h ↦ ([], met_old olds n h ∙ sym (append-nil olds), still_met olds [] n h)
@@ -105,7 +105,7 @@ pub gathered-append : (olds ms ns : List ℕ) → gathered olds (ms ++ ns) ≡ g
 gathered-append olds [] ns = refl
 gathered-append olds (m ∷ ms) ns = gathered-append (met olds m) ms ns
 
--- renumbered terms stay the same where more variables are met
+-- renumbered terms stay the same when more variables are met
 mutual
   pub renumbered_kept :
       (t : Tree) (olds ns : List ℕ) →
@@ -175,7 +175,7 @@ renumbered_next start ts i t lt is olds news made pushed new o n m w p =
     p ∙ ap (λ us. us ++ new ∷ []) kept ∙ ap (λ u. map (renumbered news) (take i ts) ++ u ∷ []) w
     ∙ sym (map-append (renumbered news) (take i ts) (t ∷ [])) ∙ ap (λ us. map (renumbered news) us) (sym (taken_next ts i t lt is))
 
--- a list of which only the items before a place have changed has the old one there, and the old ones behind it
+-- a list of which only the items before a place have changed has the old one there, and the old ones after it
 pub next_left : {X : Type 0} (now before : List X) (i : ℕ) (d : X) → i < length now → i < length before → drop i now ≡ drop i before → get_or now i d ≡ get_or before i d
 next_left now before i d l m e =
     let q : get_or now i d ∷ drop (suc i) now ≡ get_or before i d ∷ drop (suc i) before = sym (drop-cons now i d l) ∙ e ∙ drop-cons before i d m in cc

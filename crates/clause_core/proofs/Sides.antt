@@ -17,7 +17,7 @@ pub sides_next :
     sides_of (take (i + 1) es) ≡ sides_of (take i es) ++ e.left ∷ e.right ∷ []
 sides_next es i e lt is = ap sides_of (taken_next es i e lt is) ∙ sides_append (take i es) (e ∷ [])
 
--- the first equation's sides stand before those of the others
+-- the first equation's sides come before those of the others
 pub front_sides :
     (es : List Equation) (e : Equation) → 1 ≤ length es → e ≡ get_or es 0 e →
     sides_of es ≡ e.left ∷ e.right ∷ sides_of (take (length es - 1) (drop 1 es))

@@ -25,7 +25,7 @@ not_zero s (u ∷ us) m = let q : ◌≡◌ {A = List ℕ} (1 ∷ []) (0 ∷ ran
 all_covered : AreCovering naturals_sig nat (var 0 ∷ [])
 all_covered v h = (0, var 0, omega arith, refl, (v ∷ [], refl))
 
--- a term is no larger than what it stands in
+-- a term is no larger than what it occurs in
 size_around : (before : Trees) (t : Tree) (after : Trees) → tree_size t ≤ sizes (around before t after)
 size_around none t after = omega arith
 size_around (some b before) t after = omega (arith, size_around before t after)

@@ -1,4 +1,4 @@
--- Terms are numbered by first occurrence where each variable is met in its turn.
+-- Terms are numbered by first occurrence if each variable is met in its turn.
 use Rattle.std.proofs.Common.{◌≡◌, ◌↔◌, ℕ, List, [], ◌∷◌, ◌++◌, Option, Some, None, inl, inr, refl, ap, sym, ◌∙◌, length, true, false, IsTrue, eqb, arith}
 use Rattle.std.specs.Option.{option_eq}
 use Rattle.std.proofs.lemmas.Bool.{eq-eqb}
@@ -14,13 +14,13 @@ pub taken_append : (taken : Option ℕ) (ms ns : List ℕ) → taken_after taken
 taken_append taken [] ns = refl
 taken_append taken (m ∷ ms) ns = taken_append (taken_with taken m) ms ns
 
--- numbers are taken only where some were before
+-- numbers are taken only if some were before
 some_before : (taken : Option ℕ) (ns : List ℕ) (m : ℕ) → taken_after taken ns ≡ Some m → (k : ℕ) × (taken ≡ Some k)
 some_before (Some k) ns m h = (k, refl)
 some_before None [] m h = absurd (let q : None ≡ Some m = h in cc)
 some_before None (n ∷ ns) m h = some_before None ns m h
 
--- a variable in its turn, and what is taken where one was
+-- a variable in its turn, and what is taken if one was
 turn_taken : (k m n : ℕ) → Numbered k (var n) m → taken_with (Some k) n ≡ Some m
 turn_taken k m n h = grind (arith, nat_tests, h)
 
@@ -54,12 +54,12 @@ mutual
 pub taken_tidied : (c : Clause) → (taken_after (Some 0) (occurrences_all (trees_of (sides c))) ≡ Some (length c.ctx)) ↔ IsTidied c
 taken_tidied c = (λ h. trees_in_turn (trees_of (sides c)) 0 (length c.ctx) h, λ h. trees_taken (trees_of (sides c)) 0 (length c.ctx) h)
 
--- the test whether so many numbers are taken
+-- the test whether this many numbers are taken
 pub same_taken : (taken : Option ℕ) (n : ℕ) → IsTrue (option_eq eqb taken (Some n)) ↔ (taken ≡ Some n)
 same_taken None n = (λ h. cc, λ e. cc)
 same_taken (Some m) n = (λ h. elim (eqb_tells m n) [ inl e ↦ ap (λ k. Some k) e.1 | inr e ↦ absurd (let q : false ≡ true = sym e.0 ∙ h in cc) ], λ e. eq-eqb m n (let q : Some m ≡ Some n = e in cc))
 
--- nothing is taken where a variable of the term isn't met in its turn
+-- nothing is taken if a variable of the term isn't met in its turn
 pub none_taken :
     (t : Tree) (k : ℕ) → ((m : ℕ) → Numbered k t m → ⊥) →
     taken_after (Some k) (occurrences t) ≡ None

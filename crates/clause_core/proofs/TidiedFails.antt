@@ -1,4 +1,4 @@
--- A tidied clause fails where the clause does.
+-- A tidied clause fails if the clause does.
 use Rattle.std.proofs.Common.{◌≡◌, ℕ, zero, suc, List, [], ◌∷◌, ◌++◌, Some, None, inl, inr, refl, ap, sym, subst, map}
 use Rattle.std.specs.Prelude.{slice_get, slice_index_or}
 use Rattle.std.specs.List.{AllByRecursion}

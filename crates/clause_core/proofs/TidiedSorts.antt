@@ -1,4 +1,4 @@
--- Tidied clauses are sorted where the clauses are.
+-- Tidied clauses are sorted if the clauses are.
 use Rattle.std.proofs.Common.{◌≡◌, ℕ, zero, suc, ◌+◌, List, [], ◌∷◌, ◌++◌, not, cond, Some, None, inl, inr, map, length, refl, ap, sym, ◌∙◌, subst, arith}
 use Rattle.std.specs.Prelude.{slice_get, slice_index_or}
 use Rattle.std.specs.List.{AllByRecursion}
@@ -34,7 +34,7 @@ mutual
 pub variables_met : (c : Clause) (n : ℕ) → OccursAny n (trees_of (sides c)) → Met (variables_of c) n
 variables_met c n o = subst (λ os. Met os n) (gathered_firsts (occurrences_all (trees_of (sides c)))) (any_occurring_met (trees_of (sides c)) [] n o)
 
--- what stands at the place of a number that was met
+-- what is at the place of a number that was met
 pub at_place : {X : Type 0} (f : ℕ → X) (olds : List ℕ) (n : ℕ) → Met olds n → slice_get (map f olds) (place_of olds n) ≡ Some (f n)
 at_place f [] n h = absurd (omega (arith, h))
 at_place f (m ∷ ms) n h = elim (eqb_tells m n) [

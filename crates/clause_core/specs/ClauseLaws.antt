@@ -17,13 +17,13 @@ pub record TidyingLaws : Type 0 where
   pub is_tidied : (c : Clause) → IsTidied (tidied c)
   -- and tidying leaves it as it is
   pub stays : (c : Clause) → IsTidied c → tidied c ≡ c
-  -- it is within the limits where the clause is
+  -- it is within the limits if the clause is
   pub keeps_limits : (c : Clause) → IsWithin (tidied c) ↔ IsWithin c
-  -- it is sorted where the clause is
+  -- it is sorted if the clause is
   pub keeps_sorts :
       (sig : Sig) (c : Clause) → IsDeclared sig → ClauseIsSorted sig c →
       ClauseIsSorted sig (tidied c)
-  -- and fails where the clause does, under the values of the variables that stay
+  -- and fails if the clause does, under the values of the variables that stay
   pub keeps_failing :
       (spec : Spec) (c : Clause) (values : List Tree) →
       ClauseIsSorted spec.sig c → ClauseFails spec c values →

@@ -37,7 +37,7 @@ pub record ClosingExamples : Type 0 where
   pub equal_heads : SaysAlone naturals (denies two (equals (succ_term (var 0)) (succ_term (var 1))))
       (Absurd 1) (Err DoesNotFit)
   -- => plus(?0, zero) = ?0 isn't an instance of ?0 = zero => plus(?0, zero) = ?0, whose premise isn't
-  -- there; this is one of it where its premise is there, swapped
+  -- there; this is one of it if its premise is there, swapped
   pub without_premise : SaysBehind unit_where_zero unit_clause (Subsume 0 (var 0 ∷ []))
       (Err DoesNotFit)
   pub with_premise : SaysBehind unit_where_zero unit_where_zero_swapped (Subsume 0 (var 0 ∷ []))
@@ -47,6 +47,6 @@ pub record ClosingExamples : Type 0 where
   -- => plus(succ(?0), zero) = succ(?0) is an instance of the goal `unit`, whose number is 1
   pub by_goal : SaysWithGoal 1 (claims one (unit_of (succ_term (var 0))))
       (ByLemma (codes "unit") (succ_term (var 0) ∷ [])) (gives [] [])
-  -- where the goal 0 alone may be used, this one may not
+  -- if the goal 0 alone may be used, this one may not
   pub by_other_goal : SaysWithGoal 0 (claims one (unit_of (succ_term (var 0))))
       (ByLemma (codes "unit") (succ_term (var 0) ∷ [])) (Err NotProvedBefore)

@@ -7,7 +7,7 @@ use Rattle.clause_core.specs.declared.clauses.Relation.TheVariants.{Less, Same, 
 use Rattle.clause_core.specs.Clauses.{sides}
 use Rattle.clause_core.specs.Multisets.{Exceeds}
 
--- comparing the first multiset with the second: Same where they are equal, Less where the first is
+-- comparing the first multiset with the second: Same if they are equal, Less if the first is
 -- greater, else Neither
 abbrev pub MultisetsCompare : (Tree → Tree → Type 0) → List Tree → List Tree → Relation → Type 0
 MultisetsCompare above xs ys Same = IsPermutation xs ys

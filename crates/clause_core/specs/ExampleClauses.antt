@@ -40,18 +40,18 @@ unit_clause = claims one (unit_of (var 0))
 abbrev pub conclusion_side : Bool → List ℕ → Place
 conclusion_side left path = record { conclusion = true; number = 1; left = left; path = path }
 
--- no goal may be used as a lemma, and that of this number alone
+-- which goals may be used as lemmas: none, or only the goal with this number
 abbrev pub no_goal : ℕ → Type 0
 no_goal number = ⊥
 
 abbrev pub only_goal : ℕ → ℕ → Type 0
 only_goal k number = number ≡ k
 
--- what a step says at the only node of a block, where no goal may be used
+-- what a step says at the only node of a block, if no goal may be used
 abbrev pub SaysAlone : Spec → Clause → Step → Result Children Why → Type 0
 SaysAlone spec c step answer = Says AboveInSums c (c ∷ []) (row_of spec no_goal (c ∷ []) c step) answer
 
--- over naturals, what it says there where the goal of this number may be used
+-- over naturals, what it says there if the goal with this number may be used
 abbrev pub SaysWithGoal : ℕ → Clause → Step → Result Children Why → Type 0
 SaysWithGoal k c step answer =
     Says AboveInSums c (c ∷ []) (row_of naturals (only_goal k) (c ∷ []) c step) answer

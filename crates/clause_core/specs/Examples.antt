@@ -46,13 +46,13 @@ one_sided_rule = record {
 pub record WorkedExamples : Type 0 where
   -- naturals with addition are admitted by the order of sums
   pub naturals_are_admitted : IsAdmitted AboveInSums naturals
-  -- they aren't where a variable occurs twice on a left side
+  -- they aren't if a variable occurs twice on a left side
   pub repeating_is_not : IsAdmitted AboveInSums (with_rule repeating_rule) → ⊥
-  -- nor where a right side isn't below its left side
+  -- nor if a right side isn't below its left side
   pub looping_is_not : IsAdmitted AboveInSums (with_rule looping_rule) → ⊥
   -- nor with the rules plus(zero, y) = y and plus(x, y) = x, which match the same values
   pub overlapping_is_not : IsAdmitted AboveInSums overlapping → ⊥
-  -- nor where no rule takes over when a test has the other answer
+  -- nor if no rule takes over when a test has the other answer
   pub one_sided_is_not : IsAdmitted AboveInSums (with_rule one_sided_rule) → ⊥
   -- nor with the rule plus(zero, y) = y alone
   pub uncovered_is_not : IsAdmitted AboveInSums uncovered → ⊥

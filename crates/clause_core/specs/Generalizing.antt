@@ -18,7 +18,7 @@ abbrev pub IsGeneral : Sig → List SortId → Tree → SortId → Type 0
 IsGeneral sig ctx (var n) s = ⊥
 IsGeneral sig ctx (app f ts) s = Sorted sig ctx (app f ts) s
 
--- the term stands somewhere in the clause
+-- the term occurs somewhere in the clause
 abbrev pub StandsIn : Tree → Clause → Type 0
 StandsIn t c = (s : Tree) × (round : Context) × Contains (sides c) s × (plug round t ≡ s)
 

@@ -6,7 +6,7 @@ use Rattle.term_core.specs.declared.ids.SortId.{SortId}
 use Rattle.clause_core.specs.declared.clauses.Clause.{Clause}
 use Rattle.clause_core.specs.ClauseInstances.{clause_instance}
 
--- so many variables, from a number on
+-- this many variables, from a number on
 abbrev pub variables : ℕ → ℕ → List Tree
 variables from count = map (λ n. var n) (range_with_len from count)
 

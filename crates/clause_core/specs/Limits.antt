@@ -4,7 +4,7 @@ use Rattle.term_core.specs.Tree.{trees_of, sizes, depths}
 use Rattle.clause_core.specs.declared.clauses.Clause.{Clause}
 use Rattle.clause_core.specs.Clauses.{sides}
 
--- the sum of the sizes of the sides, and the greatest of their depths, or 0 where there is no side
+-- the sum of the sizes of the sides, and the greatest of their depths, or 0 if there is no side
 abbrev pub clause_size : Clause → ℕ
 clause_size c = sizes (trees_of (sides c))
 

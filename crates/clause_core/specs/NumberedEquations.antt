@@ -3,7 +3,7 @@ use Rattle.std.specs.Prelude.{◌≡◌, ℕ, ◌+◌, List, ◌∷◌, ◌++◌
 use Rattle.spec_core.specs.declared.records.Equation.{Equation}
 use Rattle.clause_core.specs.declared.clauses.Clause.{Clause}
 
--- the equation of this number in a list, with what stands before it and behind it
+-- the equation with this number in a list, with what comes before it and after it
 pub record EquationAt (own : List Equation) (number : ℕ) : Type 0 where
   pub before : List Equation
   pub equation : Equation
@@ -11,7 +11,7 @@ pub record EquationAt (own : List Equation) (number : ℕ) : Type 0 where
   pub is : own ≡ before ++ (equation ∷ after)
   pub place : number ≡ length before + 1
 
--- the conclusions where true, the premises where false
+-- the conclusions if true, the premises if false
 abbrev pub equations : Bool → Clause → List Equation
 equations true c = c.conclusions
 equations false c = c.premises

@@ -9,7 +9,7 @@ use Rattle.spec_core.specs.Sorts.{Sorted, IsValue}
 use Rattle.spec_core.specs.WellSorted.{IsPattern}
 
 -- a constructor term of the sort, whose variables have these sorts; they are numbered from 0 on, and
--- each stands once
+-- each occurs once
 pub record IsPatternOf (sig : Sig) (sort : SortId) (ctx : List SortId) (p : Tree) : Type 0 where
   pub sorted : Sorted sig ctx p sort
   pub pattern : IsPattern sig p

@@ -7,7 +7,7 @@ use Rattle.clause_core.specs.declared.clauses.Clause.{Clause}
 use Rattle.clause_core.specs.declared.steps.Place.{Place}
 use Rattle.clause_core.specs.NumberedEquations.{EquationAt, equations, exchanged}
 
--- the left side where true, the right one where false
+-- the left side if true, the right one if false
 abbrev pub side : Bool → Equation → Tree
 side true e = e.left
 side false e = e.right

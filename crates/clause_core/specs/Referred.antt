@@ -19,7 +19,7 @@ pub record NodeAt (nodes : List Clause) (number : ℕ) : Type 0 where
   pub clause : Clause
   pub is : slice_get nodes number ≡ Some clause
 
--- a goal of this name that may be used, where some goals may by their numbers
+-- a goal of this name that may be used, if some goals may by their numbers
 pub record UsableGoal (spec : Spec) (usable : ℕ → Type 0) (name : List ℕ) : Type 0 where
   pub number : ℕ
   pub goal : Goal

@@ -39,7 +39,7 @@ pub record ReplacingExamples : Type 0 where
   pub by_premise : SaysAlone naturals (implies one (unit_of (var 0)) succ_sides)
       (Context first_argument 1 true) (gives (less (implies one (unit_of (var 0)) same_succ) ∷ [])
       [])
-  -- its right side doesn't stand at that place
+  -- its right side isn't at that place
   pub not_by_premise : SaysAlone naturals (implies one (unit_of (var 0)) succ_sides)
       (Context first_argument 1 false) (Err DoesNotFit)
   -- in the premise itself it makes ?0 = ?0

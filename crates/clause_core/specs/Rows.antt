@@ -10,7 +10,7 @@ pub data Made : Type 0 where
   child : Relation → Clause → Made
   compared_child : Clause → Made
 
--- conditions in their order, each with the reason for which the step isn't defined where it isn't
+-- conditions in their order, each with the reason for which the step isn't defined if it isn't
 -- met, and then the children and the references that are made, each reference with the instance of
 -- its node
 pub data Row : Type 1 where

@@ -8,7 +8,7 @@ use Rattle.spec_core.specs.declared.records.Rule.{Rule}
 use Rattle.spec_core.specs.declared.records.Spec.{Spec}
 use Rattle.spec_core.specs.Gives.{boolean}
 
--- the rule of this number, where the first one has the number 1
+-- the rule with this number, where the first one has the number 1
 pub record RuleAt (spec : Spec) (number : ℕ) : Type 0 where
   pub place : ℕ
   pub rule : Rule

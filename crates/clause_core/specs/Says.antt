@@ -18,7 +18,7 @@ abbrev pub AreWithin : List Clause → List Child → Type 0
 AreWithin nodes children = AllByRecursion (λ (d : Child). IsWithin d.clause) children
     × (length nodes + length children ≤ 10000)
 
--- the answer is what is made, or where that passes a limit it is this reason
+-- the answer is what is made, or if that passes a limit it is this reason
 abbrev pub AnswersWithin : List Clause → Children → Result Children Why → Type 0
 AnswersWithin nodes made answer =
     (AreWithin nodes made.clauses × (answer ≡ Ok made))

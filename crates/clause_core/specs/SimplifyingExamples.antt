@@ -39,7 +39,7 @@ pub record SimplifyingExamples : Type 0 where
   })
       (Clash 1) (gives (less same_x ∷ []) [])
   pub equal_heads : SaysAlone naturals (claims two both_succ) (Clash 1) (Err DoesNotFit)
-  -- succ(?0) = succ(?1) => ?1 = zero becomes => ?0 = zero where the premise is dropped
+  -- succ(?0) = succ(?1) => ?1 = zero becomes => ?0 = zero if the premise is dropped
   pub drops : SaysAlone naturals (implies two both_succ (equals (var 1) zero_term)) (Drop false 1)
       (gives (less (claims one (equals (var 0) zero_term)) ∷ []) [])
   -- ?0 = succ(?1) => plus(?0, ?1) = ?0 becomes => plus(succ(?0), ?0) = succ(?0)

@@ -21,7 +21,7 @@ pub record SplittingExamples : Type 0 where
   -- => plus(plus(?0, ?1), zero) = plus(?0, ?1) generalized by plus(?0, ?1) is => plus(?0, zero) = ?0
   pub generalizes : SaysAlone naturals (claims two (unit_of (plus_term (var 0) (var 1))))
       (Generalize (plus_term (var 0) (var 1))) (gives (same unit_clause ∷ []) [])
-  -- a variable isn't generalized, nor is plus(?0, succ(zero)), which doesn't stand there
+  -- a variable isn't generalized, nor is plus(?0, succ(zero)), which isn't there
   pub not_by_a_variable : SaysAlone naturals unit_clause (Generalize (var 0)) (Err Sort)
   pub not_there : SaysAlone naturals unit_clause
       (Generalize (plus_term (var 0) (succ_term zero_term))) (Err DoesNotFit)

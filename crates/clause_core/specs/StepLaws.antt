@@ -23,7 +23,7 @@ OneAnswer above =
     Says above c nodes (row_of spec (Contains numbers) nodes c step) a →
     Says above c nodes (row_of spec (Contains numbers) nodes c step) b → a ≡ b
 
--- a place by a context is one by a path: the same terms stand there, and the same is made where a
+-- a place by a context is one by a path: the same terms are there, and the same is made when a
 -- term is exchanged
 pub record PlacesAgree (c : Clause) (place : Place) : Type 0 where
   pub stands : (p : TermAt c place) → IsAt place.path (side place.left p.at.equation) p.term

@@ -1,7 +1,7 @@
 -- Variables that are met in the order of their numbers, and how many numbers they take.
 use Rattle.std.specs.Prelude.{ℕ, suc, ◌==◌, nat_lt, List, [], ◌∷◌, Option, Some, None, if◌then◌else◌}
 
--- the numbers taken with this variable, where so many were taken before it. There is none where
+-- the numbers taken with this variable, if this many were taken before it. There is none if
 -- one was left out
 abbrev pub taken_with : Option ℕ → ℕ → Option ℕ
 taken_with None n = None

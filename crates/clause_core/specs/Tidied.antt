@@ -35,7 +35,7 @@ module _ (olds : List ℕ) where
   abbrev pub renumbered_equation : Equation → Equation
   renumbered_equation e = record { left = renumbered e.left; right = renumbered e.right }
 
--- the sorts of the variables of the list. Each variable of a sorted clause has one: `Bool` stands
+-- the sorts of the variables of the list. Each variable of a sorted clause has one. `Bool` stands
 -- for none
 abbrev pub sorts_at : List SortId → List ℕ → List SortId
 sorts_at ctx olds = map (λ n. slice_index_or ctx n bool_sort) olds
@@ -48,7 +48,7 @@ tidied c = record {
   conclusions = map (renumbered_equation (variables_of c)) c.conclusions;
 }
 
--- the clause, tidied, where that is within the limits of a clause in a proof, and else none
+-- the clause, tidied, if that is within the limits of a clause in a proof, and else none
 abbrev pub IsTidiedWithin : Clause → Option Clause → Type 0
 IsTidiedWithin c answer =
     MatchOption answer (IsWithin (tidied c) → ⊥) (λ made. (made ≡ tidied c) × IsWithin made)

@@ -8,11 +8,11 @@ use term_core::{OutOfMemory, Seq};
 /// Why a step isn't defined at a node: the first condition of its row that isn't met.
 #[derive(Clone, Copy, Debug, PartialEq, Eq)]
 pub enum Why {
-    /// No node of this number is made so far.
+    /// No node with this number is made so far.
     NoSuchNode,
     /// The clause has no such premise or conclusion, or its side has no such subterm.
     NoSuchPlace,
-    /// The specification has no rule of this number.
+    /// The specification has no rule with this number.
     NoSuchRule,
     /// The equations or terms aren't of the form that the step asks for.
     DoesNotFit,

@@ -58,7 +58,7 @@ fn sides<'a>(alloc: Global, clause: &'a Clause) -> Result<Vec<&'a Term>, OutOfMe
     Ok(made)
 }
 
-/// Adds the sides of the equations. Where memory runs out, some of them may have been added.
+/// Adds the sides of the equations. If memory runs out, some of them may have been added.
 fn push_sides<'a>(made: &mut Vec<&'a Term>, equations: &'a [Equation]) -> Result<(), OutOfMemory>
     ensures { OnOk result
         (terms_of made.new.items ≡ terms_of made.old.items ++ sides_of equations.now) }

@@ -50,7 +50,7 @@ pub fn copy_equations(alloc: Global, equations: &[Equation]) -> Result<Vec<Equat
 }
 
 impl Clause {
-    /// The conclusions where true, the premises where false.
+    /// The conclusions if true, the premises if false.
     pub fn equations(&self, conclusion: bool) -> &[Equation]
         ensures { result.now ≡ equations_of conclusion self.now }
     {
@@ -61,7 +61,7 @@ impl Clause {
         }
     }
 
-    /// The conclusion (true) or premise of this number, which counts from 1.
+    /// The conclusion (true) or premise with this number, which counts from 1.
     pub fn equation(&self, conclusion: bool, number: u16) -> Option<&Equation>
         ensures { MatchOption result (EquationAt (equations_of conclusion self.now) number → ⊥)
             (λ e. (at : EquationAt (equations_of conclusion self.now) number)
@@ -98,7 +98,7 @@ impl Clause {
         })
     }
 
-    /// A copy with these equations in the place of the conclusion (true) or premise of this number.
+    /// A copy with these equations in place of the conclusion (true) or premise with this number.
     pub fn exchanged(
         &self,
         alloc: Global,

@@ -34,7 +34,7 @@ pub fn instance_within(clause: &Clause, theta: &Subst) -> bool
     first.max(second) <= MOST_LEVELS
 }
 
-/// The sum of the sizes of the instances of the sides, or `cap` where that is less.
+/// The sum of the sizes of the instances of the sides, or `cap` if that is less.
 fn sides_size(equations: &[Equation], theta: &Subst, cap: u32) -> u32
     ensures { result ≡ min (sizes (trees_of (sides_of
         (map (equation_instance theta.now.terms) equations.now)))) cap }
@@ -47,7 +47,7 @@ fn sides_size(equations: &[Equation], theta: &Subst, cap: u32) -> u32
     size
 }
 
-/// The greatest depth of an instance of a side, or `cap` where that is less.
+/// The greatest depth of an instance of a side, or `cap` if that is less.
 fn sides_depth(equations: &[Equation], theta: &Subst, cap: u32) -> u32
     ensures { result ≡ min (depths (trees_of (sides_of
         (map (equation_instance theta.now.terms) equations.now)))) cap }
@@ -61,7 +61,7 @@ fn sides_depth(equations: &[Equation], theta: &Subst, cap: u32) -> u32
     depth
 }
 
-/// The size of the term's instance, or `cap` where that is less. The instance is not built, and
+/// The size of the term's instance, or `cap` if that is less. The instance is not built, and
 /// not walked past `cap`.
 #[cycle(instance_size)]
 pub fn instance_size(term: &Term, theta: &Subst, cap: u32) -> u32
@@ -79,7 +79,7 @@ pub fn instance_size(term: &Term, theta: &Subst, cap: u32) -> u32
     }
 }
 
-/// The sum of the sizes of the terms' instances, or `cap` where that is less.
+/// The sum of the sizes of the terms' instances, or `cap` if that is less.
 #[cycle(instance_size)]
 fn instance_sizes(terms: &[Term], theta: &Subst, cap: u32) -> u32
     ensures { result ≡ min (sizes (trees_of (map (apply theta.now.terms) terms.now))) cap }
@@ -91,7 +91,7 @@ fn instance_sizes(terms: &[Term], theta: &Subst, cap: u32) -> u32
     size
 }
 
-/// The depth of the term's instance, or `cap` where that is less. The instance is not built, and
+/// The depth of the term's instance, or `cap` if that is less. The instance is not built, and
 /// not walked below `cap`.
 #[cycle(instance_depth)]
 pub fn instance_depth(term: &Term, theta: &Subst, cap: u32) -> u32
@@ -109,7 +109,7 @@ pub fn instance_depth(term: &Term, theta: &Subst, cap: u32) -> u32
     }
 }
 
-/// The greatest depth of an instance of the terms, or `cap` where that is less.
+/// The greatest depth of an instance of the terms, or `cap` if that is less.
 #[cycle(instance_depth)]
 fn instance_depths(terms: &[Term], theta: &Subst, cap: u32) -> u32
     ensures { result ≡ min (depths (trees_of (map (apply theta.now.terms) terms.now))) cap }

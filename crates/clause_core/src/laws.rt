@@ -10,8 +10,8 @@ pub fn rules_rank_lower<O: TermOrder>(order: &O)
     ensures { RulesRankLower (O.above order.now) (O.rank order.now) }
 {}
 
-/// What a clause is tidied to is tidied, and stays as it is. It is within the limits where the
-/// clause is, sorted where the clause is, and fails where the clause does.
+/// What a clause is tidied to is tidied, and stays as it is. It is within the limits if the
+/// clause is, sorted if the clause is, and fails if the clause does.
 pub fn tidying_laws()
     ensures { TidyingLaws }
 {}

@@ -35,7 +35,7 @@ impl Clause {
     }
 }
 
-/// The left side where true, the right one where false.
+/// The left side if true, the right one if false.
 pub fn side(equation: &Equation, left: bool) -> &Term
     ensures { result.now ≡ side_of left equation.now }
 {

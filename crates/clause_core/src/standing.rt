@@ -12,14 +12,14 @@ use spec_core::Equation;
 use term_core::Term;
 
 /// What a walk over the terms of a clause keeps: the number of symbols that it may still meet, and
-/// how many numbers the variables take, where each was met in its turn.
+/// how many numbers the variables take, if each was met in its turn.
 #[derive(Drop)]
 struct Walk {
     room: u32,
     taken: Option<u64>,
 }
 
-/// Whether the clause is tidied, or None where it passes the limits of a clause in a proof. Each
+/// Whether the clause is tidied, or None if it passes the limits of a clause in a proof. Each
 /// side is walked once, and not past the limits.
 pub(crate) fn is_tidied_within(clause: &Clause) -> Option<bool>
     ensures { MatchOption result (IsWithin clause.now → ⊥)
@@ -40,7 +40,7 @@ pub(crate) fn is_tidied_within(clause: &Clause) -> Option<bool>
     Some(walk.taken == Some(clause.ctx.len() as u64))
 }
 
-/// Whether the sides are within the limits. Where they are, they have been walked.
+/// Whether the sides are within the limits. If they are, they have been walked.
 fn walk_sides(equations: &[Equation], walk: &mut Walk) -> bool
     requires { walk.old.room ≤ 4000 }
     ensures fits { IsTrue result ↔ ((sizes (trees_of (sides_of equations.now)) ≤ walk.old.room)
@@ -61,7 +61,7 @@ fn walk_sides(equations: &[Equation], walk: &mut Walk) -> bool
 }
 
 /// Whether the term has no more symbols than may still be met, and is within the limit of depth.
-/// Where that is so, it is counted.
+/// If that is so, it is counted.
 fn walk_term(term: &Term, walk: &mut Walk) -> bool
     requires { walk.old.room ≤ 4000 }
     ensures fits { IsTrue result ↔

@@ -11,9 +11,9 @@ pub struct Place {
 }
 
 /// A step of a proof, after Reddy (1990) and SPIKE (Bouhoula and Rusinowitch, 1995), with what
-/// stands on its line in the order of the line. Numbers of premises, conclusions and rules count
+/// is on its line in the order of the line. Numbers of premises, conclusions and rules count
 /// from 1, numbers of nodes and variables from 0. A list of terms has one for each variable of the
-/// clause that is referred to. The last truth value of `Context`, `Hyp` and `Lemma` is true where
+/// clause that is referred to. The last truth value of `Context`, `Hyp` and `Lemma` is true if
 /// the equation is used from left to right.
 #[derive(Drop)]
 pub enum Step {

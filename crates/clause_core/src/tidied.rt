@@ -8,8 +8,8 @@ use crate::tidying::tidy;
 use std::alloc::Global;
 use term_core::OutOfMemory;
 
-/// The clause, tidied, or None where it passes the limits of a clause in a proof. It isn't copied
-/// where it is tidied already.
+/// The clause, tidied, or None if it passes the limits of a clause in a proof. It isn't copied
+/// if it is tidied already.
 pub fn tidied_within(alloc: Global, clause: Clause) -> Result<Option<Clause>, OutOfMemory>
     ensures { IfOk result (IsTidiedWithin clause) }
 {
@@ -21,7 +21,7 @@ pub fn tidied_within(alloc: Global, clause: Clause) -> Result<Option<Clause>, Ou
     }
 }
 
-/// The clause, tidied. One within the limits isn't copied where it is tidied already.
+/// The clause, tidied. One within the limits isn't copied if it is tidied already.
 pub fn into_tidied(alloc: Global, clause: Clause) -> Result<Clause, OutOfMemory>
     ensures { IfOk result (λ made. made ≡ tidied clause) }
 {

@@ -158,7 +158,7 @@ fn place_in(olds: &[u32], var: VarId) -> Option<usize>
     olds.iter().position(|old| *old == var.0)
 }
 
-/// The variable of this number. A place past the last number counts as want of memory: there are
+/// The variable with this number. A place past the last number counts as want of memory: there are
 /// no more variables than numbers, so that none comes.
 fn numbered(place: usize) -> Result<VarId, OutOfMemory>
     ensures { IfOk result (λ made. made.0 ≡ place) }

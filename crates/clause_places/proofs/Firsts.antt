@@ -1,4 +1,4 @@
--- Which item is first in lists one behind the other, and in what is left of a list.
+-- Which item is first in lists one after the other, and in what is left of a list.
 use Rattle.std.proofs.Common.{◌≡◌, ℕ, suc, ◌+◌, ◌<◌, List, [], ◌∷◌, ◌++◌, refl, sym, ◌∙◌, arith, length, take, drop, get_or}
 use Rattle.std.specs.Prelude.{Option, Result, Ok, Err, IfOk}
 use Rattle.std.proofs.Math.Seq.{drop-cons}
@@ -6,7 +6,7 @@ use Rattle.term_core.specs.declared.ids.VarId.{VarId}
 use Rattle.clause_places.specs.Demand.{IsFirst}
 
 module _ {X : Type 0} where
-  -- of two lists one behind the other it is the first one's, where that has one
+  -- of two lists one after the other it is the first one's, if that has one
   pub first_before :
       (xs ys : List X) (x : X) → take 1 xs ≡ x ∷ [] → take 1 (xs ++ ys) ≡ x ∷ []
   first_before [] ys x e = absurd (let q : [] ≡ x ∷ [] = e in cc)

@@ -19,7 +19,7 @@ Occurrence = List ℕ × ℕ
 abbrev variable : Occurrence → ℕ
 variable p = p.1
 
--- the same in an argument of this number
+-- the same in an argument with this number
 abbrev in_argument : ℕ → Occurrence → Occurrence
 in_argument n p = (n ∷ p.0, p.1)
 
@@ -74,7 +74,7 @@ module _ (sig : Sig) where
       ap (λ (rs : List Occurrence). map variable rs) (filter-append (looked patterns) ps qs)
       ∙ map-append variable (filter (looked patterns) ps) (filter (looked patterns) qs)
 
-  -- the first argument, and those behind it
+  -- the first argument, and those after it
   looked_at_argument :
       (k : ℕ) (patterns : List Tree) (t : Tree) (ts : Trees) →
       looked_at sig patterns (variable_paths_from (suc k) (some t ts))
@@ -85,7 +85,7 @@ module _ (sig : Sig) where
       looked_at-append patterns (map (in_argument (suc k)) (variable_paths t)) behind
       ∙ ap (λ ns. ns ++ looked_at sig patterns behind) (looked_down k patterns (variable_paths t))
 
-  -- where there is no pattern, nothing is looked at
+  -- if there is no pattern, nothing is looked at
   pub looked_at_none : (ps : List Occurrence) → looked_at sig [] ps ≡ []
   looked_at_none [] = refl
   looked_at_none (p ∷ ps) = looked_at_none ps

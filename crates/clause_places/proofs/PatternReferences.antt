@@ -15,7 +15,7 @@ either_true : (b : Bool) → (b || true) ≡ true
 either_true true = refl
 either_true false = refl
 
--- where one of them has a constructor, some have
+-- if one of them has a constructor, some have
 pub some_at :
     (sig : Sig) (items : List (Bor Tree)) (k : ℕ) (b : Bor Tree) → k < length items →
     b ≡ get_or items k b → constructor_at sig [] (Some b.now) ≡ true →
@@ -28,7 +28,7 @@ some_at sig (x ∷ items) (suc k) b lt is h =
     let here : Bool = constructor_at sig [] (Some x.now) in
     ap (λ y. here || y) (some_at sig items k b (omega arith) is h) ∙ either_true here
 
--- where there is no reference, there is no term
+-- if there is no reference, there is no term
 pub no_terms :
     (items : List (Bor Tree)) (ts : List Tree) (empty : Bool) → terms_of items ≡ ts →
     empty ≡ (length items == 0) → empty ≡ true → ts ≡ []

@@ -30,7 +30,7 @@ all_more :
 all_more P Q [] f h = tt
 all_more P Q (x ∷ xs) f h = (f x h.0, all_more P Q xs f h.1)
 
--- the term of a path stands at it
+-- the term of a path is at it
 abbrev Stands : Tree → List ℕ × Tree → Type 0
 Stands t p = IsAt p.0 t p.1
 
@@ -87,7 +87,7 @@ module _ (c : Clause) (conclusion : Bool) where
       all_map (IsThere c) (spot n left) (paths t)
       (all_more (Stands t) (λ p. IsThere c (spot n left p)) (paths t) there (paths_there t))
 
-  -- where the equations are those behind some others
+  -- where the equations are those after some others
   equations_there :
       (before es : List Equation) (n : ℕ) → equations conclusion c ≡ before ++ es →
       n ≡ length before + 1 → AllByRecursion (IsThere c) (equation_spots conclusion n es)

@@ -1,4 +1,4 @@
--- A walk along places that looks for the one of an index: along lists one behind the other, a term,
+-- A walk along places that looks for the one of an index: along lists one after the other, a term,
 -- its arguments, a side, and a clause.
 use Rattle.std.proofs.Common.{◌≡◌, ℕ, zero, suc, ◌+◌, ◌-◌, ◌<◌, ◌≤◌, List, [], ◌∷◌, ◌++◌, Bool, true, false, Some, None, refl, ap, sym, ◌∙◌, subst, arith, length, map, append_assoc}
 use Rattle.std.specs.Prelude.{Option, SomeIff, option_map, reverse, slice_get}
@@ -18,7 +18,7 @@ use Rattle.clause_places.specs.declared.walk.Search.{Search}
 use Rattle.clause_places.specs.declared.walk.Search.TheVariants.{Found, Left}
 
 module _ {X : Type 0} where
-  -- an item of one of two lists that stand one behind the other
+  -- an item of one of two lists, one after the other
   pub get_before :
       (xs ys : List X) (k : ℕ) (x : X) → slice_get xs k ≡ Some x → slice_get (xs ++ ys) k ≡ Some x
   get_before [] ys k x e = absurd (let q : None ≡ Some x = e in cc)
@@ -61,7 +61,7 @@ module _ (old new : List ℕ) where
   passes_behind ps more k n (Some left) e h =
       (omega (arith, e, h.0, length-append ps more), h.1)
 
--- a path with its term, as an argument of this number
+-- a path with its term, as an argument with this number
 abbrev in_argument : ℕ → List ℕ × Tree → List ℕ × Tree
 in_argument n p = (n ∷ p.0, p.1)
 
@@ -80,7 +80,7 @@ passes_in_argument n old below new ps more k there h =
     ∙ ap (λ q. old ++ q) (sym (reverse-append (n ∷ []) h.0.0)) in
     passes_before old new (map (in_argument n) ps) more k (in_argument n h.0, at, path)
 
--- the arguments behind one that is passed
+-- the arguments after one that is passed
 pub passes_next :
     (n : ℕ) (old new : List ℕ) (ps more : List (List ℕ × Tree)) (k left : ℕ) (r : Option ℕ) →
     k ≡ length ps + left → Passes more left old new r →

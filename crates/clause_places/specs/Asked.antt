@@ -20,7 +20,7 @@ abbrev mutual
       map (λ (p : List ℕ × ℕ). (i ∷ p.0, p.1)) (variable_paths t)
       ++ variable_paths_from (suc i) ts
 
--- a constructor stands at the path
+-- a constructor is at the path
 abbrev pub constructor_at : Sig → List ℕ → Option Tree → Bool
 constructor_at sig path None = false
 constructor_at sig path (Some (var n)) = false
@@ -47,6 +47,6 @@ asked_by spec (app f ts) =
     map (λ (p : List ℕ × ℕ). p.1)
     (filter (λ (p : List ℕ × ℕ). looks_at spec f p.0) (variable_paths (app f ts)))
 
--- the first variable that the first place asks for, where some place asks
+-- the first variable that the first place asks for, if some place asks
 abbrev pub asked : Spec → Clause → List ℕ
 asked spec c = take 1 (flat_map (λ (s : Spot). asked_by spec s.term) (spots c))

@@ -13,7 +13,7 @@ use Rattle.clause_places.specs.declared.terms.Counts.{Counts}
 abbrev pub subterms : Tree → List Tree
 subterms t = map (λ (p : List ℕ × Tree). p.1) (paths t)
 
--- these are the terms at the places of the clause, whose numbers fit, and so many stand in the
+-- these are the terms at the places of the clause, whose numbers fit, and this many are in the
 -- sides of its premises and of its conclusions
 pub record AreListed (c : Clause) (ts : List Tree) (before behind : List Counts) : Type 0 where
   pub fit : NumbersFit c

@@ -1,4 +1,4 @@
--- The places of a clause in their order, each with the term that stands there: premises before
+-- The places of a clause in their order, each with the term that is there: premises before
 -- conclusions, each by its number, the left side before the right one, and arguments from the left
 -- before their symbol.
 use Rattle.std.specs.Prelude.{ℕ, suc, Bool, true, false, List, [], ◌∷◌, ◌++◌, map, slice_index_or}

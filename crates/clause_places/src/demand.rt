@@ -10,7 +10,7 @@ use spec_core::{Equation, Spec};
 use std::alloc::Global;
 use term_core::{Node, OutOfMemory, SymId, Term, VarId};
 
-/// The first variable that the first place asks for, where some place asks. Once a variable is
+/// The first variable that the first place asks for, if some place asks. Once a variable is
 /// found, no other place is looked at.
 pub fn asked(alloc: Global, spec: &Spec, clause: &Clause) -> Result<Option<VarId>, OutOfMemory>
     ensures { IfOk result (λ found. asked_variables spec.now clause.now ≡

@@ -54,7 +54,7 @@ pub(crate) fn looked_at_in_terms(
     Ok(None)
 }
 
-/// The same in one term. Where no pattern goes down, neither does this.
+/// The same in one term. If no pattern goes down, neither does this.
 #[cycle(looking)]
 fn looked_at_in_term(
     alloc: Global,

@@ -22,7 +22,7 @@ struct Side {
 }
 
 /// What a search for the place of an index along some places comes to: the place, or the index that
-/// is left to go behind them.
+/// is left to go after them.
 #[derive(Drop)]
 pub(crate) enum Search {
     Found(Place),
@@ -30,7 +30,7 @@ pub(crate) enum Search {
 }
 
 /// Looks for the place of this index among those of the equations, of which the first one has the
-/// number, and whose sides have so many places. A side that is passed is not walked along.
+/// number, and whose sides have this many places. A side that is passed is not walked along.
 pub(crate) fn place_in_equations(
     alloc: Global,
     conclusion: bool,
@@ -117,8 +117,8 @@ fn place_in_side(
     }
 }
 
-/// Passes the paths of the term, and answers how far the index is behind them. None where it comes
-/// to the path of this index, which then stands behind the numbers that were given, its last number
+/// Passes the paths of the term, and answers how far the index is after them. None if it comes
+/// to the path of this index, which then comes after the numbers that were given, its last number
 /// first: only the path that is found is written.
 #[cycle(pass)]
 fn pass_term(term: &Term, index: usize, path: &mut Vec<u8>) -> Result<Option<usize>, OutOfMemory>
@@ -164,7 +164,7 @@ fn pass_arguments(
     }
 }
 
-/// How far the index is past the paths of the term, where its size shows that it is.
+/// How far the index is past the paths of the term, if its size shows that it is.
 fn left_behind(term: &Term, index: usize) -> Option<usize>
     ensures { IfSome result (λ left. index ≡ length (paths term.now) + left) }
 {

@@ -20,7 +20,7 @@ use Rattle.clap.specs.declared.builder.value_parser.ValueParser.{ValueParser}
 use Rattle.clap.specs.declared.parser.matches.ArgMatches.{ArgMatches}
 use Rattle.clap.specs.declared.parser.matches.MatchedArg.{MatchedArg}
 
--- an entry that stands in the list is found
+-- an entry that is in the list is found
 entry_found : (xs : List Entry) (id : List ℕ) (i : ℕ) → i < length xs → ((d : Entry) → bytes_eq (slice_index_or xs i d).0.now id ≡ true)
     → is_some (option_map (λ e. e.1) (find (λ e. bytes_eq e.0.now id) xs)) ≡ true
 entry_found [] id i lt hit = absurd (omega arith)
@@ -122,7 +122,7 @@ module _ (old : Command) (m : ArgMatches) (p : IsParsedFrom old m) (plain : IsPl
           ],
         )
 
-  -- where it is found, it has a text that its parser takes, read as the parser says
+  -- if it is found, it has a text that its parser takes, read as the parser says
   pub found_reads : is_some (matched_of (found_of m) id) ≡ true → (q : ValueParser) → a.value_parser ≡ Some q
       → (t : List ℕ) × (one_text (found_of m) id ≡ Some (read_as (reading_of q) t)) × Accepts a.ignore_case q t
   found_reads has q is = go (matched_of (found_of m) id) refl has
@@ -135,7 +135,7 @@ module _ (old : Command) (m : ArgMatches) (p : IsParsedFrom old m) (plain : IsPl
           let got = entry_by_id (EntryPasses p.built) (found_of m).entries.items id x parsed.values found in
           text got.0 ((bytes_eq-Decides got.0.0.now id).0 got.2) got.3 q is x found got.1
 
-  -- so it is where it has a default
+  -- so it is if it has a default
   pub default_reads : WantsDefault a → (q : ValueParser) → a.value_parser ≡ Some q
       → (t : List ℕ) × (one_text (found_of m) id ≡ Some (read_as (reading_of q) t)) × Accepts a.ignore_case q t
   default_reads wants q is =

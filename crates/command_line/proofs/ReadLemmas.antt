@@ -35,7 +35,7 @@ number_is G rows name range None r there small read parses is =
     let most = there.most in
     absurd (parses (Err read.0) read.1 (there.digits, omega (arith, most, small)))
 
--- a text that is there is the wanted one where it compares so, and none is never
+-- a text that is there is the wanted one if it compares so, and none is never
 pub text_compared : (o : Option (List ℕ)) (v want : List ℕ) (b : Bool) → Some v ≡ o → b ≡ bytes_eq v want → IsTrue b ↔ (o ≡ Some want)
 text_compared o v want b there same = (
   (λ t. sym there ∙ ap (λ (x : List ℕ). Some x) ((bytes_eq-Decides v want).0 (sym same ∙ t))),

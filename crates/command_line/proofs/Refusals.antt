@@ -1,4 +1,4 @@
--- An error that is no want of memory comes only where the words have a fault.
+-- An error that is no want of memory comes only if the words have a fault.
 use Rattle.std.proofs.Common.{◌≡◌, List, [], ◌∷◌, inl, inr}
 use Rattle.clap.specs.Walk.{Text}
 use Rattle.clap.specs.Simple.{App}

@@ -61,7 +61,7 @@ greatest_numbers = record {
 
 -- words that ask for a task
 pub record Asking : Type 0 where
-  -- the usual numbers where no word gives one
+  -- the usual numbers if no word gives one
   pub plain : Asks (refute (codes "a" ∷ [])) (codes "a") (refuting usual_search)
   -- numbers before and after the file, with a plus, leading zeros and `=`
   pub numbers : Asks (refute (codes "--depth" ∷ codes "+0" ∷ codes "--tries=007" ∷ codes "a"

@@ -17,7 +17,7 @@ numeral_rule name range = record (new_rule name) {
   parser = Some (Unsigned range.least range.most);
 }
 
--- an option with a number of the range, and the text that stands for it where no word gives one
+-- an option with a number of the range, and the text that stands for it if no word gives one
 abbrev pub number_rule : Text → NumberRange → Text → Rule
 number_rule name range usual = record (new_rule name) {
   long = Some name;

@@ -79,7 +79,7 @@ commands =
     check_app ∷ eval_app ∷ prove_app ∷ refute_app ∷ replay_app ∷ load_app ∷ upgrade_app ∷ trim_app
     ∷ session_app ∷ []
 
--- where the first word names the command, `clap` finds a fault in the words, help among them
+-- if the first word names the command, `clap` finds a fault in the words, help among them
 abbrev pub AreRefusedBy : List Text → App → Type 0
 AreRefusedBy words app = IsNamed app.top.name words → fault_of app words ≢ []
 

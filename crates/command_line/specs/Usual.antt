@@ -1,4 +1,4 @@
--- The numbers that stand where no word gives one.
+-- The numbers that apply if no word gives one.
 use Rattle.command_line.specs.declared.bounds.SearchBounds.{SearchBounds}
 use Rattle.command_line.specs.declared.bounds.ProofBounds.{ProofBounds}
 

@@ -29,7 +29,7 @@ pub fn numeral<'a>(alloc: Global, name: &'a str, range: NumberRange) -> Arg<'a>
         .value_parser(ValueParser::Unsigned(least, most))
 }
 
-/// An option with a number, and the text that stands for it where no word gives one.
+/// An option with a number, and the text that stands for it if no word gives one.
 pub fn number<'a>(alloc: Global, name: &'a str, range: NumberRange, usual: &'a str) -> Arg<'a>
     ensures rule { rule_of result ≡ number_rule name.entry.now range usual.entry.now }
     ensures local { result.global ≡ false }

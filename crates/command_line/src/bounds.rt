@@ -24,7 +24,7 @@ pub struct ProofBounds {
 }
 
 impl ProofBounds {
-    /// The numbers that stand where no word gives one.
+    /// The numbers that apply if no word gives one.
     pub fn usual() -> ProofBounds
         ensures { result ≡ usual_bounds }
     {

@@ -32,7 +32,7 @@ pub enum Command<'a> {
         file: &'a str,
         bounds: SearchBounds,
     },
-    /// Looks for counterexamples of a file's goals, and for proofs where it finds none.
+    /// Looks for counterexamples of a file's goals, and for proofs if it finds none.
     Prove {
         file: &'a str,
         bounds: ProofBounds,
@@ -43,7 +43,7 @@ pub enum Command<'a> {
         term: &'a str,
         steps: u32,
     },
-    /// Accepts or refuses a file, and prints it where that is asked for.
+    /// Accepts or refuses a file, and prints it if that is asked for.
     Check {
         file: &'a str,
         print: bool,
@@ -87,7 +87,7 @@ impl<'a> Command<'a> {
     }
 }
 
-/// What the words ask for, of which the first is the command word. None where they ask for nothing:
+/// What the words ask for, of which the first is the command word. None if they ask for nothing:
 /// `clap` finds a fault in the others, help among them, or the first is no command word.
 pub fn request_of<'a>(
     alloc: Global,

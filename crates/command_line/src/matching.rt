@@ -8,7 +8,7 @@ use clap::ArgMatches;
 use clap::error::ErrorKind;
 use term_core::OutOfMemory;
 
-/// What `clap` reads of the words, of which the first is the command word. None where it finds a
+/// What `clap` reads of the words, of which the first is the command word. None if it finds a
 /// fault in them, help among them.
 pub fn matches_of<'a>(
     app: clap::Command<'a>,

@@ -38,17 +38,17 @@ pub const GOALS: NumberRange = NumberRange {
     most: 200,
 };
 
-/// The depth where no word gives one.
+/// The depth if no word gives one.
 pub const USUAL_DEPTH: &str = "3";
 
-/// The tries where no word gives them.
+/// The tries if no word gives them.
 pub const USUAL_TRIES: &str = "10000";
 
-/// The steps where no word gives them.
+/// The steps if no word gives them.
 pub const USUAL_STEPS: &str = "1000";
 
-/// The length of a plain proof where no word gives one.
+/// The length of a plain proof if no word gives one.
 pub const USUAL_PLAIN: &str = "500";
 
-/// The nodes where no word gives them.
+/// The nodes if no word gives them.
 pub const USUAL_NODES: &str = "2000";

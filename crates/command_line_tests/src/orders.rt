@@ -3,7 +3,7 @@ use std::alloc::{AllocError, Global};
 use std::process::Abort;
 use std::test::Fail;
 
-/// The lines of `refute` with these four pieces behind it, in all of their 24 orders.
+/// The lines of `refute` with these four pieces after it, in all of their 24 orders.
 fn lines_of(alloc: Global, pieces: [&str; 4]) -> Result<Vec<String>, AllocError> {
     let mut lines = Vec::new(alloc);
     for number in 0..256_usize {
@@ -29,7 +29,7 @@ fn expect(rt: &impl Abort, alloc: Global, pieces: [&str; 4], want: &str) -> Resu
     Ok(())
 }
 
-/// A value stands behind its option or behind `=`: eight spellings of three options.
+/// A value comes after its option or after `=`: eight spellings of three options.
 #[test]
 fn options_stand_anywhere(rt: HostRuntime) -> Result<(), Fail> {
     let alloc = rt.alloc();

@@ -4,7 +4,7 @@ use std::process::Abort;
 use std::test::Fail;
 
 // What the lines ask for is worked out by hand from the usage: an option at most once and anywhere
-// before `--`, its value the next word or behind `=`, a number as std reads one, within its range.
+// before `--`, its value the next word or after `=`, a number as std reads one, within its range.
 
 const REFUTE: [(&str, &str); 75] = [
     ("refute a", "refute [a] 3 10000 1000"),

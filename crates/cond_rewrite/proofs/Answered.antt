@@ -1,4 +1,4 @@
--- What an answer that may be none says where it is known.
+-- What an answer that may be none says if it is known.
 use Rattle.std.proofs.Common.{◌≡◌, Option, Some, None, MatchOption, subst}
 use Rattle.std.specs.Option.{IfSome, IfNone}
 

@@ -21,7 +21,7 @@ use Rattle.substitutions.proofs.Instances.{apply_values, apply_same, images_agre
 use Rattle.clause_core.specs.RuleInstances.{IsInstance, guard_equation, guard_equations}
 use Rattle.cond_rewrite.specs.Applied.{applied_guard}
 
--- the images of so many variables from one on
+-- the images of this many variables from one on
 images : List (Option Tree) → ℕ → ℕ → List Tree
 images s zero n = []
 images s (suc k) n = image s n ∷ images s k (suc n)
@@ -54,7 +54,7 @@ pub same_over : (left : Tree) (terms : List Tree) (s : List (Option Tree)) → i
 same_over left terms s e u h =
     sym (apply_values terms u) ∙ apply_same u (map (λ (t : Tree). Some t) terms) s (λ n o. images_agree left (map (λ (t : Tree). Some t) terms) s (apply_values terms left ∙ e) n (h n o))
 
--- the variables of what is sorted over a rule's variables stand on its left side
+-- the variables of what is sorted over a rule's variables are on its left side
 pub on_left : (sig : Sig) (rule : Rule) → RuleIsSorted sig rule → (u : Tree) (sort : SortId) → Sorted sig (sorts_of rule.vars) u sort → (n : ℕ) → Occurs n u → Occurs n rule.left
 on_left sig rule fine u sort sorted n o = fine.bound n (occurs_within sig (sorts_of rule.vars) u sort sorted n o)
 

@@ -33,7 +33,7 @@ abbrev pub applied_cases :
 applied_cases p entries rules left =
     map (applied_case p entries) (filter (λ (r : Rule). same_tree left r.left) rules)
 
--- the children, tidied, where each is within the limits, and else none
+-- the children, tidied, if each is within the limits, and else none
 abbrev pub AreCasesWithin :
     {c : Clause} {place : Place} → TermAt c place → List (Option Tree) → List Rule → Tree →
     Option (Vec Clause) → Type 0

@@ -1,4 +1,4 @@
--- What a row of the table answers by itself, where no order and no number of nodes is asked.
+-- What a row of the table answers by itself, if no order and no number of nodes is asked.
 use Rattle.std.specs.Prelude.{◌≡◌, ◌⊎◌, List, Option, Some, None, Result, Ok, Err, IfSome, map}
 use Rattle.std.specs.List.{AllByRecursion}
 use Rattle.clause_core.specs.declared.clauses.Clause.{Clause}
@@ -15,7 +15,7 @@ abbrev pub clause_of : Made → Clause
 clause_of (child relation d) = tidied d
 clause_of (compared_child d) = tidied d
 
--- these clauses, or where one of them passes a limit of clauses the reason Limit
+-- these clauses, or if one of them passes a limit of clauses the reason Limit
 abbrev pub AnswersClauses : List Clause → Result (List Clause) Why → Type 0
 AnswersClauses made answer =
     (AllByRecursion IsWithin made × (answer ≡ Ok made))

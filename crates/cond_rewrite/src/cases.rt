@@ -16,9 +16,9 @@ use substitutions::Subst;
 use term_core::{OutOfMemory, Term};
 
 /// The clauses with the term at the place rewritten by each rule whose left side is that of the
-/// rule of this number, in the order of the rules, tidied. Numbers count from 1. Each clause has
+/// rule with this number, in the order of the rules, tidied. Numbers count from 1. Each clause has
 /// the guards' instances, equated to the constants that they want, at the end of its premises.
-/// `Limit` is that of clauses alone, and comes where any of them passes it.
+/// `Limit` is that of clauses alone, and comes if any of them passes it.
 pub fn case_rewrite(
     alloc: Global,
     spec: &Spec,
@@ -48,7 +48,7 @@ pub fn case_rewrite(
     Ok(cases)
 }
 
-/// The children by the rules of this left side, or None where one of them passes the limits of
+/// The children by the rules of this left side, or None if one of them passes the limits of
 /// clauses.
 fn cases(
     alloc: Global,

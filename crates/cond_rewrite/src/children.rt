@@ -13,7 +13,7 @@ use std::alloc::Global;
 use substitutions::Subst;
 use term_core::{OutOfMemory, Seq, Term};
 
-/// The clause whose place holds the instance of the term, or None where that alone passes the
+/// The clause whose place holds the instance of the term, or None if that alone passes the
 /// limits of clauses.
 pub(crate) fn rewritten(
     alloc: Global,
@@ -33,7 +33,7 @@ pub(crate) fn rewritten(
     Ok(Some(clause.holding(alloc, place, new)?))
 }
 
-/// The child of `case` by a rule of the group, tidied, or None where it passes the limits of
+/// The child of `case` by a rule of the group, tidied, or None if it passes the limits of
 /// clauses.
 pub(crate) fn case_child(
     alloc: Global,
@@ -61,7 +61,7 @@ pub(crate) fn case_child(
     tidied_within(alloc, split)
 }
 
-/// Each guard's instance, equated to the constant that it wants, or None where one of these alone
+/// Each guard's instance, equated to the constant that it wants, or None if one of these alone
 /// has more symbols than a clause in a proof.
 fn guard_equations(
     alloc: Global,

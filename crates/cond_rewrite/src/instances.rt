@@ -7,7 +7,7 @@ use std::alloc::Global;
 use substitutions::Subst;
 use term_core::{Node, OutOfMemory, Term};
 
-/// The instance of the term, or None where it alone has more symbols than a clause in a proof. It
+/// The instance of the term, or None if it alone has more symbols than a clause in a proof. It
 /// isn't built then: a variable may occur often and stand for a large term.
 pub(crate) fn small_instance(
     alloc: Global,

@@ -12,10 +12,10 @@ use matching::matches;
 use spec_core::Spec;
 use std::alloc::Global;
 
-/// The clause with the term at the place rewritten by the rule of this number, which counts from 1,
-/// tidied. Each guard's instance, equated to the constant that it wants, has to be among the
-/// premises, as written or with its sides swapped; else the answer is `DoesNotFit`, as where the
-/// left side doesn't match. `Limit` is that of clauses alone.
+/// The clause with the term at the place rewritten by the rule with this number, which counts from
+/// 1, tidied. Each guard's instance, equated to the constant that it wants, has to be among the
+/// premises, as written or with its sides swapped. If it isn't, or the left side doesn't match, the
+/// answer is `DoesNotFit`. `Limit` is that of clauses alone.
 pub fn rewrite_at(
     alloc: Global,
     spec: &Spec,

@@ -3,7 +3,7 @@ ghost use Rattle.clause_core.specs.RuleInstances.{RuleAt};
 
 use spec_core::{Rule, Spec};
 
-/// The rule of this number, which counts from 1.
+/// The rule with this number, which counts from 1.
 pub(crate) fn rule_at(spec: &Spec, number: u32) -> Option<&Rule>
     ensures { MatchOption result (RuleAt spec.now number → ⊥)
         (λ rule. (at : RuleAt spec.now number) × (at.rule ≡ rule.now)) }

@@ -1,4 +1,4 @@
--- Left sides don't overlap, and groups are whole, where they are so without the constants.
+-- Left sides don't overlap, and groups are whole, if they are so without the constants.
 use Rattle.std.proofs.Common.{◌≡◌, ℕ, suc, List, [], ◌∷◌, Bool, true, false, cond, Some, refl, ap, sym, ◌∙◌, subst, map, length}
 use Rattle.std.specs.Prelude.{slice_get}
 use Rattle.std.specs.List.{AllByRecursion}

@@ -61,7 +61,7 @@ module _ {X : Type 0} (name_of : X → List ℕ) where
   new_both name [] ys a b = b
   new_both name (x ∷ xs) ys a b = (a.0, new_both name xs ys a.1 b)
 
-  -- what is new after some items is new after others, where each short name that is new among those is new among these
+  -- what is new after some items is new after others, if each short name that is new among those is new among these
   new_after : (n : ℕ) (seen others xs : List X) → ((name : List ℕ) → length name < n → IsNewAmong name_of name seen → IsNewAmong name_of name others) → AllByRecursion (IsShorter n) xs → AreNewAfter name_of seen xs → AreNewAfter name_of others xs
   new_after n seen others [] h s a = tt
   new_after n seen others (x ∷ xs) h s a =

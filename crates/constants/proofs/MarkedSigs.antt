@@ -108,7 +108,7 @@ module _ (sig : Sig) (d : IsDeclared sig) (n : ℕ) (sorts : List SortId) where
   pub constructors_other : AllByRecursion IsNoBoolean sorts → AllByRecursion IsNotBool new_constructors
   constructors_other a = all_append IsNotBool d.constructors (marked_constants n sorts) d.no_more_booleans (constants_other n sorts a)
 
-  -- no name occurs twice where the constants' names are longer than all others
+  -- no name occurs twice if the constants' names are longer than all others
   pub still_distinct : (k : ℕ) → n ≡ k + 1 → AreWithin k (map (λ (e : List ℕ × SymInfo). e.0) sig.table) → AreDistinct new_names new_constructors d.functions
   still_distinct k e within =
       let names : AreWithin k (map (λ (e : List ℕ × SymInfo). e.0) (all_symbols d.constructors d.functions)) = subst (λ (x : Sig). AreWithin k (map (λ (e : List ℕ × SymInfo). e.0) x.table)) d.is within in

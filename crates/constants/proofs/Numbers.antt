@@ -10,7 +10,7 @@ module _ (c u : ℕ) where
   unfolding shifted_number
   number_kept f h = grind (arith, nat_tests)
 
-  -- a function goes behind the constants
+  -- a function comes after the constants
   pub number_moved : (f : ℕ) → c ≤ f → shifted_number c u f ≡ f + u
   unfolding shifted_number
   number_moved f h = grind (arith, nat_tests)
@@ -28,7 +28,7 @@ module _ (c u : ℕ) where
         ]
       ]
 
-  -- a symbol is a constructor where it was one
+  -- a symbol is a constructor if it was one
   pub number_below : (f : ℕ) → f < c → shifted_number c u f < c + u
   number_below f h = omega (arith, number_kept f h)
 

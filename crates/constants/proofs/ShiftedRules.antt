@@ -93,7 +93,7 @@ module _ (old new : Spec) (sorts : List SortId) (more : IsExtended old new sorts
   rule_of_old k rule at = mapped_at (shifted_rule c u) old.rules k rule (ap (λ rs. slice_get rs k) (sym more.rules) ∙ at)
 
 module _ (old new : Spec) (sorts : List SortId) (more : IsExtended old new sorts) (fine : IsWellSorted old) where
-  -- the new specification is well sorted where its signature is declared and the order is its own
+  -- the new specification is well sorted if its signature is declared and the order is its own
   pub well_sorted : IsDeclared new.sig → IsOrderOf new.sig new.order → IsWellSorted new
   well_sorted declared order =
       let few : length new.rules ≡ length old.rules = ap (λ rs. length rs) more.rules ∙ length-map old.rules (shifted_rule old.sig.constructors (length sorts)) in

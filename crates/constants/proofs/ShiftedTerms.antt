@@ -52,7 +52,7 @@ module _ (c u : ℕ) where
   closed-entry (x ∷ xs) zero m h = refl
   closed-entry (x ∷ xs) (suc n) m h = closed-entry xs n m (omega arith)
 
-  -- an instance with a constant for each variable, where each variable has an entry
+  -- an instance with a constant for each variable, if each variable has an entry
   mutual
     pub closed-instance : (xs : List Tree) (t : Tree) → ((n : ℕ) → Occurs n t → n < length xs) → instance (map (closed c u) xs) (shifted c u t) ≡ closed c u (instance xs t)
     closed-instance xs (var n) h = closed-entry xs n n (h n refl)
@@ -110,7 +110,7 @@ module _ (c u : ℕ) where
         ]
       ]
 
-  -- terms are the same where they are with the new numbers
+  -- terms are the same if they are with the new numbers
   mutual
     pub shifted-same : (s t : Tree) → same_tree (shifted c u s) (shifted c u t) ≡ same_tree s t
     shifted-same (var m) (var n) = refl

@@ -47,7 +47,7 @@ naturals_with = record {
   goals = [];
 }
 
--- the same where the constant stands before the constructors
+-- the same if the constant comes before the constructors
 abbrev pub naturals_before : Spec
 naturals_before = record naturals_with {
   sig = declared_by nat_sorts ((codes "u", declares []) ∷ nat_constructors)
@@ -61,6 +61,6 @@ pub record WorkedExamples : Type 0 where
   -- plus(succ(zero), x) with the constant for x
   pub closed_sum : closed 4 1 (plus_term (succ_term zero_term) (var 0))
       ≡ moved_plus (succ_term zero_term) unknown_term
-  -- naturals with a constant of Nat are extended, and aren't where it stands before the constructors
+  -- naturals with a constant of Nat are extended, and aren't if it comes before the constructors
   pub extended : IsExtended naturals naturals_with (nat ∷ [])
   pub not_extended : IsExtended naturals naturals_before (nat ∷ []) → ⊥

@@ -23,7 +23,7 @@ InstancesAreShifted =
     (c u : ℕ) (xs : List Tree) (t : Tree)
     → instance (map (shifted c u) xs) (shifted c u t) ≡ shifted c u (instance xs t)
 
--- with a constant for each variable too, where each variable of the term has an entry
+-- with a constant for each variable too, if each variable of the term has an entry
 abbrev pub InstancesAreClosed : Type 0
 InstancesAreClosed =
     (c u : ℕ) (xs : List Tree) (t : Tree) → ((n : ℕ) → Occurs n t → n < length xs) →
@@ -46,7 +46,7 @@ module _ (old new : Spec) (sorts : List SortId) where
   SortsAreKept = (ctx : List SortId) (t : Tree) (s : SortId) → Sorted old.sig ctx t s
       → Sorted new.sig ctx (shifted c u t) s
 
-  -- and with a constant for each variable, where the variables have the sorts of the constants
+  -- and with a constant for each variable, if the variables have the sorts of the constants
   abbrev pub ClosedAreSorted : Type 0
   ClosedAreSorted =
       (t : Tree) (s : SortId) → Sorted old.sig sorts t s → Sorted new.sig [] (closed c u t) s
@@ -66,10 +66,10 @@ module _ (old new : Spec) (sorts : List SortId) where
   GoalsAreKept =
       (goal : Goal) → GoalIsSorted old.sig goal → GoalIsSorted new.sig (shifted_goal c u goal)
 
-  -- left sides don't overlap where they didn't
+  -- left sides don't overlap if they didn't
   abbrev pub NoOverlapIsKept : Type 0
   NoOverlapIsKept = AllByRecursion (IsSort old.sig) sorts → NoOverlap old → NoOverlap new
 
-  -- groups are whole where they were
+  -- groups are whole if they were
   abbrev pub WholeGroupsAreKept : Type 0
   WholeGroupsAreKept = GroupsAreWhole old → GroupsAreWhole new

@@ -6,11 +6,11 @@ use Rattle.spec_core.specs.declared.records.SymInfo.{SymInfo}
 use Rattle.spec_core.specs.Sig.{Sig}
 use Rattle.constants.specs.Shifted.{constant_of}
 
--- so many question marks
+-- this many question marks
 abbrev pub marks : ℕ → List ℕ
 marks n = replicate n 63
 
--- so many of these names, from n question marks on, each one longer than the name before it
+-- this many of these names, from n question marks on, each one longer than the name before it
 abbrev pub marks_from : ℕ → ℕ → List (List ℕ)
 marks_from n zero = []
 marks_from n (suc k) = marks n ∷ marks_from (suc n) k

@@ -1,4 +1,4 @@
--- A specification with further constants: constructors without arguments, behind its other constructors.
+-- A specification with further constants: constructors without arguments, after its other constructors.
 use Rattle.std.specs.Prelude.{◌≡◌, ◌≢◌, ℕ, ◌+◌, List, [], ◌∷◌, ◌++◌, if◌then◌else◌, nat_lt, map, length, take, drop}
 use Rattle.term_core.specs.Tree.{Tree, Trees, var, app, none, some}
 use Rattle.term_core.specs.declared.ids.SortId.{SortId}
@@ -9,7 +9,7 @@ use Rattle.spec_core.specs.declared.records.Goal.{Goal}
 use Rattle.spec_core.specs.declared.records.Equation.{Equation}
 use Rattle.spec_core.specs.declared.records.Spec.{Spec}
 
--- c constructors come first, and u constants stand behind them
+-- c constructors come first, and u constants come after them
 module _ (c u : ℕ) where
   -- the number of a symbol once the constants are there
   unfoldable pub shifted_number : ℕ → ℕ
@@ -75,7 +75,7 @@ constants_of [] ss = []
 constants_of (n ∷ ns) [] = []
 constants_of (n ∷ ns) (s ∷ ss) = constant_of n s ∷ constants_of ns ss
 
--- new is old with a constant of each of these sorts behind its constructors, and without its goals;
+-- new is old with a constant of each of these sorts after its constructors, and without its goals;
 -- the names of sorts may differ
 pub record IsExtended (old new : Spec) (sorts : List SortId) : Type 0 where
   pub names : List (List ℕ)

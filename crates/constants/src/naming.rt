@@ -6,14 +6,14 @@ use spec_core::{Signature, SymInfo};
 use std::alloc::Global;
 use term_core::{Name, OutOfMemory, Seq, SortId, SymId};
 
-/// A name of so many question marks.
+/// A name of this many question marks.
 fn marks_name(alloc: Global, count: usize) -> Result<Name, OutOfMemory>
     ensures { IfOk result (λ name. name ≡ marks count) }
 {
     Ok(Name::from_bytes(Vec::from_elem(alloc, b'?', count)?))
 }
 
-/// So many names that differ from one another and from `Bool`.
+/// This many names that differ from one another and from `Bool`.
 pub(crate) fn sort_names(alloc: Global, count: u32) -> Result<Seq<Name>, OutOfMemory>
     ensures { IfOk result (λ names. names ≡ marks_from 5 count) }
 {
@@ -24,7 +24,7 @@ pub(crate) fn sort_names(alloc: Global, count: u32) -> Result<Seq<Name>, OutOfMe
     Ok(names)
 }
 
-/// Constants of these sorts behind the symbols, from a name of `first` question marks on.
+/// Constants of these sorts after the symbols, from a name of `first` question marks on.
 pub(crate) fn add_constants(
     alloc: Global,
     symbols: &mut Seq<(Name, SymInfo)>,

@@ -6,7 +6,7 @@ use spec_core::{Equation, Goal, Guard, Rule, VarInfo};
 use std::alloc::Global;
 use term_core::{OutOfMemory, Seq};
 
-/// The goal with the numbers that symbols have once `constants` constructors stand behind the
+/// The goal with the numbers that symbols have once `constants` constructors come after the
 /// first `constructors`. A number past those of symbols is answered as memory that isn't there.
 pub fn shifted_goal(
     alloc: Global,

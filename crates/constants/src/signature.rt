@@ -10,7 +10,7 @@ use spec_core::{BuildError, Signature};
 use std::alloc::Global;
 use term_core::{OutOfMemory, SortId};
 
-/// The signature with a constant of each of these sorts behind its constructors.
+/// The signature with a constant of each of these sorts after its constructors.
 pub(crate) fn extended_signature(
     alloc: Global,
     sig: &Signature,

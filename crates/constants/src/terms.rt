@@ -4,7 +4,7 @@ ghost use Rattle.constants.specs.Shifted.{shifted_number, shifted};
 use std::alloc::Global;
 use term_core::{Node, OutOfMemory, SymId, Term, Terms};
 
-/// The term with the numbers that symbols have once `constants` constructors stand behind the
+/// The term with the numbers that symbols have once `constants` constructors come after the
 /// first `constructors`.
 #[cycle(shift)]
 pub(crate) fn shift_term(

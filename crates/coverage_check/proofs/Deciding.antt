@@ -110,13 +110,13 @@ module _ (sig : Sig) where
     unused_decided (Ok true) (args, vs, u) = (app c args ∷ vs, u)
     unused_decided (Ok false) h = unused_none h
 
-  -- where all constructors are settled, nothing is missing
+  -- if all constructors are settled, nothing is missing
   pub all_settled : (n : ℕ) (s : SortId) (ss : List SortId) (rows : List (List Tree)) → sig.constructors ≤ n → ((d : ℕ) → d < n → IsSettled sig rows (s ∷ ss) d) → NoneMissing sig rows (s ∷ ss)
   all_settled n s ss rows h settled [] v = absurd v.0
   all_settled n s ss rows h settled (var k ∷ us) v = absurd v.1.0
   all_settled n s ss rows h settled (app d args ∷ us) v = settled d (omega (arith, v.1.0.0)) args us v
 
-  -- values are missing where a first constructor is found that leaves some
+  -- values are missing if a first constructor is found that leaves some
   pub found_decided : (rows : List (List Tree)) (sorts : List SortId) (found : Option SymId) (b : Bool) → b ≡ is_some found → MatchOption found (NoneMissing sig rows sorts) (λ sym. IsFirstMissing sig rows sorts sym.0) → IsDecision sig rows sorts b
   found_decided rows sorts None b e settled = subst (λ x. IsDecision sig rows sorts x) (sym e) settled
   found_decided rows sorts (Some sym_found) b e first =
@@ -147,7 +147,7 @@ module _ (sig : Sig) where
   not_counted true n e = absurd (omega arith)
   not_counted false n e = refl
 
-  -- rows without symbols leave values missing where there are none
+  -- rows without symbols leave values missing if there are none
   pub no_symbols : IsDeclared sig → (sorts : List SortId) (rows : List (List Tree)) (b : Bool) → AllByRecursion (IsSort sig) sorts → AllByRecursion (HasSorts sig sorts) rows → HasNoSymbols rows (length sorts) → b ≡ (length rows == 0) → IsDecision sig rows sorts b
   no_symbols d sorts [] b range h free_of e =
       let values = have_values d sorts range in

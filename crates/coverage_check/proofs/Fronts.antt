@@ -63,7 +63,7 @@ module _ {X Y : Type 0} (R : X → Y → Type 0) where
   moved_back (suc k) [] (w ∷ ws) h = absurd h
   moved_back (suc k) (y ∷ ys) ws h = before_move k y ys (fronted k ys) (λ us p. moved_back k ys us p) ws h
 
--- the item at the place, those before it and those behind it
+-- the item at the place, those before it and those after it
 pub fronted_is : {X : Type 0} (k : ℕ) (xs : List X) (d : X) → k < length xs → get_or xs k d ∷ (take k xs ++ drop (k + 1) xs) ≡ fronted k xs
 fronted_is zero [] d h = absurd (omega arith)
 fronted_is zero (x ∷ xs) d h = refl

@@ -102,7 +102,7 @@ begin_zeroed test (gs ∷ lists) h = (h.0, begin_zeroed test lists h.1)
 zeroed_rests : (w : Bool) (ms : List (ℕ × List Guard)) (lists : List (List Guard)) → unnumbered ms ≡ lists → unnumbered (wanting w ms) ≡ unnumbered (zeroed (rests_wanting w lists))
 zeroed_rests w ms lists e = unnumbered_wanting w ms ∙ ap (λ ls. rests_wanting w ls) e ∙ sym (unnumbered_zeroed (rests_wanting w lists))
 
--- lists that begin with one test are whole where their rests are
+-- lists that begin with one test are whole if their rests are
 pub split_whole : (test : Tree) (lists : List (List Guard)) → AllByRecursion (BeginsWith test) lists → AreWhole (rests_wanting true lists) → AreWhole (rests_wanting false lists) → AreWhole lists
 split_whole test lists begins at_true at_false =
     let e : (w : Bool) → unnumbered (zeroed (rests_wanting w lists)) ≡ unnumbered (wanting w (zeroed lists)) = λ w. sym (zeroed_rests w (zeroed lists) lists (unnumbered_zeroed lists)) in
@@ -137,7 +137,7 @@ lone (alone {k}) lists e = sym (same_rest e)
 lone (split {ms} test begins at_true at_false) lists e =
     absurd (subst (λ ls. AllByRecursion (BeginsWith test) ls) e (begin_unnumbered test ms begins)).0
 
--- an empty list is whole where it is the only one
+-- an empty list is whole if it is the only one
 pub empty_alone : (lists : List (List Guard)) → (lists ≡ []) ↔ AreWhole ([] ∷ lists)
 empty_alone lists = (
   λ e. subst (λ ls. AreWhole ([] ∷ ls)) (sym e) alone,

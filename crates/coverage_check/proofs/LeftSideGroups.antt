@@ -19,7 +19,7 @@ abbrev numbers : List (ℕ × List Guard) → List ℕ
 numbers ms = map (λ (m : ℕ × List Guard). m.0) ms
 
 module _ (spec : Spec) (left : Tree) where
-  -- the rules behind the first n are those of a list, and by their numbers they have their guards
+  -- the rules after the first n are those of a list, and by their numbers they have their guards
   have_guards : (n : ℕ) (rs : List Rule) → ((k : ℕ) → slice_get spec.rules (n + k) ≡ slice_get rs k) → numbered_guards spec (numbers (group left (suc n) rs)) ≡ group left (suc n) rs
   have_guards n [] h = refl
   have_guards n (r ∷ rs) h =

@@ -1,4 +1,4 @@
--- What a search asks of rows and sorts stays so where they are opened, moved or shortened.
+-- What a search asks of rows and sorts stays so when they are opened, moved or shortened.
 use Rattle.std.proofs.Common.{◌≡◌, ℕ, List, ◌∷◌, ◌++◌, Some, map, length, ap, sym, ◌∙◌, subst}
 use Rattle.term_core.specs.Tree.{Tree}
 use Rattle.term_core.specs.declared.ids.SortId.{SortId}

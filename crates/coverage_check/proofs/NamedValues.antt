@@ -92,7 +92,7 @@ module _ (sig : Sig) where
   pub named_along : {rows moved : List (List Tree)} {sorts others : List SortId} {values : List Tree} → moved ≡ rows → others ≡ sorts → IsNamed sig moved others values → IsNamed sig rows sorts values
   named_along {rows} {moved} {sorts} {others} {values} p q n = subst (λ ss. IsNamed sig rows ss values) q (subst (λ rs. IsNamed sig rs others values) p n)
 
-  -- where not all rows begin with a variable, some begin with a symbol
+  -- if not all rows begin with a variable, some begin with a symbol
   pub some_begin : (s : SortId) (ss : List SortId) (rows : List (List Tree)) → AllByRecursion (HasSorts sig (s ∷ ss)) rows → (AllByRecursion BeginsWithVariable rows → ⊥) → 0 < symbols_at 0 rows
   some_begin s ss [] h d = absurd (d tt)
   some_begin s ss ([] ∷ rows) h d = absurd h.0

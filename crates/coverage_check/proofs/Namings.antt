@@ -25,7 +25,7 @@ rests_admit v vs ((p ∷ ps) ∷ rows) (inl a) = inl a.1
 rests_admit v vs ((p ∷ ps) ∷ rows) (inr a) = inr (rests_admit v vs rows a)
 
 module _ (sig : Sig) where
-  -- values before which the constructor stands
+  -- values with the constructor before them
   pub closed : (c : ℕ) (i : SymInfo) (s : SortId) (ss : List SortId) (firsts : Trees) (rest : List Tree) → IsConstructor sig c → info_of sig c ≡ Some i → i.result ≡ s → length (list_of firsts) ≡ length i.args → AreValues sig (i.args ++ ss) (list_of firsts ++ rest) → AreValues sig (s ∷ ss) (app c firsts ∷ rest)
   closed c i s ss firsts rest b at r n v =
       let p = values_split sig firsts rest i.args ss n v in

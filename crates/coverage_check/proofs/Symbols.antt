@@ -1,4 +1,4 @@
--- The number of symbols in rows, which falls where rows are opened.
+-- The number of symbols in rows, which falls when rows are opened.
 use Rattle.std.proofs.Common.{◌≡◌, ℕ, zero, suc, ◌+◌, ◌<◌, ◌≤◌, List, [], ◌∷◌, ◌++◌, Bool, true, false, cond, map, length, refl, ap, sym, ◌∙◌, arith}
 use Rattle.std.specs.Prelude.{◌==◌, replicate}
 use Rattle.std.specs.List.{AllByRecursion}
@@ -52,7 +52,7 @@ pub fronted_count : (k : ℕ) (rows : List (List Tree)) → symbol_count (map (f
 fronted_count k [] = refl
 fronted_count k (row ∷ rows) = omega (arith, row_count k row, fronted_count k rows)
 
--- the column is the first where it stands before the others
+-- the column is the first if it comes before the others
 has_fronted : (k : ℕ) (row : List Tree) → k < length row → has_symbol_at 0 (fronted k row) ≡ has_symbol_at k row
 has_fronted k row h = ap (λ r. has_symbol_at 0 r) (sym (fronted_is k row (var 0) h))
 

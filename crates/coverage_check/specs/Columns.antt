@@ -32,7 +32,7 @@ pub record IsBusiest (rows : List (List Tree)) (columns : ℕ) (column : ℕ) : 
 abbrev pub HasNoSymbols : List (List Tree) → ℕ → Type 0
 HasNoSymbols rows columns = (k : ℕ) → k < columns → symbols_at k rows ≡ 0
 
--- the item stands behind the first one
+-- the item comes after the first one
 abbrev pub behind_first : {X : Type 0} → X → List X → List X
 behind_first x [] = x ∷ []
 behind_first x (y ∷ ys) = y ∷ (x ∷ ys)

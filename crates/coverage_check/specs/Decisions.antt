@@ -43,7 +43,7 @@ module _ (sig : Sig) where
   NoneMissing rows sorts = (vs : List Tree) → AreValues sig sorts vs → SomeAdmits rows vs
 
   -- what a search asks: constructor patterns of sorts of a declared signature, and a variable to
-  -- stand where one is opened
+  -- take the place of one that is opened
   pub record IsMatrix (rows : List (List Tree)) (sorts : List SortId) (blank : Tree) : Type 0 where
     pub declared : IsDeclared sig
     pub range : AllByRecursion (IsSort sig) sorts
@@ -89,7 +89,7 @@ abbrev pub placed : Option (List Tree) → List (List Tree) → List (List Tree)
 placed None rows = rows
 placed (Some row) rows = row ∷ rows
 
--- what the row becomes where it is opened, if it isn't left out
+-- what the row becomes when it is opened, if it isn't left out
 abbrev pub IsOpening : ℕ → ℕ → List Tree → Option (List Tree) → Type 0
 IsOpening c count row opening =
     (rows : List (List Tree)) → opened_before c count row rows ≡ placed opening rows

@@ -17,7 +17,7 @@ pub record WorkedExamples : Type 0 where
   pub no_row : IsNamed naturals_sig [] (nat ∷ []) (zero_term ∷ [])
   pub zero_alone :
       IsNamed naturals_sig ((zero_term ∷ []) ∷ []) (nat ∷ []) (succ_term zero_term ∷ [])
-  -- with the row (x, zero), the small value zero stands before what is missing of the rest
+  -- with the row (x, zero), the small value zero comes before what is missing of the rest
   pub last_decides :
       IsNamed naturals_sig ((var 0 ∷ zero_term ∷ []) ∷ []) (nat ∷ nat ∷ [])
       (zero_term ∷ succ_term zero_term ∷ [])
@@ -27,7 +27,7 @@ pub record WorkedExamples : Type 0 where
   pub both_cover : AreCovered naturals_sig zero_or_succ (nat ∷ (nat ∷ []))
   -- opened at succ, the row of zero is left out
   pub opened_rows : opened 3 1 zero_or_succ ≡ (var 0 ∷ (var 1 ∷ [])) ∷ []
-  -- opened at zero, the row of a variable keeps what is behind it
+  -- opened at zero, the row of a variable keeps what is after it
   pub opened_variable : opened 2 0 ((var 7 ∷ (zero_term ∷ [])) ∷ []) ≡ (zero_term ∷ []) ∷ []
   -- (x, x) is no row, (succ(x), y) is one
   pub repeated : IsRow naturals_sig (nat ∷ (nat ∷ [])) (var 0 ∷ (var 0 ∷ [])) → ⊥

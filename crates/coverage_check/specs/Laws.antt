@@ -29,7 +29,7 @@ OneNamed =
     IsMissing sig rows sorts vs × (vs ≡ ws)
 
 -- `tree` takes the numbers of the rules with a left side, and what it answers of them is right
--- exactly where it is right of the guards of the left side's group
+-- if and only if it is right of the guards of the left side's group
 abbrev pub TreeDecidesGroups : Type 0
 TreeDecidesGroups =
     (spec : Spec) (left : Tree) →

@@ -19,7 +19,7 @@ IsSettled sig rows sorts c =
 
 module _ (sig : Sig) where
   -- not all rows begin with a variable, and under no constructor before this one, which is of the
-  -- sort, are values missing; that some are missing under this one follows where values are named
+  -- sort, are values missing; that some are missing under this one follows if values are named
   -- under it (`one_named`)
   pub record IsFirstOpen (rows : List (List Tree)) (s : SortId) (ss : List SortId)
       (c : ℕ) (i : SymInfo) : Type 0 where

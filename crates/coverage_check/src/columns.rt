@@ -11,7 +11,7 @@ use crate::rows::{
 use std::alloc::Global;
 use term_core::{OutOfMemory, SortId, SymId, TermRefs};
 
-/// The first of the columns at which most rows have a symbol, where some row has one.
+/// The first of the columns at which most rows have a symbol, if some row has one.
 pub(crate) fn busiest(rows: &[TermRefs], columns: usize) -> Option<usize>
     ensures { MatchOption result (HasNoSymbols rows.now columns) (IsBusiest rows.now columns) }
 {

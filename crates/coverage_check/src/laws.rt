@@ -12,7 +12,7 @@ pub fn one_named()
 {}
 
 /// What [`tree`](crate::tree) answers of the rules with one left side is right of the left side's
-/// group: the group is whole exactly where the answer is `Whole`.
+/// group: the group is whole if and only if the answer is `Whole`.
 pub fn tree_decides_groups()
     ensures { TreeDecidesGroups }
 {}

@@ -14,7 +14,7 @@ use spec_core::Signature;
 use std::alloc::Global;
 use term_core::{OutOfMemory, SortId, SymId, Term, TermRefs, Terms, front};
 
-/// The values that are named for the rows, where some are missing. `any` is a variable.
+/// The values that are named for the rows, if some are missing. `any` is a variable.
 #[cycle(name)]
 pub(crate) fn name<'a>(
     alloc: Global,

@@ -8,7 +8,7 @@ use std::alloc::Global;
 use term_core::{Node, OutOfMemory, SortId, SymId, Term, TermRefs, front};
 
 /// The rows opened at a constructor with `count` arguments: of a row that begins with it, the
-/// arguments stand in front; of one that begins with a variable, as many variables; and a row that
+/// arguments come first; of one that begins with a variable, as many variables; and a row that
 /// begins with another constructor is left out. `any` stands for each of these variables.
 pub(crate) fn open_rows<'a>(
     alloc: Global,
@@ -59,7 +59,7 @@ fn open_row<'a>(
     }
 }
 
-/// Adds the pattern so many times.
+/// Adds the pattern this many times.
 fn push_times<'a>(
     row: &mut TermRefs<'a>,
     pattern: &'a Term,

@@ -1,4 +1,4 @@
--- One step of descent for each step, where every sorted ground term has one value, which ranks no higher.
+-- One step of descent for each step, if every sorted ground term has one value, which ranks no higher.
 use Rattle.std.specs.Prelude.{ℕ}
 use Rattle.term_core.specs.Tree.{Tree}
 use Rattle.term_order.specs.Laws.{HasRanks}

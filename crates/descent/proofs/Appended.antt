@@ -1,4 +1,4 @@
--- What stands in lists that are put together.
+-- What is in lists that are put together.
 use Rattle.std.proofs.Common.{◌≡◌, ℕ, zero, suc, ◌+◌, List, [], ◌∷◌, ◌++◌, length, Some, None, ap, arith}
 use Rattle.std.specs.Prelude.{slice_get}
 

@@ -1,4 +1,4 @@
--- A call with values has a value, where each sorted ground term that measures less has one: some left side matches it, the
+-- A call with values has a value, if each sorted ground term that measures less has one: some left side matches it, the
 use Rattle.std.proofs.Common.{◌≡◌, ℕ, ◌+◌, ◌<◌, List, [], ◌∷◌, Some, sym, ◌∙◌, subst, arith, length, map}
 use Rattle.std.specs.Prelude.{slice_get}
 use Rattle.std.specs.List.{AllByRecursion, range_with_len}
@@ -69,7 +69,7 @@ module _ (above : Tree → Tree → Type 0) (spec : Spec) (fine : IsWellSorted s
     part_ground : (m : Match spec (app f vs)) (t : Tree) (u : SortId) → Sorted spec.sig (sorts_of m.rule.vars) t u → (c : Context) → IsGround spec (plug c (app f vs)) → IsGround spec (plug c (instance m.entries t))
     part_ground m t u p c g = plug_ground (length spec.sig.table) c (app f vs) (instance m.entries t) g (sorted_ground spec.sig fine.arities (instance m.entries t) u (part_sorted m t u p))
 
-    -- it measures less than the call where the left side is above it, and so it has a value
+    -- it measures less than the call if the left side is above it, and so it has a value
     part_less : (m : Match spec (app f vs)) (t : Tree) (u : SortId) → Sorted spec.sig (sorts_of m.rule.vars) t u → above m.rule.left t → IsShallow t → (c : Context) → IsGround spec (plug c (app f vs)) → measure (plug c (instance m.entries t)) < measure (plug c (app f vs))
     part_less m t u p a d c g = subst (λ x. measure (plug c (instance m.entries t)) < measure (plug c x)) m.is (falls.in_contexts m.rule.left t m.entries c a d (subst (λ x. IsGround spec (plug c x)) (sym m.is) g) (part_ground m t u p c g))
 

@@ -49,7 +49,7 @@ use Rattle.descent.proofs.SameVariables.{same_variables}
 use Rattle.descent.proofs.RuleUse.{evaluated, guards_from, guards_to, child_fails, FallsAt, weight_falls, guards_fall}
 use Rattle.descent.proofs.MadeSorted.{case_made}
 
--- what is kept of a list stands at some place
+-- what is kept of a list is at some place
 kept_at : (p : Rule → Bool) (rs : List Rule) (n : ℕ) (r : Rule) → slice_get rs n ≡ Some r → p r ≡ true → (j : ℕ) × (slice_get (filter p rs) j ≡ Some r)
 kept_at p [] n r at e = absurd (let q : None ≡ Some r = at in cc)
 kept_at p (x ∷ rs) zero r at e =

@@ -78,7 +78,7 @@ module _ (spec : Spec) (fine : IsWellSorted spec) (apart : NoOverlap spec) (whol
 
   module _ (ctx : List SortId) (xs : List Tree) (values : AreValuesOf spec ctx xs) (x : ℕ) (r : SortId) (at : slice_get ctx x ≡ Some r) (u : Tree) (k : ℕ) (gives : Gives spec (instance xs (var x)) u k) where
     mutual
-      -- what stands under constructors has no greater value than the whole
+      -- what is under constructors has no greater value than the whole
       under_size : (t : Tree) (s : SortId) (v : Tree) (n : ℕ) → Sorted spec.sig ctx t s → StandsUnder spec.sig x t → Gives spec (instance xs t) v n → tree_size u ≤ tree_size v
       under_size (var y) s v n p o g =
           let h : Gives spec (instance xs (var x)) v n = subst (λ z. Gives spec (instance xs (var z)) v n) (sym o) g in
@@ -97,7 +97,7 @@ module _ (spec : Spec) (fine : IsWellSorted spec) (apart : NoOverlap spec) (whol
       under_sizes (some t ts) (s ∷ ss) vs n p (inl o) (more_terms {v = w} {vs = ws} {n = m} one more cost) = omega (arith, under_size t s w m p.0 o one)
       under_sizes (some t ts) (s ∷ ss) vs n p (inr o) (more_terms {vs = ws} {k = m} one more cost) = omega (arith, under_sizes ts ss ws m p.1 o more)
 
-  -- a variable has no value in which its own stands below the root
+  -- a variable has no value in which its own is below the root
   no_own_part : (ctx : List SortId) (xs : List Tree) → AreValuesOf spec ctx xs → (x : ℕ) (g : ℕ) (us : Trees) (s : SortId) → Sorted spec.sig ctx (var x) s → Sorted spec.sig ctx (app g us) s → StandsUnder spec.sig x (app g us) → (v : Tree) (n m : ℕ) → Gives spec (instance xs (var x)) v n → Gives spec (instance xs (app g us)) v m → ⊥
   no_own_part ctx xs values x g us s p q o v n m a b =
       let c = built_value g (instances xs us) v m o.0 b in

@@ -34,7 +34,7 @@ to-map f [] x k l e = absurd (omega arith)
 to-map f (y ∷ ys) x zero l e = subst (λ z. IsIn (f x) (f z ∷ map f ys)) (sym e) (head-in (f x) (map f ys))
 to-map f (y ∷ ys) x (suc k) l e = tail-in (f x) (f y) (map f ys) (to-map f ys x k (omega arith) e)
 
--- The weights fall where the multisets of sides do.
+-- The weights fall if the multisets of sides do.
 pub exceeds_image : {X : Type 0} (gt : X → X → Type 0) (f : X → ℕ) (xs ys : List X) → ((x y : X) → Contains xs x → Contains ys y → gt x y → f y < f x) → Exceeds gt xs ys → IsHeavier (map f xs) (map f ys)
 exceeds_image gt f xs ys falls d =
     exceeds_cancelled (map f xs) (map f ys) (map f d.rests.common) (map f d.rest) (map f d.other)
@@ -52,7 +52,7 @@ module _ (above : Tree → Tree → Type 0) (rank : ℕ → ℕ → Tree → ℕ
   at_least_one : 1 ≤ 100
   at_least_one = omega arith
 
-  -- the rank of an instance, and 0 where it isn't ground
+  -- the rank of an instance, and 0 if it isn't ground
   instance_rank : Tree → ℕ
   instance_rank t = rank_of above rank laws (length spec.sig.table) 100 at_least_one (instance xs t)
 
@@ -74,7 +74,7 @@ module _ (above : Tree → Tree → Type 0) (rank : ℕ → ℕ → Tree → ℕ
   contains_all P (u ∷ ts) h t (zero, l, e) = subst P e h.0
   contains_all P (u ∷ ts) h t (suc k, l, e) = contains_all P ts h.1 t (k, omega (arith, l), e)
 
-  -- what comparing tells of weights, where all sides are ground under the values and the second ones aren't too deep
+  -- what comparing tells of weights, if all sides are ground under the values and the second ones aren't too deep
   pub compared_weighs : (c d : Clause) (r : Relation) → Compares above c d r → AllByRecursion (Grounded spec xs) (sides c) → AllByRecursion (Grounded spec xs) (sides d) → AllByRecursion (λ t. tree_depth t ≤ 100) (sides d) → (w v : List ℕ) → IsWeight rank spec xs c w → IsWeight rank spec xs d v → Weighs r w v
   compared_weighs c d Neither m gc gd deep w v p q = tt
   compared_weighs c d Same m gc gd deep w v p q = inl (subst (λ z. IsPermutation z v) (sym (ranks_are (sides c) gc w p)) (subst (λ z. IsPermutation (map instance_rank (sides c)) z) (sym (ranks_are (sides d) gd v q)) (IsPermutation-map instance_rank (sides c) (sides d) m)))

@@ -38,7 +38,7 @@ use Rattle.descent.proofs.Solving.{instance_after, holds_after, broken_after, we
 use Rattle.descent.proofs.SortedInstances.{set_at}
 use Rattle.descent.proofs.MadeSorted.{covered_made}
 
--- where a pattern has an instance that is a value, each of its variables has a value of its sort
+-- if a pattern has an instance that is a value, each of its variables has a value of its sort
 mutual
   part_value : (sig : Sig) (ctx : List SortId) (ts : List Tree) (p : Tree) (s : SortId) → Sorted sig ctx p s → IsValue sig s (instance ts p) → (n : ℕ) → In n (occurrences p) → (r : SortId) → slice_get ctx n ≡ Some r → IsValue sig r (instance ts (var n))
   part_value sig ctx ts (var m) s a v n (inl e) r g =
@@ -56,7 +56,7 @@ mutual
   part_values sig ctx ts (some u us) [] a v b n i r g = absurd a
   part_values sig ctx ts (some u us) (s ∷ ss) a v b n i r g = elim (in_either n (occurrences u) (occurrences_all us) i) [ inl h ↦ part_value sig ctx ts u s a.0 (v.0, b.0) n h r g | inr h ↦ part_values sig ctx ts us ss a.1 v.1 b.1 n h r g ]
 
--- what stands behind a list
+-- what comes after a list
 index_right : (xs ys : List Tree) (n m : ℕ) (d : Tree) → m ≡ length xs + n → slice_index_or (xs ++ ys) m d ≡ slice_index_or ys n d
 index_right [] ys n m d e = let q : m ≡ n = omega (arith, e) in ap (λ k. slice_index_or ys k d) q
 index_right (x ∷ xs) ys n zero d e = absurd (omega (arith, e))

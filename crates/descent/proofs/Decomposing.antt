@@ -83,7 +83,7 @@ pairs_hold spec xs (some t ts) none vs a b = tt
 pairs_hold spec xs (some t ts) (some u us) none a b = elim a [ ]
 pairs_hold spec xs (some t ts) (some u us) (some v vs) (more_terms one more c) (more_terms one' more' c') = ((v, _, _, one, one'), pairs_hold spec xs ts us vs more more')
 
--- where the arguments' values differ some pair is broken
+-- if the arguments' values differ some pair is broken
 pair_broken : (spec : Spec) (xs : List Tree) (sig : Sig) (ctx : List SortId) (ss : List SortId) (ts us vs ws : Trees) {n m : ℕ} → SortedAll sig ctx ts ss → SortedAll sig ctx us ss → GivesAll spec (instances xs ts) vs n → GivesAll spec (instances xs us) ws m → vs ≢ ws → (k : ℕ) × (p : Equation) × (slice_get (pairs ts us) k ≡ Some p) × EquationBroken spec xs p
 pair_broken spec xs sig ctx ss none none none none p q no_terms no_terms d = absurd (d refl)
 pair_broken spec xs sig ctx ss none none none (some w ws) p q a b d = elim b [ ]

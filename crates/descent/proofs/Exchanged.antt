@@ -50,7 +50,7 @@ drops_with w a g b m d e small = record {
     none : (z : ℕ) → m ≤ z → occurs z g ≡ 0
     none z l = elim (zero_or (occurs z g)) [ inl h ↦ h | inr i ↦ absurd (omega (arith, small z i)) ]
 
--- the sides before and behind the one that is exchanged
+-- the sides before and after the one that is exchanged
 side_split : (left : Bool) (e : Equation) (before after : List Equation) → (b : List Tree) × (a : List Tree) × ((t : Tree) → sides_of (before ++ (with_side left e t ∷ after)) ≡ b ++ (t ∷ a))
 side_split true e before after = (sides_of before, e.right ∷ sides_of after, λ t. sides_append before (with_side true e t ∷ after))
 side_split false e before after = (sides_of before ++ (e.left ∷ []), sides_of after, λ t. sides_append before (with_side false e t ∷ after) ∙ sym (append_assoc (sides_of before) (e.left ∷ []) (t ∷ sides_of after)))
@@ -103,7 +103,7 @@ module _ (above : Tree → Tree → Type 0) (rank : ℕ → ℕ → Tree → ℕ
     ranks_join (t ∷ ts) us [] b p q = absurd p
     ranks_join (t ∷ ts) us (r ∷ a) b p q = (p.0, ranks_join ts us a b p.1 q)
 
-    -- the weight falls where a side of a lesser rank comes in, and at the rank of the side that goes
+    -- the weight falls when a side of a lesser rank comes in, and at the rank of the side that goes
     pub exchanged_drops : (before after : List Tree) (old new : Tree) → AllByRecursion (Grounded spec xs) before → AllByRecursion (Grounded spec xs) after → ((m n : ℕ) → rank (length spec.sig.table) 100 (instance xs old) m → rank (length spec.sig.table) 100 (instance xs new) n → n < m) → (w v : List ℕ) → AreRanks rank spec xs (before ++ (old ∷ after)) w → AreRanks rank spec xs (before ++ (new ∷ after)) v → (m : ℕ) × rank (length spec.sig.table) 100 (instance xs old) m × ((d : Drops w v) × (d.at ≡ m))
     exchanged_drops before after old new ga gb less w v p q = by (ranks_split above rank laws spec xs before (old ∷ after) w p) (ranks_split above rank laws spec xs before (new ∷ after) v q)
       where

@@ -41,7 +41,7 @@ pub join_one : (before : Trees) (t : Tree) (after : Trees) → join (join before
 join_one none t after = refl
 join_one (some a before) t after = ap (λ us. some a us) (join_one before t after)
 
--- a member of a row, with what is before it and behind it
+-- a member of a row, with what is before it and after it
 pub member_around : (s : Tree) (ts : Trees) → In s (list_of ts) → (before : Trees) × (after : Trees) × (ts ≡ around before s after)
 member_around s none h = absurd h
 member_around s (some t ts) (inl e) = (none, ts, ap (λ u. some u ts) (sym e))
@@ -65,7 +65,7 @@ pub plug_instance : (xs : List Tree) (c : Context) (t : Tree) → instance xs (p
 plug_instance xs hole t = refl
 plug_instance xs (under f before c after) t = ap (λ us. app f us) (around_instance xs before (plug c t) after ∙ ap (λ u. around (instances xs before) u (instances xs after)) (plug_instance xs c t))
 
--- what stands in a ground term is ground
+-- what occurs in a ground term is ground
 pub around_inside : (n : ℕ) (before : Trees) (t : Tree) (after : Trees) → AreGroundIn n (around before t after) → IsGroundIn n t
 around_inside n none t after g = g.0
 around_inside n (some a before) t after g = around_inside n before t after g.1

@@ -14,7 +14,7 @@ use Rattle.descent.proofs.Multisets.{IsIn, exceeds_cancelled}
 to_end : (a m b : List ℕ) → IsPermutation (a ++ (m ++ b)) ((a ++ b) ++ m)
 to_end a m b = subst (λ zs. IsPermutation (a ++ (m ++ b)) zs) (sym (append_assoc a b m)) (IsPermutation-append_right a (m ++ b) (b ++ m) (IsPermutation-append_comm m b))
 
--- where each number that comes in has a greater one among those that go
+-- if each number that comes in has a greater one among those that go
 between : (a m n b : List ℕ) → 1 ≤ length m → ((y : ℕ) → IsIn y n → (x : ℕ) × IsIn x m × (y < x)) → IsHeavier (a ++ (m ++ b)) (a ++ (n ++ b))
 between a m n b l h = exceeds_cancelled (a ++ (m ++ b)) (a ++ (n ++ b)) (a ++ b) m n (to_end a m b) (to_end a n b) l h
 

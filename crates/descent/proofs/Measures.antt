@@ -14,7 +14,7 @@ use Rattle.descent.proofs.RankOf.{rank_of, rank_of_is}
 pub record IsMeasure (above : Tree → Tree → Type 0) (spec : Spec) (measure : Tree → ℕ) : Type 0 where
   -- an argument measures less than the term
   pub on_arguments : (f : ℕ) (ts : Trees) (s : Tree) → In s (list_of ts) → IsGround spec (app f ts) → measure s < measure (app f ts)
-  -- where t is above s, which is shallow, an instance of s measures less than that of t, in every context
+  -- if t is above s, which is shallow, an instance of s measures less than that of t, in every context
   pub in_contexts :
       (t s : Tree) (xs : List Tree) (c : Context) → above t s → IsShallow s → IsGround spec (plug c (instance xs t)) → IsGround spec (plug c (instance xs s)) → measure (plug c (instance xs s)) < measure (plug c (instance xs t))
 

@@ -1,4 +1,4 @@
--- The rank of a term as a function, since of each term it can be told whether it is ground.
+-- The rank of a term as a function, since it can be decided of each term whether it is ground.
 use Rattle.std.proofs.Common.{◌⊎◌, ℕ, ◌<◌, ◌≤◌, inl, inr, arith, length}
 use Rattle.term_core.specs.Tree.{Tree, Trees, var, app, none, some, list_of}
 use Rattle.term_core.specs.Ground.{IsGroundIn, AreGroundIn}

@@ -1,4 +1,5 @@
--- Instances of clauses here: they fail where their premises are there and their conclusions are broken, and then the clauses do.
+-- Instances of clauses here: they fail if their premises are there and their conclusions are broken. Then the
+-- clauses fail.
 use Rattle.std.proofs.Common.{◌≡◌, ◌⊎◌, ℕ, List, [], ◌∷◌, Some, map, inl, inr, sym, subst}
 use Rattle.std.specs.Prelude.{slice_get}
 use Rattle.std.specs.List.{AllByRecursion}

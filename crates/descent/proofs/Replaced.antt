@@ -27,7 +27,7 @@ module _ (spec : Spec) (fine : IsWellSorted spec) (apart : NoOverlap spec) (whol
   gives_around (some z before) x y after none n h g = elim g [ ]
   gives_around (some z before) x y after (some v vs) n h (more_terms {n = a} {k = b} one more cost) = let i = gives_around before x y after vs b h more in (a + i.0, more_terms one i.1 refl)
 
-  -- the value of a term stays where one with the same value is put into it
+  -- the value of a term stays when one with the same value is put into it
   pub same_in : (c : Context) (v : Tree) (n : ℕ) → Gives spec (instance xs (plug c t)) v n → (i : ℕ) × Gives spec (instance xs (plug c u)) v i
   same_in hole v n g = let e : w ≡ v = one_under spec fine apart whole ctx xs values t r sorted_t gives_t g in (m, subst (λ z. Gives spec (instance xs u) z m) e gives_u)
   same_in (under f before c after) v n (built {vs = vs} {n = j} con all) = let a = gives_around before (plug c t) (plug c u) after vs j (λ z i g. same_in c z i g) all in (a.0, built con a.1)

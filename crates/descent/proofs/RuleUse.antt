@@ -1,4 +1,5 @@
--- An instance of a rule's left side in a failing clause: the right side has its value, where the guards hold, and a lesser rank.
+-- An instance of a rule's left side in a failing clause: if the guards hold, the right side has its value, and a
+-- lesser rank.
 use Rattle.std.proofs.Common.{◌≡◌, ℕ, ◌+◌, ◌≤◌, ◌<◌, List, [], ◌∷◌, ◌++◌, Bool, true, false, Some, inl, inr, map, refl, ap, sym, ◌∙◌, subst, arith, length}
 use Rattle.std.specs.Prelude.{slice_get}
 use Rattle.std.specs.List.{AllByRecursion}
@@ -53,7 +54,7 @@ pub boolean_built : (sig : Sig) → IsDeclared sig → (b : Bool) → IsBuilt si
 boolean_built sig d true = (let e : sig.constructors ≡ 2 + length d.constructors = ap (λ (s : Sig). s.constructors) d.is in omega (arith, e), tt)
 boolean_built sig d false = (let e : sig.constructors ≡ 2 + length d.constructors = ap (λ (s : Sig). s.constructors) d.is in omega (arith, e), tt)
 
--- what a left side gives under values, the right side gives where the guards hold
+-- what a left side gives under values, the right side gives if the guards hold
 pub along_rule : (spec : Spec) → IsWellSorted spec → (above : Tree → Tree → Type 0) → IsAdmitted above spec → (k : ℕ) (rule : Rule) → slice_get spec.rules k ≡ Some rule → (ws : List Tree) → AreValuesOf spec (sorts_of rule.vars) ws → (g : ℕ) → GivesGuards spec ws rule.guards g → (v : Tree) (n : ℕ) → Gives spec (instance ws rule.left) v n → (m : ℕ) × Gives spec (instance ws rule.right) v m
 along_rule spec fine above admitted k rule listed ws values g guards v n gives = go rule.left refl
   where
@@ -117,7 +118,7 @@ module _ (above : Tree → Tree → Type 0) (rank : ℕ → ℕ → Tree → ℕ
   pub guards_hold : AllByRecursion (λ (e : Equation). Among e c.premises) (guard_equations fits.terms rule) → (n : ℕ) × GivesGuards spec evaluated.0 rule.guards n
   guards_hold a = guards_from rule.guards here.guards (all_among (guard_equations fits.terms rule) a)
 
-  -- the clause with the right side fails, where the guards hold
+  -- the clause with the right side fails, if the guards hold
   pub child_fails : (g : ℕ) → GivesGuards spec evaluated.0 rule.guards g → ClauseFails spec (holding at (instance fits.terms rule.right)) xs
   child_fails g guards =
       let p = left_sorted in

@@ -76,7 +76,7 @@ module _ (above : Tree → Tree → Type 0) (rank : ℕ → ℕ → Tree → ℕ
       let b = some_ranks ts g.1 in
       (a.0 ∷ b.0, (a.1, b.1))
 
-  -- the ranks of two lists, one behind the other
+  -- the ranks of two lists, one after the other
   pub ranks_split : (ts us : List Tree) (w : List ℕ) → AreRanks rank spec xs (ts ++ us) w → (a : List ℕ) × (b : List ℕ) × (w ≡ a ++ b) × AreRanks rank spec xs ts a × AreRanks rank spec xs us b
   ranks_split [] us w p = ([], w, refl, tt, p)
   ranks_split (t ∷ ts) us [] p = absurd p

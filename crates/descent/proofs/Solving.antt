@@ -33,7 +33,7 @@ use Rattle.descent.proofs.SortedInstances.{set_at}
 use Rattle.descent.proofs.KeptSorts.{exchange_sorted}
 use Rattle.descent.proofs.MadeSorted.{solved_sorts, solved_made}
 
--- two instances, one after the other, are one where they agree on the variables
+-- two instances, one after the other, are one if they agree on the variables
 mutual
   pub instance_after : (sig : Sig) (ctx : List SortId) (ts xs ys : List Tree) → ((n : ℕ) (u : SortId) → slice_get ctx n ≡ Some u → instance ys (instance ts (var n)) ≡ instance xs (var n)) → (t : Tree) (s : SortId) → Sorted sig ctx t s → instance ys (instance ts t) ≡ instance xs t
   instance_after sig ctx ts xs ys h (var n) s p = h n s p

@@ -10,7 +10,7 @@ use Rattle.spec_core.proofs.OneSort.{sort_unique}
 use Rattle.clause_core.specs.Places.{side, with_side}
 use Rattle.descent.proofs.SortedEquations.{HasOneSort}
 
--- the term in a sorted context has a sort, and any term of that sort may stand there
+-- the term in a sorted context has a sort, and any term of that sort may be there
 abbrev Opens : Sig → List SortId → Context → Tree → SortId → Type 0
 Opens sig ctx c t s = (r : SortId) × Sorted sig ctx t r × ((u : Tree) → Sorted sig ctx u r → Sorted sig ctx (plug c u) s)
 

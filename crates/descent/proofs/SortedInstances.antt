@@ -67,7 +67,7 @@ module _ (sig : Sig) (to : List SortId) where
       let k : p.0 ≡ q.0 = cc in
       sym p.2 ∙ ap (λ (i : SymInfo). i.result) k ∙ q.2
 
-  -- an instance of a part of a rule is sorted where that of the left side is
+  -- an instance of a part of a rule is sorted if that of the left side is
   pub part_sorted : (rule : Rule) (u : SortId) (xs : List Tree) → RuleIsSorted sig rule → Sorted sig to (instance xs rule.left) u → (t : Tree) (s : SortId) → Sorted sig (sorts_of rule.vars) t s → Sorted sig to (instance xs t) s
   part_sorted rule u xs fine q t s p =
       let ctx = sorts_of rule.vars in

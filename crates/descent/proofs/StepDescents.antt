@@ -52,7 +52,7 @@ module _ (above : Tree → Tree → Type 0) (c : Clause) (nodes : List Clause) (
       let m = child_made cs made.clauses p k (child r d) at in
       inl (k, m.0, m.1, subst (λ q. GoesTo rank spec c xs m.0.clause q) (sym m.2.1) (subst (λ x. GoesTo rank spec c xs x r) (sym m.2.0) g))
 
--- what stands in a mapped list
+-- what is in a mapped list
 pub get_map : {X Y : Type 0} (f : X → Y) (xs : List X) (k : ℕ) (x : X) → slice_get xs k ≡ Some x → slice_get (map f xs) k ≡ Some (f x)
 get_map f [] k x at = absurd (let q : None ≡ Some x = at in cc)
 get_map f (y ∷ ys) zero x at = let q : Some y ≡ Some x = at in let e : y ≡ x = cc in ap (λ z. Some (f z)) e

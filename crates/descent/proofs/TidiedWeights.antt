@@ -1,4 +1,4 @@
--- Tidied clauses weigh what the clauses do, and fail where they do.
+-- Tidied clauses weigh what the clauses do, and fail if they do.
 use Rattle.std.proofs.Common.{◌≡◌, ℕ, List, [], ◌∷◌, ◌++◌, map, inl, inr, sym, ◌∙◌, subst}
 use Rattle.std.proofs.lemmas.List.{map-append}
 use Rattle.term_core.specs.Tree.{Tree, trees_of}

@@ -1,4 +1,4 @@
--- Where a tidied clause fails, the clause does: variables that don't occur get some value of their sort.
+-- If a tidied clause fails, the clause does: variables that don't occur get some value of their sort.
 use Rattle.std.proofs.Common.{◌≡◌, ◌⊎◌, ℕ, zero, suc, ◌+◌, List, [], ◌∷◌, Some, None, map, inl, inr, refl, ap, sym, ◌∙◌, subst, arith, length}
 use Rattle.std.specs.Prelude.{slice_get, slice_index_or}
 use Rattle.std.specs.List.{AllByRecursion}

@@ -33,7 +33,7 @@ use Rattle.descent.proofs.Solving.{instance_after}
 use Rattle.descent.proofs.Counted.{NoMore, no_more_cons}
 use Rattle.descent.proofs.NoHigher.{NoHigher, instance_no_higher}
 
--- where the second entries give what the first ones do, instances by them do
+-- if the second entries give what the first ones do, instances by them do
 module _ (spec : Spec) (ctx : List SortId) (xs ys : List Tree) (entry : (n : ℕ) (s : SortId) → slice_get ctx n ≡ Some s → (v : Tree) (k : ℕ) → Gives spec (instance xs (var n)) v k → (m : ℕ) × Gives spec (instance ys (var n)) v m) where
   mutual
     gives_too : (t : Tree) (s : SortId) → Sorted spec.sig ctx t s → (v : Tree) (k : ℕ) → Gives spec (instance xs t) v k → (m : ℕ) × Gives spec (instance ys t) v m
@@ -186,7 +186,7 @@ module _ (above : Tree → Tree → Type 0) (rank : ℕ → ℕ → Tree → ℕ
     ranks_down (t ∷ ts) p (r ∷ w) [] a b = absurd b
     ranks_down (t ∷ ts) p (r ∷ w) (q ∷ v) a b = no_more_cons r q w v (lower_side t p.0.0 p.0.1 r q a.0 b.0) (ranks_down ts p.1 w v a.1 b.1)
 
-  -- where the instance of a clause fails, the clause fails under the values of the terms, and weighs no more
+  -- if the instance of a clause fails, the clause fails under the values of the terms, and weighs no more
   pub record FailsLower : Type 0 where
     pub others : List Tree
     pub fails : ClauseFails spec d others

@@ -1,4 +1,4 @@
--- A whole group has a member whose guards hold, where each test has a Boolean.
+-- A whole group has a member whose guards hold, if each test has a Boolean.
 use Rattle.std.proofs.Common.{◌≡◌, ℕ, zero, suc, ◌+◌, List, [], ◌∷◌, Bool, true, false, cond, Some, inl, inr, refl, ap, sym, ◌∙◌, subst}
 use Rattle.std.specs.Prelude.{slice_get}
 use Rattle.std.specs.List.{AllByRecursion}

@@ -51,7 +51,7 @@ module _ (rank : ℕ → ℕ → Tree → ℕ → Type 0) (spec : Spec) where
   abbrev pub GoesOn : List Clause → Clause → List Tree → Children → Type 0
   GoesOn nodes c values made = GoesToChild c values made ⊎ GoesToNode nodes c values made
 
--- where the goals that may be used are true, each failing instance of a node goes on by what this
+-- if the goals that may be used are true, each failing instance of a node goes on by what this
 -- step makes
 abbrev pub StepDescends : (Tree → Tree → Type 0) → (ℕ → ℕ → Tree → ℕ → Type 0) → Step → Type 0
 StepDescends above rank step =

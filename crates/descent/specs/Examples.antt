@@ -17,7 +17,7 @@ pub record WorkedExamples : Type 0 where
   pub sum : HasOneValue RankInSums naturals (plus_term (succ_term zero_term) zero_term) nat
   pub sum_is_one : sum.value ≡ succ_term zero_term
   pub two_uses : sum.cost ≡ 2
-  -- by size, plus(?0, zero) = ?0 weighs 4 and 2 where ?0 is succ(zero)
+  -- by size, plus(?0, zero) = ?0 weighs 4 and 2 if ?0 is succ(zero)
   pub weight : IsWeight by_size naturals (succ_term zero_term ∷ []) unit_clause (4 ∷ 2 ∷ [])
   pub no_other_weight :
       IsWeight by_size naturals (succ_term zero_term ∷ []) unit_clause (4 ∷ 3 ∷ []) → ⊥

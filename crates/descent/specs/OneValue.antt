@@ -27,7 +27,7 @@ pub record HasOneValue
   pub alone : (w : Tree) (m : ℕ) → Gives spec t w m → (value ≡ w) × (cost ≡ m)
   pub lower : RanksNoHigher rank spec t value
 
--- each term of a sort without variables has one value, where the specification is admitted
+-- each term of a sort without variables has one value, if the specification is admitted
 abbrev pub ValuesRankLower : (Tree → Tree → Type 0) → (ℕ → ℕ → Tree → ℕ → Type 0) → Type 0
 ValuesRankLower above rank =
     (spec : Spec) → IsWellSorted spec → IsAdmitted above spec →

@@ -18,13 +18,13 @@ use Rattle.clause_core.specs.Steps.{row_of}
 abbrev pub NodesAreSorted : Sig → List Clause → Type 0
 NodesAreSorted sig nodes = (j : ℕ) (d : Clause) → slice_get nodes j ≡ Some d → ClauseIsSorted sig d
 
--- a clause as it stands in a node: sorted, tidied and within the limits
+-- a clause as it is in a node: sorted, tidied and within the limits
 pub record IsNode (sig : Sig) (c : Clause) : Type 0 where
   pub sorted : ClauseIsSorted sig c
   pub is_tidied : IsTidied c
   pub within : IsWithin c
 
--- each child that a step makes of a sorted node, where the nodes so far are sorted, can be a node
+-- each child that a step makes of a sorted node, if the nodes so far are sorted, can be a node
 abbrev pub ChildrenAreSorted : (Tree → Tree → Type 0) → Type 0
 ChildrenAreSorted above =
     (step : Step) (spec : Spec) (numbers : List ℕ) (nodes : List Clause) (c : Clause)

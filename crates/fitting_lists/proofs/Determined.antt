@@ -1,4 +1,4 @@
--- Questions that have at most one answer: each variable of the question stands in its patterns.
+-- Questions that have at most one answer: each variable of the question occurs in its patterns.
 use Rattle.std.proofs.Common.{◌≡◌, ℕ, ◌<◌, List, [], ◌∷◌, Bool, refl, ap, sym, ◌∙◌, arith, length, map}
 use Rattle.std.specs.Prelude.{flat_map}
 use Rattle.std.specs.List.{AllByRecursion}
@@ -15,7 +15,7 @@ use Rattle.fitting_lists.specs.Fitting.{Located, both_sides, has_all, leading, f
 use Rattle.fitting_lists.proofs.AllItems.{all_of, all_mapped, all_flat, all_taken, all_filtered}
 use Rattle.fitting_lists.proofs.VariableTests.{all_occur}
 
--- each variable of the question stands in its patterns
+-- each variable of the question occurs in its patterns
 abbrev pub IsDetermined : Question → Type 0
 IsDetermined question =
     (n : ℕ) → n < question.variables → OccursAny n (trees_of question.patterns)

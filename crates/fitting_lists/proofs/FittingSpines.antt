@@ -39,7 +39,7 @@ spines_at :
 spines_at f p t (inl h) = inr (refl, inl (h.0, omega (arith, h.1)))
 spines_at f p t (inr e) = inr (refl, inr (ap (λ (r : Run). min r.0 (2 ^ 32 - 1)) e, ap (λ (r : Run). r.1) e))
 
--- where some list makes the pattern the term
+-- if some list makes the pattern the term
 pub spines_fit : (list : List Tree) (p : Tree) → MayBecome (spine_of p) (spine_of (instance list p))
 spines_fit list (var n) = inl refl
 spines_fit list (app f ts) =
@@ -82,11 +82,11 @@ last_is f (u ∷ []) (suc i) t long is = absurd (omega arith)
 last_is f (u ∷ v ∷ vs) zero t long is = absurd (omega arith)
 last_is f (u ∷ v ∷ vs) (suc i) t long is = last_is f (v ∷ vs) i t (omega arith) is
 
--- so many symbols before a run
+-- this many symbols before a run
 abbrev pub counted : ℕ → Run → Run
 counted k r = (k + r.0, r.1)
 
--- a whole spine, of which so many symbols are counted
+-- a whole spine, of which this many symbols are counted
 pub all_counted :
     (f k : ℕ) (r : Run) (end : SpineEnd) → k < 2 ^ 32 → r ≡ (0, end) →
     record { root = Some (numbered f); length = k; end = end } ≡ spine_from f (counted k r)

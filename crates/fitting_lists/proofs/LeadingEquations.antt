@@ -25,7 +25,7 @@ module _ {A : Type 0} where
     left_at true y xs zs e = absurd (let q : (y ∷ xs) ≡ [] = e in cc)
     left_at false y xs zs e = (e, refl)
 
-    -- the first item that is kept, where none before it is
+    -- the first item that is kept, if none before it is
     pub first_kept :
         (xs : List A) (i : ℕ) (x : A) → i < length xs → x ≡ get_or xs i x →
         filter p (take i xs) ≡ [] → p x ≡ true → take 1 (filter p xs) ≡ x ∷ []

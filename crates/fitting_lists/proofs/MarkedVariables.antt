@@ -11,7 +11,7 @@ use Rattle.fitting_lists.proofs.VariableTests.{all_found, all_occur}
 
 -- the variables of one term more
 module _ (n : ℕ) where
-  -- the variable is in the first terms, so many of them
+  -- the variable is in the first terms, this many of them
   abbrev InFirst : List Tree → ℕ → Type 0
   InFirst ts i = OccursAny n (trees_of (take i ts))
 
@@ -95,7 +95,7 @@ marks_sides old mid new e p q =
     joined n (inl h) = inl h
     joined n (inr h) = inr (inl h)
 
--- at first no variable has its mark
+-- in a list without marks no variable has its mark
 unmarked : (count n : ℕ) → n < count → IsMarked (replicate count false) n → ⊥
 unmarked zero n lt m = absurd (omega arith)
 unmarked (suc count) zero lt m = let q : false ≡ true = m in cc

@@ -134,14 +134,14 @@ module _ (c : Clause) (ts : List Tree) where
   all_occur e n lt =
       occurs_in_one n ts (passes_below (λ k. stands_in_one k ts) (length c.ctx) e n lt)
 
-  -- and holds where each of them occurs
+  -- and holds if each of them occurs
   pub all_found :
       ((n : ℕ) → n < length c.ctx → OccursAny n (trees_of ts)) → has_all c ts ≡ true
   all_found h =
       passing_range (λ k. stands_in_one k ts) 0 (length c.ctx)
       (λ n le lt. found_in_one n ts (h n (omega arith)))
 
-  -- and fails where one doesn't
+  -- and fails if one doesn't
   pub not_all :
       (n : ℕ) → n < length c.ctx → (OccursAny n (trees_of ts) → ⊥) → has_all c ts ≡ false
   not_all n lt absent = no_other (has_all c ts) (λ e. absent (all_occur e n lt))

@@ -64,19 +64,19 @@ pub record WorkedExamples : Type 0 where
   -- a conclusion with x and y leads
   pub conclusion_leads :
       leading sums ≡ record { conclusion = true; equation = commutes (var 0) (var 1) } ∷ []
-  -- also behind a premise; a premise leads where the conclusion lacks y
+  -- also after a premise; a premise leads if the conclusion lacks y
   pub before_premises :
       leading right_zero
       ≡ record { conclusion = true; equation = equals (plus_term (var 0) (var 1)) (var 0) } ∷ []
   pub premise_leads :
       leading equal_ones ≡ record { conclusion = false; equation = equals (var 0) (var 1) } ∷ []
-  -- the first of two leads, and none where no equation has both x and y
+  -- the first of two leads, and none if no equation has both x and y
   pub first_leads :
       leading two_units
       ≡ record { conclusion = true; equation = equals (plus_term (var 0) zero_term) (var 0) } ∷ []
   pub none_leads : leading scattered ≡ []
-  -- the conclusion of the node is asked as written and then swapped, where a conclusion leads, and
-  -- its premise where a premise does
+  -- the conclusion of the node is asked as written and then swapped, if a conclusion leads, and
+  -- its premise if a premise does
   pub conclusions_asked :
       fittings node sums
       ≡ sums_to (equals (succ_term (var 0)) zero_term)
@@ -96,7 +96,7 @@ pub record WorkedExamples : Type 0 where
   pub no_fitting_list :
       IsOnlyAnswer (sums_to (equals (plus_term zero_term (succ_term (var 0))) zero_term)) None
   -- both sides of plus(x, y) = plus(y, x) may be rewritten, the left one alone of plus(x, y) = x,
-  -- and none where there are two conclusions or no conclusion
+  -- and none if there are two conclusions or no conclusion
   pub both_rewrite :
       rewritable sums
       ≡ (true, plus_term (var 0) (var 1)) ∷ (false, plus_term (var 1) (var 0)) ∷ []

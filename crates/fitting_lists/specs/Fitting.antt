@@ -27,7 +27,7 @@ abbrev pub located : Bool → List Equation → List Located
 located conclusion es =
     map (λ (e : Equation). record { conclusion = conclusion; equation = e }) es
 
--- the first equation in which all variables of the clause are, where there is one: conclusions
+-- the first equation in which all variables of the clause are, if there is one: conclusions
 -- before premises
 abbrev pub leading : Clause → List Located
 leading c =

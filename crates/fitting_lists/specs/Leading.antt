@@ -1,4 +1,4 @@
--- Where the leading equation of a clause stands.
+-- Where the leading equation of a clause is.
 use Rattle.std.specs.Prelude.{◌≡◌, Bool, List, [], ◌∷◌, Option, Some, MatchOption, filter, take, slice_get}
 use Rattle.spec_core.specs.declared.records.Equation.{Equation}
 use Rattle.clause_core.specs.declared.clauses.Clause.{Clause}
@@ -12,7 +12,7 @@ pub record HasSpines (e : Equation) (place : LeadingPlace) : Type 0 where
   pub left : place.left ≡ spine_of e.left
   pub right : place.right ≡ spine_of e.right
 
--- the equation that stands there leads
+-- the equation that is there leads
 pub record LeadsFrom (c : Clause) (place : LeadingPlace) : Type 0 where
   pub equation : Equation
   pub there : slice_get (equations place.conclusion c) place.index ≡ Some equation
@@ -29,7 +29,7 @@ abbrev pub with_all : Clause → Bool → List Equation
 with_all c conclusion =
     filter (λ (e : Equation). has_all c (both_sides e)) (equations conclusion c)
 
--- the first of them stands there
+-- the first of them is there
 pub record FirstStands (c : Clause) (conclusion : Bool) (place : LeadingPlace) : Type 0 where
   pub equation : Equation
   pub there : slice_get (equations conclusion c) place.index ≡ Some equation

@@ -1,7 +1,7 @@
 -- Marks of variables: which of them a walk over terms has met.
 use Rattle.std.specs.Prelude.{◌≡◌, ◌↔◌, ◌⊎◌, ℕ, List, Bool, true, IsTrue, length, slice_index_or}
 
--- the variable of this number has its mark, or there is no place for one
+-- the variable with this number has its mark, or there is no place for one
 abbrev pub IsMarked : List Bool → ℕ → Type 0
 IsMarked marks n = IsTrue (slice_index_or marks n true)
 

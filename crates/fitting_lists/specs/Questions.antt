@@ -2,8 +2,8 @@
 use Rattle.std.specs.Prelude.{◌≡◌, ℕ, List, map, length}
 use Rattle.term_core.specs.Tree.{Tree, instance}
 
--- which list has so many terms, one for each variable, by which each pattern becomes the term that
--- stands beside it?
+-- which list has this many terms, one for each variable, by which each pattern becomes the term that
+-- is beside it?
 pub record Question : Type 0 where
   pub variables : ℕ
   pub patterns : List Tree

@@ -1,5 +1,5 @@
--- Spines of terms: the symbol at the root, how often it stands from there on along last arguments,
--- and what ends this. Where a pattern becomes a term, their spines fit.
+-- Spines of terms: the symbol at the root, how often it occurs from there on along last arguments,
+-- and what ends this. If a pattern becomes a term, their spines fit.
 use Rattle.std.specs.Prelude.{◌≡◌, ℕ, suc, ◌-◌, ◌^◌, ◌≤◌, ◌==◌, ◌⊎◌, Option, Some, None, min, if◌then◌else◌}
 use Rattle.term_core.specs.Tree.{Tree, Trees, var, app, none, some}
 use Rattle.term_core.specs.declared.ids.SymId.{SymId}
@@ -7,11 +7,11 @@ use Rattle.fitting_lists.specs.declared.spines.Spine.{Spine}
 use Rattle.fitting_lists.specs.declared.spines.SpineEnd.{SpineEnd}
 use Rattle.fitting_lists.specs.declared.spines.SpineEnd.TheVariants.{Variable, NoArguments, Symbol}
 
--- the symbol of this number
+-- the symbol with this number
 abbrev pub numbered : ℕ → SymId
 numbered f = record { 0 = f }
 
--- how often a symbol stands, and what ends this
+-- how often a symbol occurs, and what ends this
 abbrev pub Run : Type 0
 Run = ℕ × SpineEnd
 
@@ -19,7 +19,7 @@ abbrev pub one_more : Run → Run
 one_more r = (suc r.0, r.1)
 
 abbrev mutual
-  -- how often the symbol stands along last arguments, from the root of the term on
+  -- how often the symbol occurs along last arguments, from the root of the term on
   pub run : ℕ → Tree → Run
   run f (var n) = (0, Variable)
   run f (app g ts) = if g == f then one_more (last_run f ts) else (0, Symbol (numbered g))
@@ -43,7 +43,7 @@ abbrev pub spine_of : Tree → Spine
 spine_of (var n) = record { root = None; length = 0; end = Variable }
 spine_of (app f ts) = spine_from f (one_more (last_run f ts))
 
--- the symbols of the first spine stand in the second one too: a variable may go on from there, and
+-- the symbols of the first spine occur in the second one too: a variable may go on from there, and
 -- else all is the same
 abbrev pub EndsWithin : Spine → Spine → Type 0
 EndsWithin p t =
@@ -53,11 +53,11 @@ EndsWithin p t =
 abbrev pub MayBecome : Spine → Spine → Type 0
 MayBecome p t = (p.length ≡ 0) ⊎ ((p.root ≡ t.root) × EndsWithin p t)
 
--- how often the symbol at the root of a spine stands along the term
+-- how often the symbol at the root of a spine occurs along the term
 abbrev pub stands : Option SymId → Tree → ℕ
 stands None t = 0
 stands (Some f) t = (run f.0 t).0
 
--- how often it would have to stand more for a pattern with this spine to become the term
+-- how often it would have to occur more for a pattern with this spine to become the term
 abbrev pub missing_in : Spine → Tree → ℕ
 missing_in p t = p.length - stands p.root t

@@ -14,7 +14,7 @@ enum Below<'a> {
     Last(&'a Term, &'a Term),
 }
 
-/// Whether the symbols along last arguments agree, as far as both sides go on. Where they don't, no
+/// Whether the symbols along last arguments agree, as far as both sides go on. If they don't, no
 /// list makes the sides of the equation these terms. Both sides are walked at once, since either
 /// may be the one that tells soon.
 pub(crate) fn sides_agree(equation: &Equation, left: &Term, right: &Term) -> bool
@@ -64,7 +64,7 @@ fn last_arguments<'a>(pattern: &'a Term, term: &'a Term) -> Below<'a>
     }
 }
 
-/// The last of the patterns and that of the terms, where there are as many of both.
+/// The last of the patterns and that of the terms, if there are as many of both.
 fn last_ones<'a>(patterns: &'a [Term], terms: &'a [Term]) -> Below<'a>
     ensures becomes { (list : List Tree) →
         instances list (trees_of patterns.now) ≡ trees_of terms.now → StillBecomes list result }

@@ -3,7 +3,7 @@ ghost use Rattle.term_core.specs.Tree.{Tree, trees_of, instance, instances};
 
 use term_core::{Node, Term, front};
 
-/// Whether the symbols of the pattern stand in the term too. Where they don't, no list makes the
+/// Whether the symbols of the pattern occur in the term too. If they don't, no list makes the
 /// pattern the term. Repeated variables are not compared.
 #[cycle(may_become)]
 pub fn may_become(pattern: &Term, term: &Term) -> bool
@@ -33,7 +33,7 @@ fn may_become_all(patterns: &[Term], terms: &[Term]) -> bool
     }
 }
 
-/// Whether the root of the pattern is a variable or the symbol at the root of the term. Where it is
+/// Whether the root of the pattern is a variable or the symbol at the root of the term. If it is
 /// neither, no list makes the pattern the term.
 fn roots_agree(pattern: &Term, term: &Term) -> bool
     ensures { (list : List Tree) → instance list pattern.now ≡ term.now → IsTrue result }

@@ -8,13 +8,13 @@ pub fn worked_examples()
     ensures { WorkedExamples }
 {}
 
-/// Where some list makes a pattern a term, their spines say that the one may become the other.
+/// If some list makes a pattern a term, their spines say that the one may become the other.
 pub fn spines_may_become()
     ensures { (list : List Tree) (p t : Tree) →
         instance list p ≡ t → MayBecome (spine_of p) (spine_of t) }
 {}
 
-/// Where some list makes a pattern a term, none of the symbols along the pattern is missing along
+/// If some list makes a pattern a term, none of the symbols along the pattern is missing along
 /// the term.
 pub fn nothing_is_missing()
     ensures { (list : List Tree) (p t : Tree) →

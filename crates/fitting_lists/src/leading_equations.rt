@@ -8,7 +8,7 @@ use spec_core::Equation;
 use std::alloc::Global;
 use term_core::OutOfMemory;
 
-/// Where the leading equation of a clause stands, its index in the conclusions or in the premises,
+/// Where the leading equation of a clause is, its index in the conclusions or in the premises,
 /// and the spines of its sides.
 #[derive(Clone, Copy)]
 pub struct LeadingPlace {

@@ -6,7 +6,7 @@ ghost use Rattle.fitting_lists.specs.Marks.{IsMarked, MarksMore};
 use std::alloc::Global;
 use term_core::{Node, OutOfMemory, Term};
 
-/// No marks for so many variables.
+/// No marks for this many variables.
 pub(crate) fn no_marks(alloc: Global, count: usize) -> Result<Vec<bool>, OutOfMemory>
     ensures { IfOk result (λ marks. marks.items ≡ replicate count false) }
 {

@@ -13,7 +13,7 @@ use term_core::{OutOfMemory, Term};
 
 /// Room in which the variables of a pattern get their terms. It is used again from try to try, so
 /// that a try allocates nothing once there is room for its variables. A try compares some symbols
-/// first: where they differ, nothing is touched. Where memory runs out, the next try goes on as any
+/// first: if they differ, nothing is touched. If memory runs out, the next try goes on as any
 /// other.
 #[derive(Drop)]
 pub struct Matcher<'a> {
@@ -30,7 +30,7 @@ impl<'a> Matcher<'a> {
         }
     }
 
-    /// Whether the equation, whose variables are so many, becomes that of these two sides by some
+    /// Whether the equation, which has this many variables, becomes that of these two sides by some
     /// list of terms, which is then `terms`. Nothing is copied.
     pub fn fitting(
         &mut self,
@@ -60,8 +60,8 @@ impl<'a> Matcher<'a> {
         Ok(true)
     }
 
-    /// Whether the side, whose variables are so many, becomes the term by some list of terms, which
-    /// is then `terms`. Nothing is copied.
+    /// Whether the side, which has this many variables, becomes the term by some list of terms,
+    /// which is then `terms`. Nothing is copied.
     pub fn rewriting(
         &mut self,
         count: usize,
@@ -86,7 +86,7 @@ impl<'a> Matcher<'a> {
         Ok(true)
     }
 
-    /// The list that the last try found, where it found one.
+    /// The list that the last try found, if it found one.
     pub fn terms(&self) -> &[&'a Term]
         ensures { terms_of result.now ≡ found_in self.now }
     {

@@ -21,7 +21,7 @@ pub fn has_all_variables(clause: &Clause, term: &Term) -> bool
 }
 
 /// Whether all variables of the clause are in the equation. Each side is walked once, the right one
-/// only where the left one lacks some of them.
+/// only if the left one lacks some of them.
 pub(crate) fn equation_has_all(
     alloc: Global,
     clause: &Clause,

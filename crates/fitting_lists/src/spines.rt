@@ -13,9 +13,9 @@ pub enum SpineEnd {
     Symbol(SymId),
 }
 
-/// The spine of a term: the symbol at its root, how often it stands from there on along last
+/// The spine of a term: the symbol at its root, how often it occurs from there on along last
 /// arguments, and what ends this. So succ(succ(plus(x, y))) has succ, 2 and plus. A variable has the
-/// length 0. Where spines don't fit, a pattern doesn't become a term, which is known without a walk.
+/// length 0. If spines don't fit, a pattern doesn't become a term, which is known without a walk.
 #[derive(Clone, Copy, Debug)]
 pub struct Spine {
     pub root: Option<SymId>,
@@ -48,7 +48,7 @@ impl Spine {
         self.root == other.root && self.ends_within(other)
     }
 
-    /// How often the root's symbol would have to stand more from the term's root on along last
+    /// How often the root's symbol would have to occur more from the term's root on along last
     /// arguments for a pattern with this spine to become the term. The walk is no longer than the
     /// spine.
     pub fn missing(self, term: &Term) -> u32
@@ -100,7 +100,7 @@ fn spine_below(symbol: SymId, arguments: &[Term]) -> Spine
     }
 }
 
-/// How often the symbol would have to stand more to stand so often along last arguments, from the
+/// How often the symbol would have to occur more to occur so often along last arguments, from the
 /// last of the terms on.
 fn missing_along(symbol: SymId, terms: &[Term], times: u32) -> u32
     ensures { result ≡ times - (last_run symbol.0 (trees_of terms.now)).0 }
@@ -119,7 +119,7 @@ fn missing_along(symbol: SymId, terms: &[Term], times: u32) -> u32
     0
 }
 
-/// The arguments of the last of the terms, where it begins with the symbol, or what ends the spine.
+/// The arguments of the last of the terms, if it begins with the symbol, or what ends the spine.
 fn next_along(symbol: SymId, terms: &[Term]) -> Result<&[Term], SpineEnd>
     ensures run { let here = last_run symbol.0 (trees_of terms.now) in
         MatchResult result

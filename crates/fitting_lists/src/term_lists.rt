@@ -8,8 +8,8 @@ use spec_core::Equation;
 use std::alloc::Global;
 use term_core::{OutOfMemory, Seq, Term};
 
-/// The terms for the variables of the equation, of which there are so many, by which its sides
-/// become these two. Where there are none, nothing is copied.
+/// The terms for the variables of the equation, of which there are this many, by which its sides
+/// become these two. If there are none, nothing is copied.
 pub fn fitting_terms(
     alloc: Global,
     count: usize,

@@ -58,7 +58,7 @@ other_in_range sig [] s k a at = absurd (let q : None ≡ Some s = at in cc)
 other_in_range sig (v ∷ vs) s zero a at = subst (λ (x : SortId). IsSort sig x) (some_same at) a.0
 other_in_range sig (v ∷ vs) s (suc k) a at = other_in_range sig vs s k a.1 at
 
--- where all variables are of sort Bool no constant is needed
+-- if all variables are of sort Bool no constant is needed
 pub none_needed : (vars : List VarInfo) (sorts : List SortId) → AllByRecursion (λ (v : VarInfo). v.sort.0 ≡ 0) vars → HaveConstants (sorts_of vars) sorts
 none_needed [] sorts a n s at differ = absurd (let q : None ≡ Some s = at in cc)
 none_needed (v ∷ vs) sorts a zero s at differ = absurd (differ (ap (λ (x : SortId). x.0) (sym (some_same at)) ∙ a.0))

@@ -79,7 +79,7 @@ module _ (spec : Spec) where
       | inr le ↦ ap (λ t. instance (zs ++ rest) t) (sym (get_or_past zs k (var k) le))
     ]
 
-  -- values stay instances where one more entry is the value's
+  -- values stay instances if one more entry is the value's
   pub more_instances : (ys zs : List Tree) (x : Tree) → AreInstances ys zs ys → instance ys (var (length zs)) ≡ instance ys x → AreInstances ys (zs ++ x ∷ []) ys
   more_instances ys zs x h e k = elim (below_or_not k (length zs)) [
     | inl lt ↦ h k ∙ ap (λ t. instance ys t) (sym (get_or-append zs (x ∷ []) (var k) k lt))
@@ -94,11 +94,11 @@ module _ (spec : Spec) (fine : IsWellSorted spec) (goal : Goal) (budget : ℕ) (
   abbrev ctx : List SortId
   ctx = sorts_of goal.vars
 
-  -- an open verdict stays where one more entry is given
+  -- an open verdict stays if one more entry is given
   verdict_more : (x : Tree) → AreEntries spec 0 ctx (zs ++ x ∷ []) → (r : Verdict) → IsOpenVerdict spec zs budget goal r → IsOpenVerdict spec (zs ++ x ∷ []) budget goal r
   verdict_more x more r h = verdict_still spec fine (zs ++ x ∷ []) (entries_open spec 0 ctx (zs ++ x ∷ []) more) zs (zs ++ x ∷ []) (self_instances spec ctx zs fit (x ∷ [])) budget goal.premises goal.conclusions r h
 
-  -- where there is none with one more entry, there is none
+  -- if there is none with one more entry, there is none
   pub none_less : (x : Tree) → AreEntries spec 0 ctx (zs ++ x ∷ []) → SayOfAll spec goal budget (zs ++ x ∷ []) None → SayOfAll spec goal budget zs None
   none_less x more h r apart whole o = h r apart whole (verdict_more x more r o)
 

@@ -48,7 +48,7 @@ module _ (p : Program) (budget : ℕ) where
   pub few_both : (old mid new m n : ℕ) → mid ≤ old + most_compared p m budget → new ≤ mid + most_compared p n budget → new ≤ old + most_compared p (m + n) budget
   few_both old mid new m n h k = omega (arith, h, k, compared_both m n)
 
--- the goal is evaluated where its pairs of sides are compared
+-- the goal is evaluated if its pairs of sides are compared
 module _ (old : Spec) (goal : Goal) (p : Program) (shifted : Goal) (constants : Constants) (premises conclusions : List SidePair) (inside : IsPartial old goal p shifted constants premises conclusions) where
   code_short : length p.code ≤ rules_length old.rules + goal_length goal
   code_short =

@@ -26,7 +26,7 @@ use Rattle.ground_eval.proofs.GoalSides.{values_built, sorted_under}
 use Rattle.ground_eval.proofs.PartGoals.{places_count}
 use Rattle.ground_eval.proofs.SharedSides.{values_count, compiled_ready}
 
--- one list of values stands at places
+-- one list of values is at places
 pub stand_once : (cells : List Cell) (ids : List ValueId) (vs ws : List Tree)
     → StandAt cells ids vs → StandAt cells ids ws → vs ≡ ws
 stand_once cells ids vs ws h k =

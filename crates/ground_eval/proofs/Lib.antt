@@ -8,7 +8,7 @@ mod LentBanks
 mod SharedSides
 mod CodeLengths
 mod FewCells
--- Where some variables have no value.
+-- The case in which some variables have no value.
 mod Marking
 mod OpenTerms
 mod OpenWalking

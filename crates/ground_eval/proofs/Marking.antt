@@ -16,7 +16,7 @@ term_there cells p f ps (app g ts) at h =
     (ts, ap (λ n. app n ts) (sym e))
 
 module _ (c d : ℕ) where
-  -- marks stay right where cells are added
+  -- marks stay right when cells are added
   pub marks_kept : (old new : List Cell) (marks : List Bool) → AddsCells old new → AreMarks c d old marks → AreMarks c d new marks
   marks_kept old new marks adds h k mark at =
       let m = h k mark at in
@@ -51,7 +51,7 @@ module _ (c d : ℕ) where
       let first = h p m at in
       (some first.term more.0, (first.there, more.1), (λ x. elim (is.0 x) [ inl a ↦ inl (first.says.0 a) | inr b ↦ inr (more.2.0 b) ], λ x. elim x [ inl a ↦ is.1 (inl (first.says.1 a)) | inr b ↦ is.1 (inr (more.2.1 b)) ]))
 
-  -- a mark says of the term at its place whether a constant stands in it
+  -- a mark says of the term at its place whether a constant occurs in it
   pub mark_says : (cells : List Cell) (p : ℕ) (m : Bool) (t : Tree) → IsMarked c d cells p m → IsTerm cells p t → IsTrue m ↔ HasConstant c d t
   mark_says cells p m t is there = subst (λ (x : Tree). IsTrue m ↔ HasConstant c d x) (one_term_at cells p is.term t is.there there) is.says
 
@@ -102,7 +102,7 @@ module _ (c d : ℕ) where
   apart_itself (app f ts) (inl h) = h.0 refl
   apart_itself v (inr h) = h.0 refl
 
--- a term stands at a place of the bank
+-- a term is at a place of the bank
 pub place_within : (cells : List Cell) (p : ℕ) (t : Tree) → IsTerm cells p t → p < length cells
 place_within cells p (var n) h = absurd h
 place_within cells p (app f ts) h = slice_get_within cells p (cell f h.0) h.1

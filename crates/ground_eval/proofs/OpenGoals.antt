@@ -56,7 +56,7 @@ module _ (old new : Spec) (sorts : List SortId) (fine : IsWellSorted old) (exten
   abbrev u : ℕ
   u = length sorts
 
-  -- the sort has a constant of this number, unless it is Bool
+  -- the sort has a constant with this number, unless it is Bool
   abbrev Has : ℕ → SortId → Type 0
   Has k s = s.0 ≢ 0 → slice_get sorts k ≡ Some s
 
@@ -111,7 +111,7 @@ module _ (old new : Spec) (sorts : List SortId) (fine : IsWellSorted old) (exten
         let fits : VariablesAreBelow (length zs) t = λ j o. omega (arith, all, occurs_within old.sig ctx t s h j o) in
         record { is = closed_by_entries c u zs t fits; below = below_instance u zs t (λ k o. entries_below k (fits k o)) }
 
-    -- the equations can be compared where the others have constants
+    -- the equations can be compared if the others have constants
     pub can_open : (p : Program) (es : List Equation) → p.spec ≡ new → EquationsAreSorted old.sig ctx es → (cells : List Cell) (pairs : List SidePair) (ids : List ValueId) → CanCompareAll p cells pairs ids (map (shifted_equation c u) es) (with_constants setting) → CanOpenAll setting p cells pairs ids es
     can_open p es is sorted cells pairs ids h = record {
       count = omega (arith, h.code.count, length-map es (shifted_equation c u));

@@ -9,7 +9,7 @@ use Rattle.ground_eval.specs.declared.comparing.SidePair.{SidePair}
 use Rattle.ground_eval.specs.OpenSides.{Setting, CanOpen, CanOpenAll, with_constants}
 use Rattle.ground_eval.proofs.SharedSides.{stand_kept}
 
--- sides can be compared where cells are added
+-- sides can be compared when cells are added
 pub can_open_still : (s : Setting) (p : Program) (old new : List Cell) (pair : SidePair) (ids : List ValueId) (e : Equation) → AddsCells old new → CanOpen s p old pair ids e → CanOpen s p new pair ids e
 can_open_still s p old new pair ids e adds h =
     let c = h.compared in

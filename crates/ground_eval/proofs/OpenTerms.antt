@@ -51,7 +51,7 @@ module _ (spec : Spec) (u : ℕ) where
     have_variable (some v vs) o (inr h) = let r = have_variable vs o.1 h in (r.0, inr r.1)
 
   mutual
-    -- and for each variable one stands there
+    -- and for each variable one is there
     has_constant : (v : Tree) → VariablesAreBelow u v → (k : ℕ) → Occurs k v → HasConstant c (c + u) (closed c u v)
     has_constant (var n) b k o = let w : n < u = b n refl in inl (omega arith, omega arith)
     has_constant (app f ts) b k o = inr (have_constant ts b k o)
@@ -76,7 +76,7 @@ module _ (spec : Spec) (u : ℕ) where
   heads_back (app f ts) (app g us) b d o p h = λ e. h.0 (rw e refl)
 
   module _ (v w : Tree) (b : VariablesAreBelow u v) (d : VariablesAreBelow u w) (o : IsOpen spec.sig v) (p : IsOpen spec.sig w) where
-    -- two open values are different where the values with constants are apart
+    -- two open values are different if the values with constants are apart
     pub different_there : AreDifferent v w → AreApart c (c + u) (closed c u v) (closed c u w)
     different_there (inl h) = inl (heads_there v w o p h)
     different_there (inr h) = inr (λ e. h.0 (closed_inj c u v w b d e), λ k. (let r = has_variable v o k in h.1 r.0 r.1), λ k. (let r = has_variable w p k in h.2 r.0 r.1))
@@ -116,7 +116,7 @@ module _ (s : Setting) (new : Spec) (fine : IsWellSorted s.spec) (extends : Exte
       record { value = r.0; is = r.1; opens = opens; below = keeps_below s.spec fine n r.2 side.below; built = gives_open s.spec r.2 }
 
   module _ (e : Equation) (sorted : HasOneSort new ys (shifted_here s e)) (left : IsClosedSide s e.left) (right : IsClosedSide s e.right) where
-    -- where a side gives no value within the budget, the sides are neither
+    -- if a side gives no value within the budget, the sides are neither
     pub left_spent : (NoOverlap new → GroupsAreWhole new → SideSpent new ys budget (shifted cs n e.left)) → SidesOpen s budget e Unknown
     left_spent h =
         let none = λ (apart : NoOverlap s.spec) (whole : GroupsAreWhole s.spec). h (apart_still s.spec new s.sorts extends.more fine extends.in_range apart) (whole_still s.spec new s.sorts extends.more fine whole) in (

@@ -1,4 +1,4 @@
--- The walk over the sides of a goal where some variables have no value.
+-- The walk over the sides of a goal when some variables have no value.
 use Rattle.std.proofs.Common.{◌≡◌, ◌≤◌, ℕ, zero, suc, length, arith, List, [], ◌∷◌, Option, Some, None, inl, inr, refl, sym, ◌∙◌, take, drop}
 use Rattle.std.specs.Prelude.{slice_get}
 use Rattle.std.specs.List.{AllByRecursion}
@@ -13,7 +13,7 @@ use Rattle.open_walk.specs.OpenVerdict.{OpenConclusionsSay, OpenPremisesSay}
 use Rattle.ground_eval.specs.declared.answers.OpenSides.TheVariants.{Same, Differ, Unknown}
 use Rattle.ground_eval.specs.OpenSides.{Setting, SidesOpen, IsSame, IsDifferent, Isnt, PremisesOpen, ConclusionsOpen, GoalOpens}
 
--- what holds of the items before a place holds of all where there are no more
+-- what holds of the items before a place holds of all if there are no more
 pub all_taken : {X : Type 0} (P : X → Type 0) (xs : List X) (n : ℕ) → length xs ≤ n → AllByRecursion P (take n xs) → AllByRecursion P xs
 all_taken P [] n le a = tt
 all_taken P (x ∷ xs) zero le a = absurd (omega (arith, le))
@@ -32,13 +32,13 @@ module _ (s : Setting) (budget : ℕ) where
   abbrev Conclusions : List Equation → Verdict → Type 0
   Conclusions = OpenConclusionsSay s.spec s.values budget
 
-  -- behind premises whose sides are the same the rest decides
+  -- after premises whose sides are the same the rest decides
   premises_after : (es cs : List Equation) (i : ℕ) (r : Verdict) → AllByRecursion IsSo (take i es) → Premises (drop i es) cs r → Premises es cs r
   premises_after es cs zero r a h = h
   premises_after [] cs (suc i) r a h = h
   premises_after (e ∷ es) cs (suc i) r a h = inr (a.0.0, premises_after es cs i r a.1 h)
 
-  -- and where it says nothing, all say nothing
+  -- and if it says nothing, all say nothing
   premises_still : (es cs : List Equation) (i : ℕ) (r : Verdict) → AllByRecursion IsSo (take i es) → Isnt s (Premises (drop i es) cs r) → Isnt s (Premises es cs r)
   premises_still es cs zero r a h = h
   premises_still [] cs (suc i) r a h = h
@@ -85,7 +85,7 @@ module _ (s : Setting) (budget : ℕ) where
   all_differ [] a = refl
   all_differ (e ∷ es) a = inr (a.0.0, all_differ es a.1)
 
-  -- where each premise holds, the conclusions decide
+  -- if each premise holds, the conclusions decide
   pub conclusions_say : (es cs : List Equation) (r : Verdict) → PremisesOpen s budget es Same → Conclusions cs r → Premises es cs r
   conclusions_say [] cs r a h = h
   conclusions_say (e ∷ es) cs r a h = inr (a.0.0, conclusions_say es cs r a.1 h)
@@ -102,7 +102,7 @@ module _ (s : Setting) (budget : ℕ) where
   goal_opens goal (Some r) a h = conclusions_say goal.premises goal.conclusions r a h
   goal_opens goal None a h = λ r. conclusions_silent goal.premises goal.conclusions r a (h r)
 
-  -- where no sides are both, the walk has one verdict
+  -- if no sides are both, the walk has one verdict
   module _ (apart : NoOverlap s.spec) (whole : GroupsAreWhole s.spec) where
     abbrev pub NoneIsBoth : List Equation → Type 0
     NoneIsBoth es = (k : ℕ) (e : Equation) → slice_get es k ≡ Some e → IsSame s budget e → Isnt s (IsDifferent s budget e)

@@ -57,7 +57,7 @@ places_count cells ids values stand =
     let long : length (map (λ (id : ValueId). id.0) ids) ≡ length ids = length-map ids _ in
     omega (arith, long, terms_count cells (map (λ (id : ValueId). id.0) ids) values stand)
 
--- where the verdict is Fails the goal fails
+-- if the verdict is Fails the goal fails
 module _ (spec : Spec) (values : List Tree) (budget : ℕ) where
   broken_all : (es : List Equation) → ConclusionsSay spec values budget es Fails → AllBroken spec values es
   broken_all [] h = tt

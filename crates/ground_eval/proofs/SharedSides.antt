@@ -32,7 +32,7 @@ use Rattle.spec_core.specs.Truth.{AreValuesOf}
 use Rattle.spec_core.specs.declared.records.Goal.{Goal}
 use Rattle.spec_core.specs.declared.records.VarInfo.{VarInfo}
 
--- values stand at their places where cells are added
+-- values stay at their places when cells are added
 pub stand_kept : (old new : List Cell) (ids : List ValueId) (values : List Tree) → AddsCells old new → StandAt old ids values → StandAt new ids values
 stand_kept old new ids values adds h = terms_kept old new (map (λ (id : ValueId). id.0) ids) (trees_of values) adds h
 
@@ -90,7 +90,7 @@ module _ (p : Program) (cells : List Cell) (pairs : List SidePair) (ids : List V
         ready = record { code = c.code.each i e.0 pair e.1 at; stand = stand_kept cells new ids values adds c.stand; built = c.built; sorted = all_at (HasOneSort p.spec values) es c.sorted i e.0 e.1 };
       }
 
--- code of sides stays where more is added
+-- code of sides stays when more is added
 pub side_kept : (p q : Program) (place count : ℕ) (t : Tree) → q.spec ≡ p.spec → AddsCode p.code q.code → IsSide p place count t → IsSide q place count t
 side_kept p q place count t same adds h = (h.0, h.1, code_kept p.code q.code place h.0 h.1 adds h.2, subst (λ (s : Spec). IsBody s.sig (first_numbers count) t count h.0 h.1) (sym same) h.3)
 

@@ -15,13 +15,13 @@ use Rattle.ground_eval.specs.Sides.{SidesAre, PremisesAre, ConclusionsAre, IsDec
 use Rattle.term_core.proofs.Items.{drop_here}
 
 module _ (spec : Spec) (values : List Tree) (budget : ℕ) where
-  -- behind premises whose sides are the same the rest decides
+  -- after premises whose sides are the same the rest decides
   pub premises_after : (es cs : List Equation) (i : ℕ) (r : Verdict) → AllByRecursion (SidesSame spec values budget) (take i es) → PremisesSay spec values budget (drop i es) cs r → PremisesSay spec values budget es cs r
   premises_after es cs zero r a h = h
   premises_after [] cs (suc i) r a h = h
   premises_after (e ∷ es) cs (suc i) r a h = inr (inr (a.0, premises_after es cs i r a.1 h))
 
-  -- behind conclusions whose sides differ the rest decides
+  -- after conclusions whose sides differ the rest decides
   pub conclusions_after : (es : List Equation) (i : ℕ) (r : Verdict) → AllByRecursion (SidesDiffer spec values budget) (take i es) → ConclusionsSay spec values budget (drop i es) r → ConclusionsSay spec values budget es r
   conclusions_after es zero r a h = h
   conclusions_after [] (suc i) r a h = h
@@ -56,7 +56,7 @@ module _ (spec : Spec) (values : List Tree) (budget : ℕ) where
   all_broken [] a = tt
   all_broken (e ∷ es) a = ((a.0.0, a.0.1, a.0.3.0, a.0.4.0, a.0.2, a.0.3.1, a.0.4.1), all_broken es a.1)
 
-  -- the goal's verdict is that of its conclusions where each premise holds
+  -- the goal's verdict is that of its conclusions if each premise holds
   pub conclusions_decide : (goal : Goal) → AllByRecursion (SidesSame spec values budget) goal.premises → (r : Verdict) → ConclusionsAre spec values budget goal.conclusions r → IsDecided spec values budget goal r
   conclusions_decide goal a Holds h = premises_whole goal.premises goal.conclusions Holds a h
   conclusions_decide goal a Fails h = (premises_whole goal.premises goal.conclusions Fails a (conclusions_whole goal.conclusions h), (all_hold goal.premises a, all_broken goal.conclusions h))

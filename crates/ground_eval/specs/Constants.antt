@@ -10,7 +10,7 @@ module _ (c d : ℕ) where
   abbrev pub IsConstant : ℕ → Type 0
   IsConstant f = (c ≤ f) × (f < d)
 
-  -- such a constant stands in the term
+  -- such a constant occurs in the term
   abbrev mutual
     pub HasConstant : Tree → Type 0
     HasConstant (var n) = ⊥
@@ -37,7 +37,7 @@ module _ (c d : ℕ) where
   ValuesAre v w Differ = AreApart v w
   ValuesAre v w Unknown = (v ≢ w) × ¬ (AreApart v w)
 
-  -- the mark of the place says whether a constant stands in its term
+  -- the mark of the place says whether a constant occurs in its term
   pub record IsMarked (cells : List Cell) (place : ℕ) (mark : Bool) : Type 0 where
     pub term : Tree
     pub there : IsTerm cells place term

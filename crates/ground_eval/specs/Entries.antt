@@ -1,4 +1,4 @@
--- What stands for a goal's first variables where those of the sort Bool all have values.
+-- What stands for a goal's first variables if those of the sort Bool all have values.
 use Rattle.std.specs.Prelude.{◌≡◌, ◌≢◌, ◌⊎◌, ◌-◌, ℕ, suc, List, [], ◌∷◌, Option, None, Some, map}
 use Rattle.term_core.specs.Tree.{Tree, var}
 use Rattle.term_core.specs.declared.ids.SortId.{SortId}
@@ -20,7 +20,7 @@ use Rattle.ground_eval.specs.Opened.{Partial}
 use Rattle.ground_eval.specs.Sides.{IsDecided}
 
 module _ (spec : Spec) where
-  -- a value of the sort; or, where that isn't Bool, the variable of this number, which stands for itself
+  -- a value of the sort; or, if that isn't Bool, the variable with this number, which stands for itself
   abbrev pub IsEntry : ℕ → SortId → Tree → Type 0
   IsEntry k s x = IsValue spec.sig s x ⊎ ((x ≡ var k) × (s.0 ≢ 0))
 
@@ -45,7 +45,7 @@ module _ (spec : Spec) where
     SayOfAll None = (r : Verdict) → NoOverlap spec → GroupsAreWhole spec
         → IsOpenVerdict spec entries budget goal r → ⊥
 
--- the entries stand at these places, with constants for the variables
+-- the entries are at these places, with constants for the variables
 pub record AreEntriesAt (p : Partial) (cells : List Cell) (ids : List ValueId)
     (entries : List Tree) : Type 0 where
   pub fit : AreEntries p.spec 0 (sorts_of p.goal.vars) entries

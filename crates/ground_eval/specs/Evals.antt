@@ -17,7 +17,7 @@ use Rattle.ground_eval.specs.declared.answers.Eval.{Eval}
 use Rattle.ground_eval.specs.declared.answers.Eval.TheVariants.{Value, Large, Spent}
 
 -- the term gives the value, of at most 10,000 symbols, at this cost, which is within the budget; it gives one of more
--- symbols; or, where left sides don't overlap and groups are whole, it gives no value at a cost within the budget
+-- symbols; or, if left sides don't overlap and groups are whole, it gives no value at a cost within the budget
 abbrev pub IsEval : Spec → Tree → ℕ → Eval → Type 0
 IsEval spec t budget (Value v n) = Gives spec t v n × (n ≤ budget) × (tree_size v ≤ 10000)
 IsEval spec t budget (Large n) =
@@ -26,7 +26,7 @@ IsEval spec t budget Spent =
     NoOverlap spec → GroupsAreWhole spec
     → (v : Tree) (n : ℕ) → Gives spec t v n → n ≤ budget → ⊥
 
--- where left sides don't overlap and groups are whole, the value and its cost are the only ones
+-- if left sides don't overlap and groups are whole, the value and its cost are the only ones
 abbrev pub IsOnly : Spec → Tree → Eval → Type 0
 IsOnly spec t (Value v n) =
     NoOverlap spec → GroupsAreWhole spec
@@ -36,7 +36,7 @@ IsOnly spec t (Large n) =
     → (w : Tree) (m : ℕ) → Gives spec t w m → (10000 < tree_size w) × (m ≡ n)
 IsOnly spec t Spent = Unit {0}
 
--- the term is sorted, and at these places of a bank stand values of the sorts of its variables, one for each
+-- the term is sorted, and at these places of a bank are values of the sorts of its variables, one for each
 pub record CanEvaluate (spec : Spec) (cells : List Cell) (t : Tree) (ids : List ValueId)
     (values : List Tree) : Type 0 where
   pub sorts : List SortId
@@ -45,7 +45,7 @@ pub record CanEvaluate (spec : Spec) (cells : List Cell) (t : Tree) (ids : List 
   pub stand : StandAt cells ids values
   pub are : AreValuesOf spec sorts values
 
--- where left sides don't overlap and groups are whole, whatever value the term gives stands at this place, and costs this
+-- if left sides don't overlap and groups are whole, whatever value the term gives is at this place, and costs this
 abbrev pub IsOnlyAt : Spec → List Cell → Tree → BankEval → Type 0
 IsOnlyAt spec cells t (found.Value id n) =
     NoOverlap spec → GroupsAreWhole spec

@@ -5,7 +5,7 @@ pub mod Prepared
 pub mod Laws
 pub mod Opened
 pub mod Looked
--- What only this crate's own contracts speak of, where some variables have no value.
+-- What only this crate's own contracts speak of when some variables have no value.
 pub mod Constants
 pub mod OpenSides
 pub mod ConstantSorts

@@ -1,4 +1,4 @@
--- What a walk over the sides of a goal answers where some variables have no value.
+-- What a walk over the sides of a goal answers when some variables have no value.
 use Rattle.std.specs.Prelude.{◌≡◌, ◌≤◌, ℕ, ◌+◌, List, Some, Option, None, length, map, slice_get}
 use Rattle.std.specs.List.{AllByRecursion}
 use Rattle.term_core.specs.Tree.{Tree, instance}
@@ -64,7 +64,7 @@ module _ (s : Setting) where
     pub each : (k : ℕ) (e : Equation) (pair : SidePair) → slice_get es k ≡ Some e
         → slice_get pairs k ≡ Some pair → CanOpen p cells pair ids e
 
-  -- where left sides don't overlap and groups are whole, it isn't so
+  -- if left sides don't overlap and groups are whole, it isn't so
   abbrev pub Isnt : Type 0 → Type 0
   Isnt claim = NoOverlap s.spec → GroupsAreWhole s.spec → claim → ⊥
 

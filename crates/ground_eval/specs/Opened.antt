@@ -1,4 +1,4 @@
--- A goal whose variables have constants, so that it is evaluated where some of them have no value.
+-- A goal whose variables have constants, so that it is evaluated even if some of them have no value.
 use Rattle.std.specs.Prelude.{◌≡◌, ◌≢◌, ◌<◌, ◌≤◌, ℕ, List, Some, length, slice_get, take, ◌++◌}
 use Rattle.std.specs.List.{AllByRecursion}
 use Rattle.term_core.specs.Tree.{Tree}
@@ -58,20 +58,20 @@ module _ (spec : Spec) (goal : Goal) (fixed : List Tree) where
       (rest : List Tree) → AreValuesOf spec (sorts_of goal.vars) (fixed ++ rest)
       → IsDecided spec (fixed ++ rest) budget goal verdict
 
-  -- where left sides don't overlap and groups are whole, the open walk doesn't end
+  -- if left sides don't overlap and groups are whole, the open walk doesn't end
   abbrev pub IsOpenYet : ℕ → Type 0
   IsOpenYet budget =
       NoOverlap spec → GroupsAreWhole spec
       → (r : Verdict) → IsOpenVerdict spec (opened fixed (length goal.vars)) budget goal r → ⊥
 
-  -- the verdict of all values that go on with these; or a variable that has no value, where the open
+  -- the verdict of all values that go on with these; or a variable that has no value, if the open
   -- walk doesn't end
   abbrev pub IsPart : ℕ → Part → Type 0
   IsPart budget (All verdict) = AllHaveVerdict budget verdict
   IsPart budget (Looks x) =
       (length fixed ≤ x.0) × (x.0 < length goal.vars) × IsOpenYet budget
 
--- the marks say of places of the bank whether a constant for a variable stands in their terms
+-- the marks say of places of the bank whether a constant for a variable occurs in their terms
 abbrev pub AreMarksOf : Partial → List Cell → ConstantMarks → Type 0
 AreMarksOf goal cells marks =
     AreMarks goal.spec.sig.constructors goal.extended.sig.constructors cells marks.marks.items

@@ -42,7 +42,7 @@ pub record IsPrepared (p : Program) (goal : Goal) (premises conclusions : List S
     pub of_premises : HaveCode p (length goal.vars) goal.premises premises
     pub of_conclusions : HaveCode p (length goal.vars) goal.conclusions conclusions
 
--- these values stand at the places, and under them both sides have one sort
+-- these values are at the places, and under them both sides have one sort
 pub record CanCompare (p : Program) (cells : List Cell) (pair : SidePair) (ids : List ValueId)
     (e : Equation) (values : List Tree) : Type 0 where
   pub code : HasCode p (length ids) e pair

@@ -17,7 +17,7 @@ use Rattle.spec_core.specs.Orders.{order_by_number}
 abbrev pub nat : SortId
 nat = record { 0 = 1 }
 
--- a symbol of this number of natural arguments
+-- a symbol with this number of natural arguments
 abbrev pub takes : ℕ → SortId → SymInfo
 takes n s = record { args = replicate n nat; result = s }
 

@@ -46,7 +46,7 @@ module _ (spec : Spec) (values : List Tree) where
     ConclusionsAre es Spent =
         NoOverlap spec → GroupsAreWhole spec → ConclusionsSay spec values budget es Spent
 
-    -- the goal's verdict, which for Spent has premises, and the goal fails where the verdict is Fails
+    -- the goal's verdict, which for Spent has premises, and the goal fails if the verdict is Fails
     abbrev pub IsDecided : Goal → Verdict → Type 0
     IsDecided goal Fails = IsVerdict spec values budget goal Fails × GoalFails spec values goal
     IsDecided goal Holds = IsVerdict spec values budget goal Holds

@@ -20,7 +20,7 @@ pub(crate) enum Sides {
 }
 
 /// What the sides of an equation give within the budget, whatever the variables are that have no
-/// value. `Unknown` where it depends on them, or where a side gives no value within the budget.
+/// value. `Unknown` if it depends on them, or if a side gives no value within the budget.
 #[derive(Drop)]
 pub(crate) enum OpenSides {
     Same,

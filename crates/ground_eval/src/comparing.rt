@@ -24,7 +24,7 @@ pub(crate) struct SidePair {
     pub(crate) right: usize,
 }
 
-/// Same where the sides of each premise are the same, else what the first other premise is.
+/// Same if the sides of each premise are the same, else what the first other premise is.
 pub(crate) fn compare_premises(
     alloc: Global,
     machine: &Machine,
@@ -56,7 +56,7 @@ pub(crate) fn compare_premises(
     Ok(Sides::Same)
 }
 
-/// The verdict where each premise holds.
+/// The verdict if each premise holds.
 pub(crate) fn compare_conclusions(
     alloc: Global,
     machine: &Machine,

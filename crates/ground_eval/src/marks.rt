@@ -33,7 +33,7 @@ impl Constants {
     }
 }
 
-/// For each of the first cells of a bank, whether a constant for a variable stands in its term. It
+/// For each of the first cells of a bank, whether a constant for a variable occurs in its term. It
 /// is kept from one verdict over the bank to the next, and grows with the bank.
 #[derive(Drop)]
 pub struct ConstantMarks {
@@ -92,8 +92,8 @@ fn either(a: bool, b: bool) -> bool
     a || b
 }
 
-/// What two values are whatever the constants stand for: the same where their places are; different
-/// where their heads are two constructors and no constants, or where no constant stands in them.
+/// What two values are whatever the constants stand for: the same if their places are; different
+/// if their heads are two constructors and no constants, or if no constant occurs in them.
 pub(crate) fn compare_values(
     bank: &Bank,
     constants: Constants,

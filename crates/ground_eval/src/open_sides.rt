@@ -17,7 +17,7 @@ use std::alloc::Global;
 use term_core::OutOfMemory;
 use value_bank::{Bank, ValueId};
 
-/// Same where the sides of each premise are the same, else what the first other premise is.
+/// Same if the sides of each premise are the same, else what the first other premise is.
 pub(crate) fn compare_open_premises(
     alloc: Global,
     machine: &Machine,
@@ -56,7 +56,7 @@ pub(crate) fn compare_open_premises(
     Ok(OpenSides::Same)
 }
 
-/// The verdict where each premise holds, if there is one whatever the variables are.
+/// The verdict when each premise holds, if there is one whatever the variables are.
 pub(crate) fn compare_open_conclusions(
     alloc: Global,
     machine: &Machine,

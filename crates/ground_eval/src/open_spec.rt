@@ -23,7 +23,7 @@ pub struct OpenSpec {
 
 impl OpenSpec {
     /// Makes constants of the variables' sorts. For a variable of sort `Bool`, which can't have one
-    /// of its own sort, there is one of another variable's sort, or no constant where all variables
+    /// of its own sort, there is one of another variable's sort, or no constant if all variables
     /// are of sort `Bool`.
     pub fn new(alloc: Global, spec: &Spec, goal: &Goal) -> Result<OpenSpec, OutOfMemory>
         requires fine { IsWellSorted spec.now }

@@ -76,7 +76,7 @@ impl Evaluate for Bank {
     }
 }
 
-/// The verdict of a goal of the specification where its variables have the values at these places.
+/// The verdict of a goal of the specification if its variables have the values at these places.
 pub fn verdict_in(
     alloc: Global,
     bank: &mut Bank,
@@ -113,7 +113,7 @@ pub fn verdict_in(
     )
 }
 
-/// The verdict where the goal's first variables have the values at these places, as
+/// The verdict if the goal's first variables have the values at these places, as
 /// [`PartialGoal::verdict_part`] answers it.
 pub fn verdict_part(
     alloc: Global,

@@ -24,7 +24,7 @@ use std::marker::Model;
 use term_core::{OutOfMemory, VarId};
 use value_bank::{Bank, ValueId};
 
-/// The verdict of a goal where only its first variables have values.
+/// The verdict of a goal if only its first variables have values.
 #[derive(Drop)]
 pub enum Part {
     /// Each list of values that goes on with these has the verdict.
@@ -93,7 +93,7 @@ impl<'a> PartialGoal<'a> {
         })
     }
 
-    /// The verdict where the goal's first variables have the values at these places. `Looks` names
+    /// The verdict if the goal's first variables have the values at these places. `Looks` names
     /// the first variable without one. Each further variable of sort `Bool` is tried with both of
     /// its values, so with b of them the goal is evaluated up to 2^b times, until one of these
     /// evaluations has no verdict. The table and the marks are kept from one call over the bank to
@@ -145,7 +145,7 @@ impl<'a> PartialGoal<'a> {
         }
     }
 
-    /// The verdict where these stand for the first variables, if there is one whatever the others
+    /// The verdict when these stand for the first variables, if there is one whatever the others
     /// are. A further variable of sort `Bool`, which has no constant, has each of its two values in
     /// turn, and any other one its constant.
     fn verdict_over(
@@ -194,7 +194,7 @@ impl<'a> PartialGoal<'a> {
         }
     }
 
-    /// The same where something stands for each variable.
+    /// The same if something stands for each variable.
     fn verdict_at(
         &self,
         alloc: Global,
@@ -241,7 +241,7 @@ fn agreed(first: Verdict, second: Verdict) -> Option<Verdict>
     if first == second { Some(first) } else { None }
 }
 
-/// The places, and behind them that of the symbol's term without arguments.
+/// The places, and after them that of the symbol's term without arguments.
 fn add_symbol(
     alloc: Global,
     bank: &mut Bank,
@@ -260,7 +260,7 @@ fn add_symbol(
     Ok(ids)
 }
 
-/// The verdict where some variables have no value, if there is one whatever they are.
+/// The verdict when some variables have no value, if there is one whatever they are.
 fn open_verdict(
     alloc: Global,
     machine: &Machine,

@@ -44,7 +44,7 @@ pub(crate) fn compile_goal<'a>(
     Ok((machine, premises, conclusions))
 }
 
-/// Compiles the sides of equations with so many variables.
+/// Compiles the sides of equations with this many variables.
 fn compile_sides<'a>(
     alloc: Global,
     machine: Machine<'a>,
@@ -88,7 +88,7 @@ pub fn place_values(
     Ok(ids)
 }
 
-/// The verdict where all variables have values.
+/// The verdict if all variables have values.
 pub(crate) fn whole_verdict(
     alloc: Global,
     machine: &Machine,

@@ -21,7 +21,7 @@ pub struct Ended {
 }
 
 impl Call<'_> {
-    /// Makes the call, where nothing fails.
+    /// Makes the call. Nothing fails.
     pub fn ended(&self, alloc: Global) -> Result<Ended, Fail> {
         let mut out = MemSink::new(alloc, Seq::new(alloc));
         let status = self.over(alloc, &mut out)?;
@@ -34,7 +34,7 @@ impl Call<'_> {
         self.with_read_failing(alloc, 0, out)
     }
 
-    /// Makes the call over this sink, where the read of this number fails. Reads count from 1.
+    /// Makes the call over this sink. The read with this number fails. Reads count from 1.
     pub fn with_read_failing<S: Sink>(
         &self,
         alloc: Global,

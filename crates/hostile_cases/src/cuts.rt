@@ -26,8 +26,8 @@ fn cut_reports(rt: HostRuntime) -> Result<(), Fail> {
     Ok(())
 }
 
-/// The text of insertion in parts, each with whether the text is accepted where it is cut after any
-/// byte of the part. It is accepted where its last declaration is whole and its rules cover each
+/// The text of insertion in parts, each with whether the text is accepted if it is cut after any
+/// byte of the part. It is accepted if its last declaration is whole and its rules cover each
 /// list of values of each function. A declaration may be whole before its end: the last constructor
 /// may be cut or lack its arguments, a constant that is cut is a variable, and nothing need follow
 /// after `=>`. Between the first function and the last rule the text covers all values just once,

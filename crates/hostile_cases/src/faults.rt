@@ -9,7 +9,7 @@ use std::process::Abort;
 use std::test::Fail;
 use term_core::{OutOfMemory, Seq};
 
-/// Where a read fails, or no file has the name, nothing is written. The read after the last one
+/// If a read fails, or no file has the name, nothing is written. The read after the last one
 /// isn't made.
 #[test]
 fn nothing_is_written_where_a_read_fails(rt: HostRuntime) -> Result<(), Fail> {
@@ -52,7 +52,7 @@ fn nothing_is_written_where_a_read_fails(rt: HostRuntime) -> Result<(), Fail> {
 }
 
 /// A report is written in pieces: its first two lines, each claim as soon as it is found, and the
-/// last line. Where a write fails the pieces before it were written. The texts are by hand.
+/// last line. If a write fails the pieces before it were written. The texts are by hand.
 #[test]
 fn pieces_before_a_failing_write_are_written(rt: HostRuntime) -> Result<(), Fail> {
     let load = "load 1: proved 1, refuted 0, open 0\nreplay: yes\n";

@@ -59,7 +59,7 @@ decompose c1\n\
 subsume 0 [?0]\n\
 done\n";
 
-/// The words of a call, its two files, and the status and the text where there is memory.
+/// The words of a call, its two files, and the status and the text if there is memory.
 const CALLS: [(&str, &str, &str, Status, &str); 9] = [
     (
         "eval spec plus(succ(zero),zero)",
@@ -126,7 +126,7 @@ fn want_of_memory_changes_no_answer(rt: HostRuntime) {
     }
 }
 
-/// Makes the call, which ends as it should or finds no memory. Then what it wrote is a prefix. Where
+/// Makes the call, which ends as it should or finds no memory. Then what it wrote is a prefix. If
 /// there is no memory to make the call, that ends it too.
 fn check_answer(rt: &impl Abort, alloc: Global, call: Call, status: Status, text: &str) {
     let mut out = MemSink::new(alloc, Seq::new(alloc));

@@ -1,8 +1,8 @@
 use std::alloc::Global;
 use std::test::Fail;
 
-/// The text that a pattern stands for. In it `{NUMBER PIECE}` is so many times the piece, in which
-/// each `$` is the number of the time, from 0.
+/// The text that a pattern stands for. In it `{NUMBER PIECE}` is the piece this many times, in
+/// which each `$` is the number of the time, from 0.
 pub fn expanded(alloc: Global, pattern: &str) -> Result<String, Fail> {
     let mut text = String::new(alloc);
     for part in pattern.split('{') {
@@ -31,7 +31,7 @@ fn push_repeated(alloc: Global, repeated: &str, text: &mut String) -> Result<(),
     Ok(())
 }
 
-/// A text in which the mark `@` stood at a place, and was taken out.
+/// A text in which the mark `@` was at a place, and was taken out.
 #[derive(Drop)]
 pub struct Marked {
     pub text: String,
@@ -39,7 +39,7 @@ pub struct Marked {
 }
 
 impl Marked {
-    /// The text of a pattern. Where it has no mark, the place is its end.
+    /// The text of a pattern. If it has no mark, the place is its end.
     pub fn of(alloc: Global, pattern: &str) -> Result<Marked, Fail> {
         let text = expanded(alloc, pattern)?;
         let place = text.find('@').unwrap_or(text.len());

@@ -14,7 +14,7 @@ pub struct ByteSink {
 }
 
 impl ByteSink {
-    /// The call of this number, counted from 1, fails.
+    /// The call with this number, counted from 1, fails.
     pub fn new(alloc: Global, failing: u64) -> Result<ByteSink, OutOfMemory> {
         let sink = MemSink::new(alloc, one_number(alloc, failing)?);
         Ok(ByteSink { sink })
@@ -44,7 +44,7 @@ pub struct Interrupted {
 }
 
 impl Interrupted {
-    /// So many interruptions come before each time.
+    /// This many interruptions come before each write that succeeds.
     pub fn new(alloc: Global, interruptions: u8) -> Interrupted {
         Interrupted {
             bytes: Vec::new(alloc),

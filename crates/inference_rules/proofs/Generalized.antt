@@ -23,7 +23,7 @@ abstracted_all_list : (t : Tree) (n : ℕ) (ts : List Tree) → abstracted_all t
 abstracted_all_list t n [] = refl
 abstracted_all_list t n (u ∷ us) = ap (λ vs. some (abstracted t n u) vs) (abstracted_all_list t n us)
 
--- where the term itself stands
+-- where the term itself is
 pub abstracted_here : (t : Tree) (n f : ℕ) (ts : List Tree) (whole : Tree) → app f (trees_of ts) ≡ whole → t ≡ whole → abstracted t n whole ≡ var n
 abstracted_here t n f ts whole view e =
     let same : same_tree t (app f (trees_of ts)) ≡ true = ap (λ u. same_tree t u) (view ∙ sym e) ∙ same_tree-refl t in
@@ -33,7 +33,7 @@ other_tree : (t u : Tree) (b : Bool) → same_tree t u ≡ b → (t ≡ u → �
 other_tree t u true e other = absurd (other (same_is t u e))
 other_tree t u false e other = e
 
--- and where another application stands
+-- and where another application is
 pub abstracted_there :
     (t : Tree) (n f : ℕ) (ts : List Tree) (whole : Tree) → app f (trees_of ts) ≡ whole → (t ≡ whole → ⊥) →
     app f (trees_of (map (abstracted t n) ts)) ≡ abstracted t n whole
@@ -42,7 +42,7 @@ abstracted_there t n f ts whole view differs =
     let other : same_tree t u ≡ false = other_tree t u (same_tree t u) refl (λ e. differs (e ∙ view)) in
     sym (ap (λ v. abstracted t n v) (sym view) ∙ ap (λ b. cond b (var n) (app f (abstracted_all t n (trees_of ts)))) other ∙ ap (λ us. app f us) (abstracted_all_list t n ts))
 
--- an application is general where it is sorted
+-- an application is general if it is sorted
 pub general_of :
     (sig : Sig) (ctx : List SortId) (t : Tree) (f : ℕ) (ts : Trees) (found : Option SortId) → app f ts ≡ t →
     MatchOption found ((s : SortId) → Sorted sig ctx t s → ⊥) (λ s. Sorted sig ctx t s) →

@@ -1,4 +1,4 @@
--- A term stands in another where a context makes the other of it.
+-- A term occurs in another if a context makes the other of it.
 use Rattle.std.proofs.Common.{◌≡◌, ℕ, zero, suc, ◌+◌, ◌<◌, List, [], ◌∷◌, ◌++◌, inl, inr, length, take, get_or, refl, ap, subst, arith}
 use Rattle.std.specs.Prelude.{◌⊎◌}
 use Rattle.term_core.specs.Tree.{Tree, Trees, var, app, none, some, trees_of}
@@ -24,7 +24,7 @@ part_plugged : (t : Tree) (round : Context) → IsPart t (plug round t)
 part_plugged t hole = part_itself t
 part_plugged t (under f before round after) = inr (part_around t before (plug round t) after (part_plugged t round))
 
--- the way to a term that stands in others
+-- the way to a term that occurs in others
 record Way (t : Tree) (us : Trees) : Type 0 where
   before : Trees
   round : Context

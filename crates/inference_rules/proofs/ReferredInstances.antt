@@ -38,7 +38,7 @@ module _ (spec : Spec) (c d : Clause) (terms : List Tree) where
       let r : false ≡ true = sym wrong ∙ q in
       cc
 
-  -- where there is no instance, no row that begins with it goes on
+  -- if there is no instance, no row that begins with it goes on
   pub no_instance :
       (rest : Clause → Row) (error : StepError) → RefusesWith (with_instance spec c d terms (λ x. makes [] [])) error →
       RefusesWith (with_instance spec c d terms rest) error
@@ -51,7 +51,7 @@ module _ (spec : Spec) (c d : Clause) (terms : List Tree) where
     instance_within : IsWithin (instance_here spec c d terms)
     instance_within = subst IsWithin is within
 
-    -- where there is one, the row goes on with it
+    -- if there is one, the row goes on with it
     pub refused_at :
         (rest : Clause → Row) (error : StepError) → RefusesWith (rest x) error → RefusesWith (with_instance spec c d terms rest) error
     refused_at rest (because why) r = inl (sorted, inl (instance_within, subst (λ z. Refuses (rest z) why) is r))

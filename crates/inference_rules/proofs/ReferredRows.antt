@@ -17,12 +17,12 @@ use Rattle.inference_rules.specs.declared.nodes.StepError.TheVariants.{Why as be
 use Rattle.inference_rules.specs.Answers.{Answered}
 use Rattle.inference_rules.specs.Conditions.{RefusesWith, Makes}
 
--- a row is refused behind a condition that is met
+-- a row is refused after a condition that is met
 pub refused_behind : {P : Type 0} (own : Why) (rest : P → Row) (p : P) (error : StepError) → RefusesWith (rest p) error → RefusesWith (needs P own rest) error
 refused_behind own rest p (because why) r = inl (p, r)
 refused_behind own rest p out_of_memory r = tt
 
--- and answers there as what is behind it
+-- and answers there as what is after it
 pub answered_behind :
     (above : Tree → Tree → Type 0) (c : Clause) {P : Type 0} (own : Why) (rest : P → Row) (p : P) (answer : Result Children StepError) →
     Answered above c [] (rest p) answer → Answered above c [] (needs P own rest) answer

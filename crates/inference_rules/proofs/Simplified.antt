@@ -84,7 +84,7 @@ conclusion_taken_apart spec c true number at heads is ds parts e made (Ok x) h =
 conclusion_taken_apart spec c true number at heads is ds parts e made (Err (because why)) h = inl (at, inl (heads, many_children c ds _ (Err (because why)) (children_same c at ds parts _ e (made at)) h))
 conclusion_taken_apart spec c true number at heads is ds parts e made (Err out_of_memory) h = tt
 
--- both sides have the same constructor as head where they are these
+-- both sides have the same constructor as head if they are these
 pub same_heads : (sig : Sig) (e : Equation) (f g : ℕ) (lefts rights : List Tree) → e.left ≡ app f (trees_of lefts) → e.right ≡ app g (trees_of rights) → f ≡ g → IsConstructor sig f → (heads : SameHeads sig e) × (heads.lefts ≡ trees_of lefts) × (heads.rights ≡ trees_of rights)
 same_heads sig e f g lefts rights l r same k =
     (record { head = f; lefts = trees_of lefts; rights = trees_of rights; constructor = k; is_left = l; is_right = r ∙ ap (λ h. app h (trees_of rights)) (sym same) }, refl, refl)

@@ -99,7 +99,7 @@ solved_within sig c sorted number at n t s =
     let found = sorted.premises (length at.before) at.equation (ap (λ es. slice_get es (length at.before)) at.is ∙ stands_at at.before at.after at.equation) in
     slice_get_within c.ctx n found.0 (solved_variable sig c.ctx at.equation.left at.equation.right n t found.0 s found.1 found.2)
 
--- the premise is solved so, as it stands at its number
+-- the premise is solved so, as it is at its number
 abbrev pub solved_at :
     (sig : Sig) (d e : Equation) (n : ℕ) (t : Tree) → d ≡ e → Solves e.left e.right n t → IsPattern sig t → (Occurs n t → ⊥) → IsSolved sig d
 solved_at sig d e n t same s p a = record { variable = n; term = t; solves = back (λ (x : Equation). Solves x.left x.right n t) same s; pattern = p; absent = a }

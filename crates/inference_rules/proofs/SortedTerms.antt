@@ -31,7 +31,7 @@ module _ (sig : Sig) (ctx : List SortId) where
   all_sorted (u ∷ ts) [] t s e h = absurd (omega arith)
   all_sorted (u ∷ ts) (r ∷ ss) t s e h = (h 0 (omega arith), all_sorted ts ss t s (omega arith) (λ k lt. h (suc k) (omega arith)))
 
-  -- the sort that was found is this one exactly where the term has this one
+  -- the sort that was found is this one if and only if the term has this one
   pub sort_is : (t : Tree) (found sort : SortId) → Sorted sig ctx t found → IsTrue (nat_eq found.0 sort.0) ↔ Sorted sig ctx t sort
   sort_is t found sort p = (
     λ h.

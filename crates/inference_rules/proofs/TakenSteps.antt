@@ -1,4 +1,4 @@
--- What is answered at a node by what is answered of its clause, and what follows where that is Ok.
+-- What is answered at a node by what is answered of its clause, and what follows if that is Ok.
 use Rattle.std.proofs.Common.{◌≡◌, ℕ, List, [], Some, length, sym, ◌∙◌, subst}
 use Rattle.std.specs.Prelude.{Contains, Result, Ok, Err, IfOk, slice_get}
 use Rattle.std.proofs.lemmas.List.{length-map}
@@ -37,7 +37,7 @@ module _ (above : Tree → Tree → Type 0) (spec : Spec) (numbers : List ℕ) (
       let long : length nodes ≡ length (clauses_of nodes) = sym (length-map nodes (λ (n : Node). n.clause)) in
       subst (λ d. AnsweredAt d answer) same (over_nodes above here (clauses_of nodes) (row_of spec (Contains numbers) (clauses_of nodes) here step) first answer (subst (λ n. IsCounted n first answer) long count) h)
 
-  -- what is made can stand in nodes
+  -- what is made can be in nodes
   pub nodes_made :
       ChildrenAreSorted above → IsWellSorted spec → AreNodes spec.sig (clauses_of nodes) → (here : Clause) → IsNode spec.sig here →
       (answer : Result Children StepError) → AnsweredAt here answer → IfOk answer (λ made. AreNodes spec.sig (clauses_made made))

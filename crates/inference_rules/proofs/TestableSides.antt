@@ -1,4 +1,4 @@
--- Clauses within the limits and the terms that stand in them are small enough to be compared.
+-- Clauses within the limits and the terms that occur in them are small enough to be compared.
 use Rattle.std.proofs.Common.{◌≡◌, ℕ, ◌+◌, ◌≤◌, List, [], ◌∷◌, ◌++◌, Bool, true, false, inl, inr, ap, ◌∙◌, arith}
 use Rattle.term_core.specs.Tree.{Tree, trees_of, tree_size, sizes}
 use Rattle.term_core.proofs.Members.{In, in_contained}

@@ -5,8 +5,8 @@ use Rattle.clause_core.specs.declared.answers.Why.TheVariants.{Limit}
 use Rattle.inference_rules.specs.declared.nodes.StepError.{StepError}
 use Rattle.inference_rules.specs.declared.nodes.StepError.TheVariants.{Why}
 
--- the first answer where so many nodes stand before the children that it makes, which is the limit
--- where there are more than 10,000 nodes then
+-- the first answer if this many nodes come before the children that it makes, which is the limit
+-- if there are more than 10,000 nodes then
 abbrev pub IsCounted : ℕ → Result Children StepError → Result Children StepError → Type 0
 IsCounted count (Ok made) answer =
     ((count + length made.clauses ≤ 10000) × (answer ≡ Ok made))

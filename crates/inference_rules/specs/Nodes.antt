@@ -7,7 +7,7 @@ use Rattle.clause_core.specs.declared.answers.Child.{Child}
 use Rattle.clause_core.specs.declared.answers.Children.{Children}
 use Rattle.descent.specs.SortedChildren.{IsNode}
 
--- each of the clauses can stand in a node: it is sorted, tidied and within the limits
+-- each of the clauses can be in a node: it is sorted, tidied and within the limits
 abbrev pub AreNodes : Sig → List Clause → Type 0
 AreNodes sig clauses = (j : ℕ) (d : Clause) → slice_get clauses j ≡ Some d → IsNode sig d
 
@@ -23,7 +23,7 @@ children_with relation ds =
       refs = [];
     }
 
--- the reference that a step makes to a node by an instance of it, where it makes one
+-- the reference that a step makes to a node by an instance of it, if it makes one
 abbrev pub referred_to : Option ℕ → Clause → List (ℕ × Clause)
 referred_to (Some node) instance = (node, instance) ∷ []
 referred_to None instance = []

@@ -1,8 +1,8 @@
--- Terms that stand in terms.
+-- Terms that occur in terms.
 use Rattle.std.specs.Prelude.{◌≡◌, ◌⊎◌}
 use Rattle.term_core.specs.Tree.{Tree, Trees, var, app, none, some}
 
--- the term is the other one, or stands in it
+-- the term is the other one, or occurs in it
 abbrev mutual
   pub IsPart : Tree → Tree → Type 0
   IsPart t (var n) = t ≡ var n

@@ -68,7 +68,7 @@ pub(crate) fn absurd_premise(
 }
 
 /// Whether no instance by values gives both terms one value, as their constructors show: their
-/// heads are distinct constructors, or one is a variable that stands under constructors of the
+/// heads are distinct constructors, or one is a variable that is under constructors of the
 /// other.
 pub(crate) fn clashes(sig: &Signature, left: &Term, right: &Term) -> bool
     ensures { IsTrue result ↔ Clash sig.now left.now right.now }
@@ -83,7 +83,7 @@ pub(crate) fn clashes(sig: &Signature, left: &Term, right: &Term) -> bool
     }
 }
 
-/// Whether the variable stands in the term with only constructors on the way down to it.
+/// Whether the variable occurs in the term with only constructors on the way down to it.
 #[cycle(under)]
 fn stands_under(sig: &Signature, var: VarId, term: &Term) -> bool
     ensures { IsTrue result ↔ StandsUnder sig.now var.0 term.now }
@@ -96,7 +96,7 @@ fn stands_under(sig: &Signature, var: VarId, term: &Term) -> bool
     }
 }
 
-/// Whether the variable stands so in some of the terms.
+/// Whether the variable occurs so in some of the terms.
 #[cycle(under)]
 fn stands_under_any(sig: &Signature, var: VarId, terms: &[Term]) -> bool
     ensures { IsTrue result ↔ StandsUnderAny sig.now var.0 (trees_of terms.now) }
@@ -109,7 +109,7 @@ fn stands_under_any(sig: &Signature, var: VarId, terms: &[Term]) -> bool
     false
 }
 
-/// Whether the symbol is a constructor, where it may be no symbol of the signature.
+/// Whether the symbol is a constructor. It may be no symbol of the signature.
 pub(crate) fn is_constructor(sig: &Signature, sym: SymId) -> bool
     ensures { IsTrue result ↔ IsConstructor sig.now sym.0 }
 {

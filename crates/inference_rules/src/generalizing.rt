@@ -46,7 +46,7 @@ fn general_sort(sig: &Signature, ctx: &[SortId], term: &Term) -> Option<SortId>
     }
 }
 
-/// Whether the term stands somewhere in the clause.
+/// Whether the term occurs somewhere in the clause.
 fn stands_in(term: &Term, clause: &Clause) -> bool
     ensures { IsTrue result ↔ StandsIn term.now clause.now }
 {
@@ -54,7 +54,7 @@ fn stands_in(term: &Term, clause: &Clause) -> bool
         || stands_in_sides(term, clause.conclusions.as_slice())
 }
 
-/// Whether the term stands somewhere in the equations.
+/// Whether the term occurs somewhere in the equations.
 fn stands_in_sides(term: &Term, equations: &[Equation]) -> bool
     ensures { IsTrue result ↔ IsPartOfAny term.now (trees_of (sides_of equations.now)) }
 {
@@ -66,7 +66,7 @@ fn stands_in_sides(term: &Term, equations: &[Equation]) -> bool
     false
 }
 
-/// Whether the term is the other one or stands in it.
+/// Whether the term is the other one or occurs in it.
 #[cycle(is_part)]
 fn is_part(term: &Term, whole: &Term) -> bool
     ensures { IsTrue result ↔ IsPart term.now whole.now }
@@ -80,7 +80,7 @@ fn is_part(term: &Term, whole: &Term) -> bool
     }
 }
 
-/// Whether the term is one of the others or stands in one.
+/// Whether the term is one of the others or occurs in one.
 #[cycle(is_part)]
 fn is_part_of_any(term: &Term, terms: &[Term]) -> bool
     ensures { IsTrue result ↔ IsPartOfAny term.now (trees_of terms.now) }

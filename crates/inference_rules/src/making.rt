@@ -130,7 +130,7 @@ pub(crate) fn child_holding<O: TermOrder>(
     Ok(Children { clauses, refs })
 }
 
-/// A reference to the node of this number, with whose instance the node's clause is compared.
+/// A reference to the node with this number, with whose instance the node's clause is compared.
 pub(crate) fn reference<O: TermOrder>(
     alloc: Global,
     order: &O,
@@ -149,7 +149,7 @@ pub(crate) fn reference<O: TermOrder>(
     })
 }
 
-/// The children and references, where the children are within the limits. No other nodes are
+/// The children and references, if the children are within the limits. No other nodes are
 /// counted.
 pub(crate) fn limited(clauses: Seq<Child>, refs: Seq<Reference>) -> Result<Children, StepError>
     ensures { IsLimited (record { clauses = clauses; refs = refs }) result }
@@ -172,7 +172,7 @@ fn are_within(children: &[Child]) -> bool
     true
 }
 
-/// The answer of a step where so many nodes stand before the children that it makes.
+/// The answer of a step if this many nodes come before the children that it makes.
 pub(crate) fn counted(
     count: usize,
     answer: Result<Children, StepError>,

@@ -16,7 +16,7 @@ use std::alloc::Global;
 use substitutions::Subst;
 use term_core::{Name, OutOfMemory, Term};
 
-/// The node of this number.
+/// The node with this number.
 pub(crate) fn node_at(nodes: &[Node], number: u32) -> Option<&Node>
     ensures { MatchOption result (NodeAt (clauses_of nodes.now) number → ⊥)
         (λ node. (at : NodeAt (clauses_of nodes.now) number) × (at.clause ≡ node.now.clause)) }
@@ -41,7 +41,7 @@ pub(crate) fn usable_goal<'a>(spec: &'a Spec, proved: &[u32], name: &Name) -> Op
     None
 }
 
-/// The goal of this number, if it has the name.
+/// The goal with this number, if it has the name.
 fn named_goal<'a>(spec: &'a Spec, number: u32, name: &Name) -> Option<&'a Goal>
     ensures { MatchOption result
         ((goal : GoalOf) → slice_get spec.now.goals number ≡ Some goal → goal.name ≡ name.now → ⊥)

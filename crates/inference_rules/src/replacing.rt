@@ -21,7 +21,7 @@ use term_core::{Name, OutOfMemory, Seq, Term, front};
 use term_order::TermOrder;
 
 /// How an equation that is referred to rewrites: by the instance with these terms for its
-/// variables, the term at this place, from left to right where `left` is true.
+/// variables, the term at this place, from left to right if `left` is true.
 #[derive(Drop)]
 pub(crate) struct Rewriting<'a> {
     pub(crate) terms: &'a [Term],
@@ -30,7 +30,7 @@ pub(crate) struct Rewriting<'a> {
 }
 
 /// `context`: the term at the place is a side of the premise and becomes the other side. The
-/// premise is used from left to right where `left` is true.
+/// premise is used from left to right if `left` is true.
 pub(crate) fn context<O: TermOrder>(
     alloc: Global,
     order: &O,
@@ -53,8 +53,8 @@ pub(crate) fn context<O: TermOrder>(
     child_holding(alloc, order, here, place, term, other, Seq::new(alloc))
 }
 
-/// `hyp`: the term at the place is a side of the one conclusion of an instance of the node of this
-/// number and becomes the other side.
+/// `hyp`: the term at the place is a side of the one conclusion of an instance of the node with
+/// this number and becomes the other side.
 pub(crate) fn hyp<O: TermOrder>(
     alloc: Global,
     spec: &Spec,
@@ -125,7 +125,7 @@ fn rewrite<O: TermOrder>(
     child_holding(alloc, order, here, how.place, term, other, refs)
 }
 
-/// A reference to the node of this number, if there is one, with the instance of its clause.
+/// A reference to the node with this number, if there is one, with the instance of its clause.
 fn references<O: TermOrder>(
     alloc: Global,
     order: &O,

@@ -12,7 +12,7 @@ use spec_core::Spec;
 use std::alloc::Global;
 use term_core::OutOfMemory;
 
-/// `rule`: the rule of this number rewrites the term at the place, with its guards among the
+/// `rule`: the rule with this number rewrites the term at the place, with its guards among the
 /// premises.
 pub(crate) fn rewrite(
     alloc: Global,

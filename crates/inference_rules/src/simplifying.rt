@@ -17,7 +17,7 @@ use std::alloc::Global;
 use term_core::{Node, OutOfMemory, Term};
 
 /// `decompose`: both sides have the same constructor as head, and the arguments are equated in
-/// their place. Of a premise all these equations stand there, of a conclusion each in its child.
+/// their place. Of a premise all these equations are there, of a conclusion each in its child.
 pub(crate) fn decompose(
     alloc: Global,
     spec: &Spec,
@@ -80,7 +80,7 @@ pub(crate) fn drop_equation(
     related_alone(alloc, Relation::Less, child)
 }
 
-/// The arguments of both sides, where these have the same constructor as head.
+/// The arguments of both sides, if these have the same constructor as head.
 fn arguments_of<'a>(sig: &Signature, equation: &'a Equation) -> Option<(&'a [Term], &'a [Term])>
     ensures { MatchOption result (SameHeads sig.now equation.now → ⊥)
         (λ args. (heads : SameHeads sig.now equation.now)
@@ -110,7 +110,7 @@ fn equated(alloc: Global, lefts: &[Term], rights: &[Term]) -> Result<Vec<Equatio
     Ok(made)
 }
 
-/// For each equation the clause that has it alone in the place of the conclusion of this number.
+/// For each equation the clause that has it alone in the place of the conclusion with this number.
 fn one_each(
     alloc: Global,
     clause: &Clause,

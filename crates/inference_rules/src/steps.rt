@@ -26,11 +26,11 @@ use spec_core::Spec;
 use std::alloc::Global;
 use term_order::TermOrder;
 
-/// What the step makes at the node of this number, which counts from 0, by the table of steps. The
-/// goals of the numbers `proved` may be used as lemmas. `Why` comes exactly where the step isn't
-/// defined, with the first condition of its row that isn't met.
+/// What the step makes at the node with this number, which counts from 0, by the table of steps.
+/// The goals of the numbers `proved` may be used as lemmas. `Why` comes if and only if the step
+/// isn't defined, with the first condition of its row that isn't met.
 ///
-/// Each child can be a node. Where the specification is admitted and the goals of `proved` are
+/// Each child can be a node. If the specification is admitted and the goals of `proved` are
 /// true, a failing instance of the node's clause goes on to a child or to a node that is referred
 /// to, and weighs there what the relation says.
 pub fn children<O: TermOrder>(

@@ -17,7 +17,7 @@ use std::alloc::Global;
 use term_core::{Name, Seq, Term};
 use term_order::TermOrder;
 
-/// `subsume`: an instance of the node of this number says no less than the clause here.
+/// `subsume`: an instance of the node with this number says no less than the clause here.
 pub(crate) fn subsume<O: TermOrder>(
     alloc: Global,
     spec: &Spec,

@@ -7,7 +7,7 @@ pub Rose-after : (old mid new : ℕ) → old ≤ mid → Rose mid new → Rose o
 Rose-after old mid new before (inl above) = inl (omega arith)
 Rose-after old mid new before (inr last) = inr last
 
--- what rose at first rose on the whole
+-- what rose in the first part rose on the whole
 pub Rose-before : (old mid new : ℕ) → Rose old mid → mid ≤ new → IsCount new → Rose old new
 Rose-before old mid new (inl above) after bound = inl (omega arith)
 Rose-before old mid new (inr last) after bound = inr (omega arith)

@@ -8,7 +8,7 @@ use Rattle.io_core.specs.CallPlan.{CallPlan}
 abbrev pub first_file : List (List ℕ × List ℕ) → List ℕ → Option (List ℕ)
 first_file files name = lookup (bytes_eq name) files
 
--- the bytes of the first file of the name, and none where there is no such file
+-- the bytes of the first file of the name, and none if there is no such file
 abbrev pub file_or_empty : List (List ℕ × List ℕ) → List ℕ → List ℕ
 file_or_empty files name = unwrap_or (first_file files name) []
 
@@ -17,7 +17,7 @@ pub record HeldFiles : Type 0 where
   pub files : List (List ℕ × List ℕ)
   pub asked : List (List ℕ)
 
--- the same, where calls go by a plan
+-- the same, if calls go by a plan
 pub record PlannedFiles : Type 0 where
   pub files : List (List ℕ × List ℕ)
   pub asked : List (List ℕ)

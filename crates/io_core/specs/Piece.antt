@@ -2,7 +2,7 @@
 use Rattle.std.specs.Prelude.{◌≡◌, ℕ, ◌≤◌, List, ◌++◌, Option, option_map, take, length}
 use Rattle.io_core.specs.CallPlan.{CallPlan}
 
--- the bytes were appended, where the sink tells what was written
+-- the bytes were appended, if the sink tells what was written
 abbrev pub Appended : Option (List ℕ) → Option (List ℕ) → List ℕ → Type 0
 Appended old new bytes = new ≡ option_map (λ w. w ++ bytes) old
 

@@ -257,7 +257,7 @@ mod tests {
         Ok(())
     }
 
-    /// Is interrupted a number of times, and then moves at most so many bytes.
+    /// Is interrupted a number of times, and then moves at most this many bytes.
     #[derive(Drop)]
     struct Interrupted {
         left: u8,

@@ -89,7 +89,7 @@ impl Sink for MemSink {
         ensures appended { OnOk result (self.new.bytes ≡ self.old.bytes ++ piece.now) }
         ensures kept { OnErr result (self.new.bytes ≡ self.old.bytes) }
 
-        // The call fails where the plan says so and the piece isn't empty, and nowhere else.
+        // The call fails if and only if the plan says so and the piece isn't empty.
         ensures empty { piece.now ≡ [] → result ≡ Ok 0 }
         ensures planned { FailsNext self.old.plan
             → piece.now ≢ [] → IsErrOf result WriteError.Failed }

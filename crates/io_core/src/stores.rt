@@ -90,7 +90,7 @@ impl Files for MemFiles {
     fn read(&mut self, alloc: Global, name: &str, limit: usize) -> Result<Vec<u8>, ReadError>
         ensures files { self.new.files ≡ self.old.files }
 
-        // The call fails where the plan says so or no file has the name, and nowhere else.
+        // The call fails if and only if the plan says so or no file has the name.
         ensures planned { FailsNext self.old.plan
             → IsErrOf result ReadError.Failed ⊎ IsErrOf result ReadError.OutOfMemory }
         ensures failed { IsErrOf result ReadError.Failed
@@ -152,7 +152,7 @@ fn find_file<'a>(files: &'a [(Name, Seq<u8>)], name: &[u8]) -> Option<&'a [u8]>
     None
 }
 
-/// A copy of the bytes, where they are at most `limit`.
+/// A copy of the bytes, if they are at most `limit`.
 fn copy_within(alloc: Global, bytes: &[u8], limit: usize) -> Result<Vec<u8>, ReadError>
     ensures ok { IfOk result (λ v. v.items ≡ bytes.now) }
     ensures too_long { IsErrOf result ReadError.TooLong ↔ (limit < length bytes.now) }

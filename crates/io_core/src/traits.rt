@@ -8,7 +8,7 @@ use std::alloc::Global;
 
 /// Files that are read by name.
 pub trait Files {
-    /// The bytes that are held under a name, where the store tells them.
+    /// The bytes that are held under a name, if the store tells them.
     ghost held: { Self → List ℕ → Option (List ℕ) };
 
     /// How many faults were met so far.
@@ -17,7 +17,7 @@ pub trait Files {
     /// The names that were asked for, in their order.
     ghost asked: { Self → List (List ℕ) };
 
-    /// The bytes of the file, where they are at most `limit`.
+    /// The bytes of the file, if they are at most `limit`.
     fn read(&mut self, alloc: Global, name: &str, limit: usize) -> Result<Vec<u8>, ReadError>
         ensures stays { (n : List ℕ) → held self.new n ≡ held self.old n }
 
@@ -44,7 +44,7 @@ pub trait Files {
 
 /// What bytes are written to.
 pub trait Sink {
-    /// All the bytes that were written, where the sink tells them.
+    /// All the bytes that were written, if the sink tells them.
     ghost written: { Self → Option (List ℕ) };
 
     /// How many faults were met so far.

@@ -34,7 +34,7 @@ arguments-for w x f g ts ss e k p =
 covers-each : (w : ℕ → ℕ) (t s : Tree) → ((x : ℕ) → AboveFor w x t s) → Covers t s
 covers-each w t s h = record { no_more = λ x. let p : AboveFor w x t s = h x in p.0 }
 
--- Which case holds is told by weights and heads alone, so it is the same one for each variable.
+-- Weights and heads alone tell which case holds, so it is the same one for each variable.
 mutual
   pub from-each :
       (w : ℕ → ℕ) (t s : Tree) → ((x : ℕ) → AboveFor w x t s) → AboveByWeight w t s

@@ -6,7 +6,7 @@ use Rattle.term_core.specs.declared.ids.VarId.{VarId}
 use Rattle.kbo_order.specs.Weights.{times, times_in_all}
 use Rattle.kbo_order.specs.NextVariable.{IsNext}
 
--- where there are as many
+-- if there are as many
 same-next :
     (from : ℕ) (p q : ℕ → ℕ) → ((x : ℕ) → q x ≡ p x) → (r : Option VarId) → IsNext from p r →
     IsNext from q r
@@ -44,7 +44,7 @@ module _ {us ts : List Tree} {t : Tree} (e : us ≡ t ∷ ts) where
   in-others from (Some v) a b =
       (b.0, omega (arith, b.1, parted v.0), λ x l m. omega (arith, a x l, b.2 x l m, parted x))
 
-  -- where the test of the first term found none
+  -- if the test of the first term found none
   pub in-others-as :
       (from : ℕ) (first r : Option VarId) → first ≡ None → IsNext from (λ x. times x t) first →
       IsNext from (λ x. times_in_all x (trees_of ts)) r →

@@ -34,7 +34,7 @@ small-fits weights h t l =
     weight-least (symbol_weight weights) (symbol-small weights h) t in
     omega (arith, l, m)
 
--- so a test by these weights tells of such a term where it is above another one
+-- so a test by these weights tells of such a term whether it is above another one
 pub small-told :
     {ws vs : List ℕ} (t s : Tree) (answer : Bool) → ws ≡ vs → AreWeights vs → tree_size t ≤ 4294967295 →
     IsTrue answer ↔ (Fits (symbol_weight ws) t × AboveByWeight (symbol_weight ws) t s) →

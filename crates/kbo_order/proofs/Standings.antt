@@ -12,7 +12,7 @@ use Rattle.kbo_order.specs.declared.compare.Standing.TheVariants.{Same, Greater,
 pub never : {A : Type 0} → IsTrue false → A
 never h = absurd (let q : false ≡ true = h in cc)
 
--- the parts of a list, where it has some
+-- the parts of a list, if it has some
 abbrev first-of : Tree → Trees → Tree
 first-of t none = t
 first-of t (some a ts) = a

@@ -64,7 +64,7 @@ pub record WorkedExamples : Type 0 where
   -- associativity: both weigh 5, and plus(x, y) is above x
   pub associated : AboveByOnes (plus_term (plus_term x y) z) (plus_term x (plus_term y z))
   pub associated_back : AboveByOnes (plus_term x (plus_term y z)) (plus_term (plus_term x y) z) → ⊥
-  -- weights go before heads: succ(x) is above plus(x, zero) where succ weighs 3, and not where each
+  -- weights go before heads: succ(x) is above plus(x, zero) if succ weighs 3, and not if each
   -- symbol weighs 1
   pub weighed : AboveByThree (succ_term x) (plus_term x zero_term)
   pub unweighed : AboveByOnes (succ_term x) (plus_term x zero_term) → ⊥
@@ -76,7 +76,7 @@ pub record WorkedExamples : Type 0 where
   pub product :
       (weights : List ℕ) →
       AboveBy weights (mult_term (succ_term x) y) (plus_term y (mult_term x y)) → ⊥
-  -- the inverse of a product: where inv weighs nothing, as it may with Knuth and Bendix,
+  -- the inverse of a product: if inv weighs nothing, as it may with Knuth and Bendix,
   -- inv(mult(x, y)) is above mult(inv(y), inv(x)). Here each symbol weighs at least 1, so it is the
   -- other way round
   pub inverse :

@@ -118,7 +118,7 @@ sums-below (x ∷ xs) ys h v =
     let below = sums-below xs r.0 (λ z. omega (arith, h z, sum_by-cons (one_at z) x xs, r.1 (one_at z))) v in
     omega (arith, below, r.1 v, sum_by-cons v x xs)
 
--- where no variable is more often in s, each sum over its variables is no greater
+-- if no variable is more often in s, each sum over its variables is no greater
 pub covered-sum :
     (t s : Tree) → Covers t s → (v : ℕ → ℕ) → over_variables v s ≤ over_variables v t
 covered-sum t s c v =

@@ -68,7 +68,7 @@ impl Standing {
     }
 }
 
-/// How two terms of these sums stand. Where they weigh the same their roots decide.
+/// How two terms of these sums stand. If they weigh the same their roots decide.
 fn by_weight(first: Sums, second: Sums, roots: Standing) -> Standing
     ensures { (w : ℕ → ℕ) → (x : ℕ) → (t s : Tree) → IsSum w x t first → IsSum w x s second →
         RootsStand w x t s roots → TermsStand w x t s result }
@@ -85,7 +85,7 @@ fn by_weight(first: Sums, second: Sums, roots: Standing) -> Standing
     roots
 }
 
-/// The pair of two terms whose roots stand so, or None where the weight of one of them passes 128
+/// The pair of two terms whose roots stand so, or None if the weight of one of them passes 128
 /// bits.
 fn apart<'a>(
     weights: &[u32],
@@ -112,7 +112,7 @@ fn apart<'a>(
     })
 }
 
-/// The pair of two terms, or None where the weight of one of them passes 128 bits. Where the heads
+/// The pair of two terms, or None if the weight of one of them passes 128 bits. If the heads
 /// are the same it goes through the arguments of both in step.
 #[cycle(compare)]
 fn compare<'a>(
@@ -153,7 +153,7 @@ fn compare<'a>(
     }
 }
 
-/// The pair of two lists of arguments, or None where the weight of one of them passes 128 bits.
+/// The pair of two lists of arguments, or None if the weight of one of them passes 128 bits.
 #[cycle(compare)]
 fn compare_arguments<'a>(
     weights: &[u32],
@@ -199,7 +199,7 @@ fn compare_arguments<'a>(
     }
 }
 
-/// Whether `t` is above `s` as far as `x` is counted. It says no where the weight of `t` passes 128
+/// Whether `t` is above `s` as far as `x` is counted. It says no if the weight of `t` passes 128
 /// bits.
 fn above_for<'a>(
     weights: &[u32],
@@ -224,7 +224,7 @@ fn above_for<'a>(
     }
 }
 
-/// Whether `t` is above `s`. It says no where the weight of `t` passes 128 bits. Variable 0 is counted
+/// Whether `t` is above `s`. It says no if the weight of `t` passes 128 bits. Variable 0 is counted
 /// first, whether it is in `s` or not, and then each other one that is in `s`.
 pub(crate) fn above<'a>(weights: &[u32], list: &[&'a Term], t: Operand<'a>, s: Operand<'a>) -> bool
     ensures { let values = terms_of list.now in

@@ -7,7 +7,7 @@ ghost use Rattle.kbo_order.specs.Operands.{meanings, IsRoot};
 use term_core::{Node, SymId, Term, VarId};
 use term_order::Operand;
 
-/// Terms that are compared, all of them as they stand or all as patterns.
+/// Terms that are compared, all of them as they are or all as patterns.
 #[derive(Clone, Copy)]
 pub(crate) struct Operands<'a> {
     pub(crate) terms: &'a [Term],

@@ -46,8 +46,8 @@ impl TermOrder for Kbo {
 
     ghost rank = { λ o. IsRank (symbol_weight o) };
 
-    /// Says no where the weight of `t` passes 128 bits, and takes no memory. For variable 0, and for
-    /// each other one of `s`, it goes once through both terms: in step where their heads are the same,
+    /// Says no if the weight of `t` passes 128 bits, and takes no memory. For variable 0, and for
+    /// each other one of `s`, it goes once through both terms: in step if their heads are the same,
     /// and one after the other below heads that differ. So its steps are linear in the sizes of both,
     /// times the number of these variables, whatever the depth.
     fn greater(&self, t: &Term, s: &Term) -> bool

@@ -44,7 +44,7 @@ impl Sums {
         }
     }
 
-    /// The sums of both, or None where one of them passes 128 bits.
+    /// The sums of both, or None if one of them passes 128 bits.
     pub(crate) fn plus(self, other: Sums) -> Option<Sums>
         ensures { let weight = self.weight + other.weight in
             let count = self.count + other.count in
@@ -67,7 +67,7 @@ fn weight(weights: &[u32], symbol: SymId) -> u128
     }
 }
 
-/// The weight of a term and how often `x` is in it, or None where the weight passes 128 bits.
+/// The weight of a term and how often `x` is in it, or None if the weight passes 128 bits.
 #[cycle(total)]
 pub(crate) fn total<'a>(
     weights: &[u32],
@@ -89,7 +89,7 @@ pub(crate) fn total<'a>(
     }
 }
 
-/// The weight of some terms and how often `x` is in them, or None where the weight passes 128 bits.
+/// The weight of some terms and how often `x` is in them, or None if the weight passes 128 bits.
 #[cycle(total)]
 pub(crate) fn total_of_all<'a>(
     weights: &[u32],

@@ -122,7 +122,7 @@ first_good (suc n) (m ∷ w) h rest =
 -- Terms.
 
 abbrev mutual
-  -- below so many words the term's words are names, and pass no limit
+  -- below this many words the term's words are names, and pass no limit
   IsFine : ℕ → RawTree → Type 0
   IsFine d (word name at ts) = (is_plain name ≡ true) × ArgumentsAreFine d ts
 

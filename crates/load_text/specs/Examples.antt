@@ -29,6 +29,6 @@ pub record WorkedExamples : Type 0 where
   pub one : printed (load_raw 1) ≡ load_header ++ first_goal
   pub four : printed (load_raw 4)
       ≡ load_header ++ first_goal ++ second_goal ++ third_goal ++ fourth_goal
-  -- the heights begin anew at goal 20, of the kind of goal 0
+  -- the heights begin again at goal 20, of the kind of goal 0
   pub anew : goal_line (load_goal 20)
       ≡ codes "goal g20 : plus(succ(x), y) = succ(plus(x, y))\n"

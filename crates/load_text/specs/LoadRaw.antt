@@ -18,7 +18,7 @@ use Rattle.spec_grammar.specs.RawTree.{RawTree, word, none, some}
 abbrev pub named : List ℕ → RawName
 named text = record { name = text; at = 0 }
 
--- a name that has the names in parentheses behind it
+-- a name that has the names in parentheses after it
 abbrev pub applied : List ℕ → List RawName → RawNames
 applied text args = record { name = text; at = 0; args = args }
 
@@ -114,7 +114,7 @@ abbrev pub goal_of_kind : List ℕ → ℕ → ℕ → RawGoal
 goal_of_kind text (suc (suc zero)) k = fails text (load_sides 2 k)
 goal_of_kind text kind k = holds text (load_sides kind k)
 
--- the name of goal i, and how often `succ` stands in it
+-- the name of goal i, and how often `succ` occurs in it
 abbrev pub goal_name : ℕ → List ℕ
 goal_name i = codes "g" ++ decimal i
 

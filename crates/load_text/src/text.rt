@@ -69,7 +69,7 @@ fn append_number(alloc: Global, number: u32, text: &mut Vec<u8>) -> Result<(), O
     Ok(())
 }
 
-/// Appends the equation of a goal of this kind, with so many `succ`.
+/// Appends the equation of a goal of this kind, with this many `succ`.
 fn append_sides(kind: u32, height: u32, text: &mut Vec<u8>) -> Result<(), OutOfMemory>
     requires { height ≤ 20 }
     ensures { OnOk result (text.new.items ≡ text.old.items
@@ -127,7 +127,7 @@ fn append_sum_of_three(height: u32, text: &mut Vec<u8>) -> Result<(), OutOfMemor
     Ok(())
 }
 
-/// Appends the text under `succ`, so many times.
+/// Appends the text under `succ`, this many times.
 fn append_successors(height: u32, inner: &[u8], text: &mut Vec<u8>) -> Result<(), OutOfMemory>
     ensures { OnOk result (text.new.items ≡ text.old.items ++ enclosed height inner.now) }
 {

@@ -20,7 +20,7 @@ no_entry zero n = refl
 no_entry (suc count) zero = refl
 no_entry (suc count) (suc n) = no_entry count n
 
--- the entries stay where None is added
+-- the entries stay when None is added
 entry_padded :
     (entries : List (Option Tree)) (more n : ℕ) →
     entry (entries ++ replicate more None) n ≡ entry entries n

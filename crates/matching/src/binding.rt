@@ -81,7 +81,7 @@ fn is_larger(pattern: &Term, term: &Term) -> bool
     false
 }
 
-/// Matches a variable with a term. Where the variable was met before, both terms are compared.
+/// Matches a variable with a term. If the variable was met before, both terms are compared.
 fn bind_variable<'a>(
     var: VarId,
     term: &'a Term,

@@ -98,7 +98,7 @@ impl<'a> Bindings<'a> {
     }
 }
 
-/// A copy of the term, where there is one.
+/// A copy of the term, if there is one.
 fn copy_of(alloc: Global, found: Option<&Term>) -> Result<Option<Term>, OutOfMemory>
     ensures { IfOk result (λ made. made ≡ option_copied found.entry) }
 {

@@ -8,7 +8,7 @@ use std::alloc::Global;
 use substitutions::Subst;
 use term_core::{OutOfMemory, Term};
 
-/// The substitution of the pattern's variables that makes it the term, or None where none does. A
+/// The substitution of the pattern's variables that makes it the term, or None if none does. A
 /// variable that occurs twice in the pattern must meet the same tree. Each bound term is copied
 /// once, after the match. The cost is linear in both sizes and in the greatest number of a
 /// variable.
@@ -26,7 +26,7 @@ pub fn matches(alloc: Global, pattern: &Term, term: &Term) -> Result<Option<Subs
 }
 
 /// Whether some substitution makes the pattern the term. No term is copied, and memory is asked for
-/// only where a variable is met.
+/// only when a variable is met.
 pub fn fits(alloc: Global, pattern: &Term, term: &Term) -> Result<bool, OutOfMemory>
     ensures { IfOk result (Fits pattern.now term.now) }
 {

@@ -1,4 +1,5 @@
--- Terms with a constant for each variable: they are built where the terms are open, and are the same only for the same terms.
+-- Terms with a constant for each variable: they are built if the terms are open, and are the same only for the
+-- same terms.
 use Rattle.std.proofs.Common.{◌≡◌, ℕ, zero, suc, [], ◌∷◌, get_or, ◌+◌, ◌<◌, ◌≤◌, List, Bool, true, false, inl, inr, refl, ap, sym, arith}
 use Rattle.std.specs.Prelude.{length, map}
 use Rattle.term_core.specs.Tree.{Tree, Trees, var, app, none, some, instance, instances}

@@ -11,7 +11,7 @@ pub record Entries (n : ℕ) (P : ℕ → Tree → Type 0) : Type 0 where
   pub long : length items ≡ n
   pub each : (k : ℕ) (d : Tree) → k < n → P k (get_or items k d)
 
--- where there is one for each number, there is a list of them
+-- if there is one for each number, there is a list of them
 pub choose : (n : ℕ) (P : ℕ → Tree → Type 0) → ((k : ℕ) → k < n → (x : Tree) × P k x) → Entries n P
 choose zero P h = record { items = []; long = refl; each = λ k d w. absurd (omega arith) }
 choose (suc n) P h =

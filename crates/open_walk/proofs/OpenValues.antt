@@ -27,7 +27,7 @@ module _ (sig : Sig) where
   all_built_open [] b = tt
   all_built_open (x ∷ xs) b = (built_open x b.0, all_built_open xs b.1)
 
-  -- what stands for a variable is open where the entries are
+  -- what stands for a variable is open if the entries are
   pub entry_open : (xs : List Tree) (n : ℕ) (d : Tree) → AllByRecursion (IsOpen sig) xs → IsOpen sig d → IsOpen sig (get_or xs n d)
   entry_open [] n d b o = o
   entry_open (x ∷ xs) zero d b o = b.0

@@ -32,7 +32,7 @@ variable_at j (suc m) (suc i) =
     let e : j + suc i ≡ suc j + i = omega arith in
     rw e (variable_at (suc j) m i)
 
--- what stands for a variable behind the fixed values is the variable, with and without the list of variables
+-- what stands for a variable after the fixed values is the variable, with and without the list of variables
 opened_entry : (fixed : List Tree) (n k : ℕ) → instance (opened fixed n) (var k) ≡ instance fixed (var k)
 opened_entry fixed n k = elim (below_or_not k (length fixed)) [
   | inl h ↦ get_or-append fixed (variables_from (length fixed) (n - length fixed)) (var k) k h

@@ -25,7 +25,7 @@ module _ (sig : Sig) (u : ℕ) where
     pub part : IsPart x
 
   mutual
-    -- where a pattern becomes an open value with constants, each of its variables becomes a part of the value
+    -- if a pattern becomes an open value with constants, each of its variables becomes a part of the value
     entry_part : (ys : List Tree) (p s : Tree) → instance ys (shifted c u p) ≡ closed c u s → IsPart s → (k : ℕ) → Occurs k p → (x : Tree) × IsClosed ys k x
     entry_part ys (var j) s e h k o = (s, record { is = rw o e; part = h })
     entry_part ys (app g ps) (var j) e h k o = entries_part ys ps none (args_eq e) tt (λ i q. absurd q) k o

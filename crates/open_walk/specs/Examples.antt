@@ -41,7 +41,7 @@ zero_alone = goal_of (equation (var 0) zero_term ∷ []) (equation (var 0) (var 
 pub record WorkedExamples : Type 0 where
   -- plus(succ(zero), x) gives succ(x) by two uses of rules, whatever x is
   pub one_more : OpenGives naturals (plus_term (succ_term zero_term) (var 0)) (succ_term (var 0)) 2
-  -- behind a fixed value the variables stand for themselves
+  -- after a fixed value the variables stand for themselves
   pub one_fixed : opened (zero_term ∷ []) 3 ≡ zero_term ∷ var 1 ∷ var 2 ∷ []
   -- succ(zero) and succ(succ(zero)) are different, and succ(x) and succ(zero) may be the same
   pub two_numbers : AreDifferent (succ_term zero_term) (succ_term (succ_term zero_term))
@@ -49,7 +49,7 @@ pub record WorkedExamples : Type 0 where
   -- plus(zero, x) = x holds by one use of a rule, and succ(x) = zero fails, with no variable fixed
   pub holds : IsOpenVerdict naturals (opened [] 2) 1 left_unit Holds
   pub fails : IsOpenVerdict naturals (opened [] 2) 0 no_successor Fails
-  -- where x is succ(zero), the goal whose premise is x = zero holds without y
+  -- if x is succ(zero), the goal whose premise is x = zero holds without y
   pub premise_broken : IsOpenVerdict naturals (opened (succ_term zero_term ∷ []) 2) 0 zero_alone
       Holds
   -- the walk has no verdict of plus(zero, x) = x without a use of a rule, none of plus(x, zero) = x at any budget, and

@@ -33,7 +33,7 @@ OpenInstancesGive =
 abbrev pub AreInstances : List Tree → List Tree → List Tree → Type 0
 AreInstances xs zs ys = (k : ℕ) → instance ys (var k) ≡ instance xs (instance zs (var k))
 
--- a verdict of the open walk stays where open values take the place of variables
+-- a verdict of the open walk stays when open values take the place of variables
 abbrev pub OpenVerdictsStay : Type 0
 OpenVerdictsStay =
     (spec : Spec) (goal : Goal) (xs zs ys : List Tree) (budget : ℕ) (r : Verdict) →
@@ -55,7 +55,7 @@ ClosedTermsGiveTheSame =
     (spec : Spec) (t v : Tree) (n : ℕ) → IsWellSorted spec → HasNoVariable t →
     OpenGives spec t v n ↔ Gives spec t v n
 
--- two terms with constants for their variables are the same only where the terms are
+-- two terms with constants for their variables are the same only if the terms are
 abbrev pub ClosingIsInjective : Type 0
 ClosingIsInjective =
     (c u : ℕ) (t s : Tree) → VariablesAreBelow u t → VariablesAreBelow u s →

@@ -1,4 +1,4 @@
--- The walk of a verdict where some variables have no value, in the order in which to read it.
+-- The walk of a verdict when some variables have no value, in the order in which to read it.
 pub mod OpenGives
 pub mod OpenVerdict
 pub mod Laws

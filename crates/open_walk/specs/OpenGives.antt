@@ -1,4 +1,4 @@
--- Evaluation where some variables have no value, with its cost.
+-- Evaluation when some variables have no value, with its cost.
 use Rattle.std.specs.Prelude.{◌≡◌, ℕ, ◌+◌, ◌<◌, List, [], ◌∷◌, Some, slice_get}
 use Rattle.std.specs.List.{AllByRecursion}
 use Rattle.term_core.specs.Tree.{Tree, Trees, var, app, none, some, instance}
@@ -26,7 +26,7 @@ HasNoVariable t = (k : ℕ) → Occurs k t → ⊥
 
 module _ (spec : Spec) where
   mutual
-    -- the term gives the open value at the cost: a variable gives itself for nothing, and a rule is used where the
+    -- the term gives the open value at the cost: a variable gives itself for nothing, and a rule is used if the
     -- call is an instance of its left side
     pub data OpenGives : Tree → Tree → ℕ → Type 0 where
       unknown : {k : ℕ} → OpenGives (var k) (var k) 0

@@ -1,4 +1,4 @@
--- The walk of a verdict where some variables have no value. It ends only where each list of values that goes on with the
+-- The walk of a verdict when some variables have no value. It ends only if each list of values that goes on with the
 -- fixed ones has one verdict.
 use Rattle.std.specs.Prelude.{◌≡◌, ◌≢◌, ℕ, ◌-◌, ◌≤◌, zero, suc, ◌⊎◌, List, [], ◌∷◌, ◌++◌, length}
 use Rattle.term_core.specs.Tree.{Tree, var, app, instance}
@@ -9,12 +9,12 @@ use Rattle.spec_core.specs.declared.records.Verdict.{Verdict}
 use Rattle.spec_core.specs.declared.records.Verdict.TheVariants.{Holds, Fails}
 use Rattle.open_walk.specs.OpenGives.{HasNoVariable, OpenGives}
 
--- so many variables, from the number k on
+-- this many variables, from the number k on
 abbrev pub variables_from : ℕ → ℕ → List Tree
 variables_from k zero = []
 variables_from k (suc n) = var k ∷ variables_from (suc k) n
 
--- the fixed values, and behind them each further variable below n, which stands for itself
+-- the fixed values, and after them each further variable below n, which stands for itself
 abbrev pub opened : List Tree → ℕ → List Tree
 opened fixed n = fixed ++ variables_from (length fixed) (n - length fixed)
 
@@ -42,19 +42,19 @@ module _ (spec : Spec) (values : List Tree) (budget : ℕ) where
   OpenDiffer e =
       (v : Tree) × (w : Tree) × AreDifferent v w × SideOpens e.left v × SideOpens e.right w
 
-  -- the conclusions in order: the first that holds decides; where each is broken the goal fails
+  -- the conclusions in order: the first that holds decides; if each is broken the goal fails
   abbrev pub OpenConclusionsSay : List Equation → Verdict → Type 0
   OpenConclusionsSay [] r = r ≡ Fails
   OpenConclusionsSay (e ∷ es) r =
       (OpenSame e × (r ≡ Holds)) ⊎ (OpenDiffer e × OpenConclusionsSay es r)
 
-  -- the premises in order: the first that is broken decides; where each holds the conclusions do
+  -- the premises in order: the first that is broken decides; if each holds the conclusions do
   abbrev pub OpenPremisesSay : List Equation → List Equation → Verdict → Type 0
   OpenPremisesSay [] cs r = OpenConclusionsSay cs r
   OpenPremisesSay (e ∷ es) cs r =
       (OpenDiffer e × (r ≡ Holds)) ⊎ (OpenSame e × OpenPremisesSay es cs r)
 
-  -- the verdict at which the walk ends; it doesn't end where it meets a side that gives no open value within the budget,
-  -- nor where it meets two sides that are neither the same nor different
+  -- the verdict at which the walk ends; it doesn't end if it meets a side that gives no open value within the budget,
+  -- nor if it meets two sides that are neither the same nor different
   abbrev pub IsOpenVerdict : Goal → Verdict → Type 0
   IsOpenVerdict goal r = OpenPremisesSay goal.premises goal.conclusions r

@@ -11,7 +11,7 @@ pub fn open_instances_give()
     ensures { OpenInstancesGive }
 {}
 
-/// A verdict of the open walk stays where open values take the place of variables.
+/// A verdict of the open walk stays when open values take the place of variables.
 pub fn open_verdicts_stay()
     ensures { OpenVerdictsStay }
 {}
@@ -27,7 +27,7 @@ pub fn closed_terms_give_the_same()
     ensures { ClosedTermsGiveTheSame }
 {}
 
-/// Two terms with constants for their variables are the same only where the terms are.
+/// Two terms with constants for their variables are the same only if the terms are.
 pub fn closing_is_injective()
     ensures { ClosingIsInjective }
 {}

@@ -46,7 +46,7 @@ module _ (sig : Sig) where
     pruned_are_patterns none = tt
     pruned_are_patterns (some t ts) = (pruned_is_pattern t, pruned_are_patterns ts)
 
-  -- a pattern under a substitution is pruned where the substitution is
+  -- a pattern under a substitution is pruned if the substitution is
   mutual
     prune_after : (s : List (Option Tree)) (t : Tree) → IsPattern sig t → pruned (apply s t) ≡ apply (map (option_map pruned) s) t
     prune_after s (var n) p = by (entry s n) ∙ ap (λ e. unwrap_or e (var n)) (sym (entry_map pruned s n))
@@ -81,7 +81,7 @@ module _ (sig : Sig) where
     patterns_shifted by none p = tt
     patterns_shifted by (some t ts) p = (pattern_shifted by t p.0, patterns_shifted by ts p.1)
 
-  -- where other symbols are pruned from a most general unifier, it still unifies, so it is the most general one
+  -- if other symbols are pruned from a most general unifier, it still unifies, so it is the most general one
   -- followed by some substitution, and what becomes a pattern by a substitution was one
   pub unified_patterns : (f g : ℕ) (ps qs : Trees) (s : List (Option Tree)) → IsMostGeneral (app f ps) (app g qs) s → ArePatterns sig ps → ArePatterns sig qs → ArePatterns sig (apply_all s ps)
   unified_patterns f g ps qs s m p q =

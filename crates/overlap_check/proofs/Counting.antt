@@ -38,25 +38,25 @@ module _ (n : ℕ) (t : Tree) (ts : Trees) where
   twice_first (inr (inl a)) f g = g a.1
   twice_first (inr (inr a)) f g = g (twice_occur n ts a)
 
-  -- where it isn't in the first, it is in all as often as in the others
+  -- if it isn't in the first, it is in all as often as in the others
   pub not_in_first : (there : Frequency) → (Occurs n t → ⊥) → AreTimes n ts there → AreTimes n (some t ts) there
   not_in_first Never h k = λ o. in_either o h k
   not_in_first Once h k = (inr k.0, λ o. twice_later o h k.1)
   not_in_first Twice h k = inr (inr k)
 
-  -- where it isn't in the others, it is in all as often as in the first
+  -- if it isn't in the others, it is in all as often as in the first
   pub not_in_others : (here : Frequency) → IsTimes n t here → (OccursAny n ts → ⊥) → AreTimes n (some t ts) here
   not_in_others Never h k = λ o. in_either o h k
   not_in_others Once h k = (inl h.0, λ o. twice_first o h.1 k)
   not_in_others Twice h k = inl h
 
--- where it isn't there twice or more, it doesn't occur twice
+-- if it isn't there twice or more, it doesn't occur twice
 pub not_twice : (n : ℕ) (t : Tree) (f : Frequency) → IsTimes n t f → (f ≡ Twice → ⊥) → OccursTwice n t → ⊥
 not_twice n t Never h other twice = h (twice_occurs n t twice)
 not_twice n t Once h other twice = h.1 twice
 not_twice n t Twice h other twice = other refl
 
--- where no variable below the count is twice there, the term is linear
+-- if no variable below the count is twice there, the term is linear
 pub linear_below : (t : Tree) (m : ℕ) → Numbered 0 t m → ((n : ℕ) → n < m → OccursTwice n t → ⊥) → IsLinear t
 linear_below t m h nothing n twice = nothing n (numbered_below 0 m t h n (twice_occurs n t twice)) twice
 

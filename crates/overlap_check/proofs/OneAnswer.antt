@@ -35,7 +35,7 @@ module _ (spec : Spec) where
       let least : IsLeastRepeated b.rule.left m = subst (λ (r : Rule). IsLeastRepeated r.left m) e a.least in
       same_number m n (λ h. b.least.1 m h least.0) (λ h. least.1 n h b.least.0)
 
-  -- the first overlap stands at one pair of places
+  -- the first overlap is at one pair of places
   one_first : (j k a b : ℕ) → IsFirstOverlap spec j k → IsFirstOverlap spec a b → j ≡ a
   one_first j k a b p q = same_number j a (λ h. q.none_before j k h p.ordered p.overlaps) (λ h. p.none_before a b h q.ordered q.overlaps)
 

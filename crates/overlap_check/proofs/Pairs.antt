@@ -61,7 +61,7 @@ module _ (spec : Spec) where
   pub none_overlaps : (place : ℕ) → length spec.rules ≤ place → ((j k : ℕ) → j < place → j < k → Overlaps spec j k → ⊥) → NoneOverlaps spec
   none_overlaps place end before j k after overlaps = before j k (omega (arith, slice_get_within spec.rules j overlaps.0 overlaps.2)) after overlaps
 
-  -- where no rule overlaps a later one, no values match two different left sides
+  -- if no rule overlaps a later one, no values match two different left sides
   pub no_overlap : NoneOverlaps spec → NoOverlap spec
   no_overlap nothing j k r q f i vs xs ys at other_at declared sorted built e d = by (same_tree_or_not r.left q.left)
     where

@@ -31,7 +31,7 @@ module _ (sig : Sig) (r q : Rule) (a : RuleIsSorted sig r) (b : RuleIsSorted sig
     other_is : other ≡ shifted (length (sorts_of r.vars)) q.left
     other_is = other_apart ∙ ap (λ n. shifted n q.left) (sym count)
 
-    -- where there is no unifier, no values match both
+    -- if there is no unifier, no values match both
     pub not_unified : HaveNoUnifier r.left other → HaveOverlap sig r.left q.left → ⊥
     not_unified never h =
         let m = h.1.1 in

@@ -42,7 +42,7 @@ module _ (sig : Sig) (ctx : List SortId) (range : SortsAreInRange sig) where
   left_variable_sort (var m) s l h n o u at = absurd l
   left_variable_sort (app f ts) s l h n o u at = variables_sort ts h.0.args (range f h.0 h.1).1 h.3 n o u at
 
--- so the variables of a rule have sorts of the signature, since each stands on the left side
+-- so the variables of a rule have sorts of the signature, since each is on the left side
 pub have_sorts : (sig : Sig) (rule : Rule) → IsDeclared sig → RuleIsSorted sig rule → HaveSorts sig rule.vars
 have_sorts sig rule d fine = all_from_at (λ (v : VarInfo). IsSort sig v.sort) rule.vars by
   where

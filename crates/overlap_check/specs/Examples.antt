@@ -47,7 +47,7 @@ pub record WorkedExamples : Type 0 where
   pub first_is_linear : IsLinearity same_second (Repeated 1 (record { 0 = 0 })) → ⊥
   pub not_linear : IsLinearity same_second Fine → ⊥
   -- plus(x, y) and plus(succ(x), y) overlap, although no substitution makes them the same as they
-  -- stand: each has its own x
+  -- are: each has its own x
   pub own_variables :
       HaveOverlap naturals_sig (plus_term (var 0) (var 1)) (plus_term (succ_term (var 0)) (var 1))
   pub as_they_stand :
@@ -62,5 +62,5 @@ pub record WorkedExamples : Type 0 where
   pub not_others :
       NamesOverlap naturals_sig plus_zero_rule right_zero_rule
       (some zero_term (some (succ_term zero_term) none)) → ⊥
-  -- so (zero, zero) are in the answer where these are the rules
+  -- so (zero, zero) are in the answer if these are the rules
   pub both : IsOverlap two_zeros (Both 1 2 (zero_term ∷ zero_term ∷ []))

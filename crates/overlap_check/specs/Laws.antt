@@ -30,7 +30,7 @@ OneOverlap =
     (spec : Spec) (a b : Overlap) →
     IsWellSorted spec → IsOverlap spec a → IsOverlap spec b → a ≡ b
 
--- where two rules are named, some values match two different left sides
+-- if two rules are named, some values match two different left sides
 abbrev pub BothOverlap : Type 0
 BothOverlap =
     (spec : Spec) (first second : ℕ) (values : List Tree) →

@@ -1,5 +1,5 @@
 -- The definitions that a reader of an answer has to believe, in the order in which to read them.
--- the first rule with a variable that stands twice on its left side
+-- the first rule with a variable that occurs twice on its left side
 pub mod Repetition
 -- left sides that some values match both, and the first pair of them
 pub mod Overlaps

@@ -1,4 +1,4 @@
--- The first rule with a variable that stands twice on its left side.
+-- The first rule with a variable that occurs twice on its left side.
 use Rattle.std.specs.Prelude.{◌≡◌, ℕ, ◌+◌, ◌<◌, Some, slice_get}
 use Rattle.term_core.specs.Tree.{Tree}
 use Rattle.spec_core.specs.declared.records.Rule.{Rule}
@@ -7,7 +7,7 @@ use Rattle.spec_core.specs.Linear.{OccursTwice, IsLinear, LeftSidesAreLinear}
 use Rattle.overlap_check.specs.declared.answers.Linear.{Linear}
 use Rattle.overlap_check.specs.declared.answers.Linear.TheVariants.{Fine, Repeated}
 
--- the variable stands twice in the term, and no smaller one does
+-- the variable occurs twice in the term, and no smaller one does
 abbrev pub IsLeastRepeated : Tree → ℕ → Type 0
 IsLeastRepeated t n = OccursTwice n t × ((m : ℕ) → m < n → OccursTwice m t → ⊥)
 

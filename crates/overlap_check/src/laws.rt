@@ -12,7 +12,7 @@ pub fn one_answer()
     ensures overlap { OneOverlap }
 {}
 
-/// Where two rules are named, some left sides overlap.
+/// If two rules are named, some left sides overlap.
 pub fn both_overlap()
     ensures { BothOverlap }
 {}

@@ -39,7 +39,7 @@ module _ (o p : Precedence) (levels : (f : ℕ) → level o f ≡ level p f)
     as-falls (here e a rest) = here e (as-above a) (as-all rest)
     as-falls (further w) = further (as-falls w)
 
--- numbers in their order pick the terms as they stand
+-- numbers in their order pick the terms as they are
 picked-as-written :
     (ps : List ℕ) (ts : Trees) → ((k : ℕ) → k < length ps → get_or ps k 0 ≡ k + 1) →
     length ps ≡ Count ts → picked ps ts ≡ ts

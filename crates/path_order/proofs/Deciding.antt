@@ -261,7 +261,7 @@ module _ (o : Precedence) where
     on-others : (t : Tree) → Each (Above o t) vs → Each (Above o t) (around before b ss)
     on-others t e = subst (λ zs. Each (Above o t) zs) y (each-arranged (Above o t) o g vs e)
 
-    -- where the arguments there fall, t is above each later argument of s
+    -- if the arguments there fall, t is above each later argument of s
     pub place-falls :
         length (list_of ts) ≡ length (list_of ss) → Above o a b →
         Above o (app f us) (app g vs) ↔ AboveAll o (app f us) ss
@@ -294,7 +294,7 @@ module _ (o : Precedence) where
         (λ h. absurd (fails (each-at (Above o a) before b ss (on-others a (reaches-arguments o a g vs h)))))
         (each-reaching o (app g vs) ts))))
 
-    -- where they don't fall, a later one of t reaches s
+    -- if they don't fall, a later one of t reaches s
     pub later-only :
         a ≢ b → (Above o a b → ⊥) → {t v : Tree} → Above o t v → t ≡ app f us → v ≡ app g vs →
         SomeReaches o ts (app g vs)
@@ -306,7 +306,7 @@ module _ (o : Precedence) where
     later-only differ fails (by_arguments e w) i j =
         absurd (fails (place-differs w before a b ts ss (ap (arguments_of o) i ∙ x) (ap (arguments_of o) j ∙ y) differ))
 
-  -- nothing falls where no argument differs
+  -- nothing falls if no argument differs
   pub no-place :
       (f g : ℕ) (us vs : Trees) → level o g ≡ level o f → arranged o f us ≡ arranged o g vs →
       {t v : Tree} → Above o t v → t ≡ app f us → v ≡ app g vs → ⊥

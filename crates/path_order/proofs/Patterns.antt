@@ -63,7 +63,7 @@ pattern_means :
 pattern_means values o t p e =
     ap (λ b. read values b o.term.now) p ∙ ap (λ u. instance values u) (sym e)
 
--- a variable and a pattern in which it stands, and the other way round
+-- a variable and a pattern in which it occurs, and the other way round
 pub variable_in_pattern :
     (order : Precedence) (values : List Tree) (o q : Operand) (n f : ℕ) (ts : List Tree) → o.is_pattern ≡ true →
     q.is_pattern ≡ true → var n ≡ o.term.now → app f (trees_of ts) ≡ q.term.now →

@@ -16,7 +16,7 @@ use Rattle.longest_chains.proofs.Each.{Each}
 abbrev pub Count : Trees → ℕ
 Count ts = length (list_of ts)
 
--- what is so of the arguments as they stand, and of those in any order, is so of the arranged ones
+-- what is so of the arguments as they are, and of those in any order, is so of the arranged ones
 pub arranged-cases :
     (P : Trees → Type 0) (s : Option (List ℕ)) (ts : Trees) → P ts →
     ((ps : List ℕ) → s ≡ Some ps → is_status ps ≡ true → length ps ≡ Count ts → P (picked ps ts)) →

@@ -1,4 +1,4 @@
--- The path ordering within a bound. Where the heads decide, the tests that the term is above the
+-- The path ordering within a bound. If the heads decide, the tests that the term is above the
 -- arguments on the other side have the bound one less; all other tests keep it.
 use Rattle.std.specs.Prelude.{◌≡◌, ℕ, suc, ◌<◌, length}
 use Rattle.term_core.specs.Tree.{Tree, Trees, app, none, some, list_of}

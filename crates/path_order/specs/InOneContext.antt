@@ -1,4 +1,4 @@
--- Two terms in one context stand in the path ordering as they do alone.
+-- Two terms in one context compare in the path ordering as they do alone.
 use Rattle.std.proofs.Common.{◌≡◌, ◌∙◌, ◌↔◌, ℕ, length, refl, ap, sym, subst, inl, inr, arith}
 use Rattle.term_core.specs.Tree.{Tree, Trees, app, none, some, list_of}
 use Rattle.term_core.specs.Contexts.{Context, hole, under, around, plug}
@@ -44,7 +44,7 @@ module _ {o : Precedence} where
       (subst (λ us. Falls o w (around place.0 a place.1) us) (sym (place.2 b))
       (falls-around w place.0 a b place.1 place.1 refl (above-in c t s p) following)))
 
-  -- where arguments fall that are the same but at one place, it is at that place
+  -- if arguments fall that are the same but at one place, it is at that place
   fall-at :
       {w : Tree} {us vs : Trees} → Falls o w us vs → (before : Trees) (a b : Tree) (after : Trees) →
       us ≡ around before a after → vs ≡ around before b after → Above o a b

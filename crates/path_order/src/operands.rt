@@ -9,7 +9,7 @@ use crate::listed::Listed;
 use term_core::Term;
 use term_order::Operand;
 
-/// Terms that are compared, all of them as they stand or all as patterns.
+/// Terms that are compared, all of them as they are or all as patterns.
 #[derive(Clone, Copy)]
 pub(crate) struct Operands<'a> {
     pub(crate) terms: Listed<'a>,
@@ -17,7 +17,7 @@ pub(crate) struct Operands<'a> {
 }
 
 impl<'a> Operands<'a> {
-    /// The terms, as they stand or as patterns, as the operand is.
+    /// The terms, as they are or as patterns, as the operand is.
     pub(crate) fn with(operand: Operand<'a>, terms: &'a [Term]) -> Operands<'a>
         ensures { (values : List Tree) →
             meanings values result ≡ map (read values operand.entry.is_pattern) terms.now }

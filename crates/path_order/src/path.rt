@@ -129,7 +129,7 @@ impl TermOrder for Lpo {
     }
 
     /// Visits each pair of a place of one instance and a place of the other once at most, and takes
-    /// no memory. What the patterns tell by themselves is told without a look at the list.
+    /// no memory. What the patterns tell by themselves is answered without a look at the list.
     fn greater_under(&self, list: &[&Term], t: &Term, s: &Term) -> bool
         ensures exact { let by = instance (terms_of list.now) in
             IsTrue result ↔ Above self.now (by t.now) (by s.now) }
@@ -182,7 +182,7 @@ struct Application<'a> {
     args: Operands<'a>,
 }
 
-/// How `t` stands to `s`, where both are patterns and one of them is a variable of the other: an
+/// How `t` stands to `s`, if both are patterns and one of them is a variable of the other: an
 /// instance of a part is a part of the instance. That holds in every path ordering.
 fn told_by_patterns(t: Operand, s: Operand) -> Option<Standing>
     ensures { (o : Precedence) (values : List Tree) →

@@ -1,4 +1,4 @@
--- A clause within the limits stays so where a place holds another term, if there is room for the
+-- A clause within the limits stays so when a place holds another term, if there is room for the
 -- term's symbols and levels.
 use Rattle.std.proofs.Common.{◌≡◌, ℕ, ◌+◌, ◌-◌, ◌≤◌, List, [], ◌∷◌, ◌++◌, Bool, true, false, length, min, ap, ◌∙◌, arith}
 use Rattle.term_core.specs.Tree.{Tree, trees_of, tree_size, sizes, tree_depth, depths}
@@ -48,7 +48,7 @@ module _ (c : Clause) (place : Place) (at : TermAt c place) (u : Tree) where
   path_length : length place.path ≡ length (path_of at.round)
   path_length = ap (λ (ns : List ℕ). length ns) at.path
 
-  -- the term's levels stand below those of the path
+  -- the term's levels are below those of the path
   pub levels_there : length place.path + tree_depth u ≤ clause_depth (holding at u)
   levels_there =
       let r = sides_round c place at in
@@ -72,7 +72,7 @@ module _ (c : Clause) (place : Place) (at : TermAt c place) (u : Tree) where
   }
 
 module _ (c : Clause) (place : Place) (at : TermAt c place) where
-  -- the term at the place is no larger than the clause, and stands within its levels
+  -- the term at the place is no larger than the clause, and is within its levels
   pub own_size : tree_size at.term ≤ clause_size c
   own_size =
       let r = sides_round c place at in

@@ -1,4 +1,4 @@
--- The sides of a clause round the one that a place names stay where the place holds another term.
+-- The sides of a clause round the one that a place names stay when the place holds another term.
 use Rattle.std.proofs.Common.{◌≡◌, ℕ, List, [], ◌∷◌, ◌++◌, Bool, true, false, append_assoc, refl, ap, sym, ◌∙◌}
 use Rattle.term_core.specs.Tree.{Tree}
 use Rattle.term_core.specs.Contexts.{plug}
@@ -18,7 +18,7 @@ own_equation : (kind : Bool) (c : Clause) (n : ℕ) (p : EquationAt (equations k
 own_equation true c n p = λ i. record { ctx = c.ctx; premises = c.premises; conclusions = sym p.is i }
 own_equation false c n p = λ i. record { ctx = c.ctx; premises = sym p.is i; conclusions = c.conclusions }
 
--- what stands round a side of an equation, in the sides of its list
+-- what is round a side of an equation, in the sides of its list
 round_equation :
     (left : Bool) (e : Equation) (first rest : List Equation) →
     (before : List Tree) × (after : List Tree)

@@ -1,4 +1,4 @@
--- The size and the depth of what stands round a term, with the term there.
+-- The size and the depth of what is round a term, with the term there.
 use Rattle.std.proofs.Common.{◌≡◌, ℕ, ◌+◌, ◌-◌, ◌≤◌, List, [], ◌∷◌, ◌++◌, max, length, arith}
 use Rattle.term_core.specs.Tree.{Tree, Trees, none, some, trees_of, tree_size, sizes, tree_depth, depths}
 use Rattle.term_core.specs.Contexts.{Context, hole, under, around, plug}

@@ -1,4 +1,4 @@
--- Comparing a clause with what it becomes where a place of it holds another term.
+-- Comparing a clause with what it becomes when a place of it holds another term.
 use Rattle.std.specs.Prelude.{◌≡◌, ◌≢◌, ◌↔◌}
 use Rattle.term_core.specs.Tree.{Tree}
 use Rattle.clause_core.specs.declared.clauses.Clause.{Clause}
@@ -8,7 +8,7 @@ use Rattle.clause_core.specs.declared.steps.Place.{Place}
 use Rattle.clause_core.specs.Comparing.{Compares}
 use Rattle.clause_core.specs.Places.{TermAt, holding}
 
--- comparing the first term with the second: Same where they are one term, Less where they aren't
+-- comparing the first term with the second: Same if they are one term, Less if they aren't
 -- and the first is above, else Neither
 abbrev pub TermsCompare : (Tree → Tree → Type 0) → Tree → Tree → Relation → Type 0
 TermsCompare above t u Same = t ≡ u

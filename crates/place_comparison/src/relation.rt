@@ -11,8 +11,8 @@ use term_core::Term;
 use term_order::TermOrder;
 
 /// How a clause with the old term at a place compares with the one that holds the new term there,
-/// whatever else stands in the clause. The two clauses aren't looked at: it is one test for
-/// equality, and where the terms differ one test by the order.
+/// whatever else is in the clause. The two clauses aren't looked at: it is one test for
+/// equality, and if the terms differ one test by the order.
 pub fn relation_at<O: TermOrder>(order: &O, old: &Term, new: &Term) -> Relation
     requires old { IsTestable old.now }
     requires new { IsTestable new.now }

@@ -8,7 +8,7 @@ use clause_core::{Clause, MOST_LEVELS, MOST_SYMBOLS, Place};
 use spec_core::Equation;
 use term_core::Term;
 
-/// Whether the clause stays within the limits of a clause in a proof where the place holds the new
+/// Whether the clause stays within the limits of a clause in a proof when the place holds the new
 /// term instead of the old one. The clause that holds it isn't built, and of the new term no more
 /// is walked than there is room for.
 pub fn within_at(clause: &Clause, place: &Place, old: &Term, new: &Term) -> bool
@@ -24,8 +24,8 @@ pub fn within_at(clause: &Clause, place: &Place, old: &Term, new: &Term) -> bool
     new.depth(levels + 1) <= levels
 }
 
-/// Whether the clause with the new term has no more symbols than the limits allow. It has where the
-/// new term isn't larger than the old one, and then the clause isn't walked.
+/// Whether the clause with the new term has no more symbols than the limits allow. That is so if
+/// the new term isn't larger than the old one, and then the clause isn't walked.
 fn has_room(clause: &Clause, place: &Place, old: &Term, new: &Term) -> bool
     requires within { IsWithin clause.now }
     requires there { (at : TermAt clause.now place.now) × (at.term ≡ old.now) }
@@ -43,7 +43,7 @@ fn has_room(clause: &Clause, place: &Place, old: &Term, new: &Term) -> bool
     new.size(room + 1) <= room
 }
 
-/// The sum of the sizes of the sides, or `cap` where that is less.
+/// The sum of the sizes of the sides, or `cap` if that is less.
 fn size(equations: &[Equation], cap: u32) -> u32
     ensures { result ≡ min (sizes (trees_of (sides_of equations.now))) cap }
 {

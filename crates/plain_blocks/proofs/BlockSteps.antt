@@ -61,7 +61,7 @@ module _ (above : Tree → Tree → Type 0) (spec : Spec) (usable : ℕ → Type
             subst (λ ns. StepMakes above spec usable ns (n + suc k) t.step t.made_by) (append_assoc nodes (clauses_of m) (flat_map clauses_of (take k made))) (subst (λ j. StepMakes above spec usable ((nodes ++ clauses_of m) ++ flat_map clauses_of (take k made)) j t.step t.made_by) z t.makes);
       }
 
--- the nodes behind one step more
+-- the nodes after one step more
 nodes_joined : (ms : List Children) (m : Children) → flat_map clauses_of (ms ++ m ∷ []) ≡ flat_map clauses_of ms ++ clauses_of m
 nodes_joined [] m = append-nil (clauses_of m)
 nodes_joined (x ∷ ms) m = ap (λ ns. clauses_of x ++ ns) (nodes_joined ms m) ∙ sym (append_assoc (clauses_of x) (flat_map clauses_of ms) (clauses_of m))
@@ -73,14 +73,14 @@ module _ (above : Tree → Tree → Type 0) (spec : Spec) (goal : Goal) (x : ℕ
   abbrev pub start : Clause
   start = goal_clause goal
 
-  -- the nodes before the step of this number
+  -- the nodes before the step with this number
   abbrev pub nodes_at : ℕ → List Clause
   nodes_at k = nodes_of start (take k b.made)
 
   pub block_turn : (k : ℕ) → k < length steps → Turn above spec (Contains []) (start ∷ []) 0 steps b.made k
   block_turn k lt = turn above spec (Contains []) (start ∷ []) 0 steps b.made b.makes k lt
 
-  -- the node of this number, the step that it has and what that makes
+  -- the node with this number, the step that it has and what that makes
   pub record At (k : ℕ) : Type 0 where
     pub step : Step
     pub made_by : Children
@@ -114,7 +114,7 @@ module _ (above : Tree → Tree → Type 0) (spec : Spec) (goal : Goal) (x : ℕ
             absurd (omega (arith, long, b.finished)))
       ]
 
-  -- where each node has its step the block ends
+  -- if each node has its step the block ends
   pub ends : (k : ℕ) → k ≤ length steps → length (nodes_at k) ≤ k → k ≡ length steps
   ends k le past =
       elim (below_or_not k (length steps)) as (λ _. k ≡ length steps) [

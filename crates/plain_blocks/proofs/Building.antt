@@ -24,7 +24,7 @@ pub record IsFine (made : Children) : Type 0 where
   pub falls : AllByRecursion (λ (d : Child). d.relation ≡ Less) made.clauses
   pub refers : AllByRecursion (λ (r : Reference). (r.node ≡ 0) × (r.relation ≡ Same)) made.refs
 
--- each clause can be closed by so many nodes, and where it is marked by a step that refers to no node
+-- each clause can be closed by this many nodes, and if it is marked by a step that refers to no node
 abbrev pub AllClosable : (Clause → ℕ → Bool → Type 0) → List Clause → List (ℕ × Bool) → Type 0
 AllClosable Closable [] [] = Unit {0}
 AllClosable Closable (c ∷ cs) (m ∷ ms) = Closable c m.0 m.1 × AllClosable Closable cs ms
@@ -104,7 +104,7 @@ module _ (above : Tree → Tree → Type 0) (spec : Spec) (Chosen : List Clause 
         (nodes : List Clause) (c : Clause) (m : ℕ) (mark : Bool) → slice_get nodes 0 ≡ Some start →
         length nodes + m ≤ 10001 → Closable c m mark → StepAt nodes c m mark
 
-    -- the steps of the pending nodes, which stand behind those that are done
+    -- the steps of the pending nodes, which come after those that are done
     pub record Rest (done pending : List Clause) (marks : List (ℕ × Bool)) : Type 1 where
       pub steps : List Step
       pub made : List Children

@@ -1,4 +1,4 @@
--- What the builder has made of a block: its first steps, with nodes that can stand in a block.
+-- What the builder has made of a block: its first steps, with nodes that can be in a block.
 use Rattle.std.proofs.Common.{◌≡◌, ℕ, zero, suc, ◌-◌, ◌<◌, ◌≤◌, List, [], ◌∷◌, ◌++◌, Option, Some, None, length, get_or, ap, sym, ◌∙◌, subst, arith}
 use Rattle.std.specs.Prelude.{IfSome, slice_get}
 use Rattle.std.proofs.lemmas.List.{length-append}
@@ -48,7 +48,7 @@ module _ (above : Tree → Tree → Type 0) (spec : Spec) (goal : Goal) (x : ℕ
   pub built_start : (first : List Step) (nodes : List Clause) → IsBuilt first nodes → slice_get nodes 0 ≡ Some (goal_clause goal)
   built_start first nodes b = ap (λ ns. slice_get ns 0) b.part.nodes_are
 
-  -- where each node has its step the block is made
+  -- if each node has its step the block is made
   pub built_whole : (first : List Step) (nodes : List Clause) → IsBuilt first nodes → length nodes ≤ length first → IsPlainBlock above spec goal x first
   built_whole first nodes b past =
       let e = whole above spec goal x b.steps b.block first nodes b.part past in

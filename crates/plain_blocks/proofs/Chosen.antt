@@ -38,7 +38,7 @@ module _ (above : Tree → Tree → Type 0) (spec : Spec) (start : Clause) (node
       not_chosen step (inr (x, inr (y, inr (z, inr (v, inl p))))) = f step p
       not_chosen step (inr (x, inr (y, inr (z, inr (v, inr (w, p)))))) = g step p
 
-  -- what the candidates from a place on find, where those before it find nothing, is what all find
+  -- what the candidates from a place on find, if those before it find nothing, is what all find
   abbrev pub FindsFrom : ℕ → Type 0
   FindsFrom i = (found : Option Taken) → IsFirstTaken above spec start nodes c (drop i all) found → IsFirstTaken above spec start nodes c all found
 

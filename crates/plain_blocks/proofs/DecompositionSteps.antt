@@ -46,7 +46,7 @@ module _ (above : Tree → Tree → Type 0) (spec : Spec) (usable : ℕ → Type
       let counted = length-map (pairs ts us) (child_of ctx) in
       inl (only_equation e, inl (heads, (a_child_each ctx (pairs ts us), are_made (pairs ts us), tt, inl ((within, omega (arith, few, counted)), refl))))
 
-  -- it is possible where both sides begin with one constructor
+  -- it is possible if both sides begin with one constructor
   pub no_decomposition : (start : Clause) → (HaveSameHead spec.sig e.left e.right → ⊥) → (s : Step) → IsPossible above spec usable start nodes (clause_of ctx e) IsDecomposition s → ⊥
   no_decomposition start apart s (is, made, says) =
       let c = clause_of ctx e in

@@ -40,7 +40,7 @@ module _ (above : Tree → Tree → Type 0) (spec : Spec) (goal : Goal) (x : ℕ
     pub steps_are : first ≡ take (length first) steps
     pub nodes_are : nodes ≡ nodes_at above spec goal x steps block (length first)
 
-  -- the part is the whole where each node has its step
+  -- the part is the whole if each node has its step
   pub whole : (first : List Step) (nodes : List Clause) → IsPart first nodes → length nodes ≤ length first → first ≡ steps
   whole first nodes p past =
       let k = length first in

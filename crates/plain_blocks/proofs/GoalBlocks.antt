@@ -107,7 +107,7 @@ module _ (spec : Spec) (fine : IsWellSorted spec) (ctx : List SortId) (e : Equat
         few = omega (arith, r.few, h.4, h.2.length_is, size_positive h.2.left, size_positive h.2.right);
       }
 
--- the steps behind the first one, with what all steps make
+-- the steps after the first one, with what all steps make
 record BlockOf (above : Tree → Tree → Type 0) (spec : Spec) (long : ℕ) (c : Clause) (split : Step) : Type 1 where
   others : List Step
   made : List Children

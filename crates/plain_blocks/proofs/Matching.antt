@@ -17,7 +17,7 @@ use Rattle.substitutions.proofs.Instances.{apply_values}
 use Rattle.plain_blocks.specs.Choices.{with_terms}
 use Rattle.plain_blocks.proofs.Renamings.{tabulated, tabulated_long, tabulated_image, entries_of}
 
--- what stands in a term where a variable stands in another one of the same form
+-- what is in a term where a variable is in another one of the same form
 abbrev mutual
   found : ℕ → Tree → Tree → Tree → Tree
   found n (var m) t d = cond (m == n) t d

@@ -111,7 +111,7 @@ module _ (tidies : (c : Clause) → IsTidied (tidied c)) (above : Tree → Tree 
       not_trivial : NotPossible IsTrivial
       not_trivial s p = differ (trivial_same above spec (Contains []) nodes ctx l r start s p)
 
-      -- a use in one side, where the other one stays
+      -- a use in one side, while the other one stays
       use_at :
           (left : Bool) (p : List ℕ) (k : ℕ) (u x y : Tree) (n : ℕ) → IsFirstUse spec (side left here) p k (in_node over a b u) →
           with_side left here (in_node over a b u) ≡ record { left = in_node over a b x; right = in_node over a b y } →

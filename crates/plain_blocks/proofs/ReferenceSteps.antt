@@ -65,7 +65,7 @@ module _ (above : Tree → Tree → Type 0) (spec : Spec) (usable : ℕ → Type
       let w : IsWithin (clause_of ctx (swapped e)) = record { equations = within.equations; depth = omega (arith, within.depth); size = omega (arith, within.size) } in
       by_instance terms (swapped e) few is sorted w (inl (inr refl)) (IsPermutation-append_comm (e.left ∷ []) (e.right ∷ []))
 
-  -- where it is possible the terms have the sorts of the first node's variables
+  -- if it is possible the terms have the sorts of the first node's variables
   pub terms_fit : (s : Step) (es : List Equation) → IsPossible above spec usable start nodes c (IsReference start es) s → (terms : List Tree) × (with_terms terms (first ∷ []) ≡ es) × AreTermsFor spec c start terms
   terms_fit s es (is, made, says) =
       let t = subst (λ (x : Step). Says above c nodes (row_of spec usable nodes c x) (Ok made)) is.2 says in

@@ -114,7 +114,7 @@ wanted_sides :
 wanted_sides true d = refl
 wanted_sides false d = refl
 
--- the question for the sides of one equation, as they stand or exchanged
+-- the question for the sides of one equation, as they are or exchanged
 pub asked_of_one :
     (start : Clause) (ds : List Equation) (b : Bool) (e d : Equation) (count : ℕ)
     (left right : Tree) → count ≡ length start.ctx → start.conclusions ≡ e ∷ [] →
@@ -138,7 +138,7 @@ one_of false [] e q = absurd (cc)
 one_of false (d ∷ []) e q = (d, refl)
 one_of false (d ∷ f ∷ ds) e q = absurd (cc)
 
--- where the conclusions aren't one equation, the start's conclusion doesn't become them
+-- if the conclusions aren't one equation, the start's conclusion doesn't become them
 pub not_one :
     (start : Clause) → IsStart start → (b : Bool) (ds : List Equation) →
     ((d : Equation) → ds ≡ d ∷ [] → ⊥) → IsOnly (IsFullReference start (wanted b ds)) None

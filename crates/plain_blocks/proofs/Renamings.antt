@@ -37,7 +37,7 @@ tabulated_image f n k lt =
     let z : 0 + k ≡ k = omega arith in
     apply_values (tabulated f n) (var k) ∙ get_or-map-range_with_len f 0 n k k (var k) lt z
 
--- a term with the images of its variables, of which there are so many, as a list
+-- a term with the images of its variables, of which there are this many, as a list
 pub tabulated_instance : (s : List (Option Tree)) (n : ℕ) (t : Tree) → ((k : ℕ) → Occurs k t → k < n) → instance (tabulated (image s) n) t ≡ apply s t
 tabulated_instance s n t below =
     sym (apply_values (tabulated (image s) n) t) ∙ apply_same t (entries_of (tabulated (image s) n)) s (λ k o. tabulated_image (image s) n k (below k o))

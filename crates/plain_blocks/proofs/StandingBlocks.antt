@@ -1,4 +1,4 @@
--- The steps of the block of a plain proof may stand in a report.
+-- The steps of the block of a plain proof may appear in a report.
 use Rattle.std.proofs.Common.{◌≡◌, ℕ, zero, suc, ◌+◌, ◌^◌, ◌<◌, ◌≤◌, ◌⊎◌, inl, inr, List, [], ◌∷◌, ◌++◌, Bool, true, false, Some, None, map, length, refl, sym, subst, lit<, lit≤, arith}
 use Rattle.std.specs.Prelude.{Ok, Contains, slice_get}
 use Rattle.std.specs.List.{AllByRecursion}
@@ -52,7 +52,7 @@ all_of : {X : Type 0} (P : X → Type 0) (xs : List X) → ((k : ℕ) (x : X) �
 all_of P [] h = tt
 all_of P (x ∷ xs) h = (h 0 x refl, all_of P xs (λ k y at. h (suc k) y at))
 
--- a clause as it stands in a block at this number: behind the first one it is within the limits
+-- a clause as it is in a block at this number: after the first one it is within the limits
 record IsAtPlace (spec : Spec) (j : ℕ) (c : Clause) : Type 0 where
   sorted : ClauseIsSorted spec.sig c
   is_tidied : IsTidied c
@@ -62,7 +62,7 @@ abbrev AreInPlace : Spec → List Clause → Type 0
 AreInPlace spec nodes = (j : ℕ) (d : Clause) → slice_get nodes j ≡ Some d → IsAtPlace spec j d
 
 module _ (spec : Spec) where
-  -- children behind a list of nodes
+  -- children after a list of nodes
   children_in_place : (j : ℕ) (ds : List Child) → 1 ≤ j → ((i : ℕ) (d : Child) → slice_get ds i ≡ Some d → IsNode spec.sig d.clause) → (k : ℕ) (c : Clause) → slice_get (map (λ (d : Child). d.clause) ds) k ≡ Some c → IsAtPlace spec (j + k) c
   children_in_place j [] pos h k c at = absurd (let q : None ≡ Some c = at in cc)
   children_in_place j (d ∷ ds) pos h zero c at =
@@ -146,7 +146,7 @@ sorts_in_range sig (v ∷ vars) h = (h.0, sorts_in_range sig vars h.1)
 written_sorted : (spec : Spec) (goal : Goal) → GoalIsSorted spec.sig goal → ClauseIsSorted spec.sig (written_clause goal)
 written_sorted spec goal sorted = record { variables = sorts_in_range spec.sig goal.vars sorted.variables; premises = sorted.premises; conclusions = sorted.conclusions }
 
--- each variable of a sorted clause stands in its context
+-- each variable of a sorted clause is in its context
 sides_below : (sig : Sig) (ctx : List SortId) (es : List Equation) → EquationsAreSorted sig ctx es → (n : ℕ) → OccursAny n (trees_of (sides_of es)) → n < length ctx
 sides_below sig ctx [] h n o = absurd o
 sides_below sig ctx (e ∷ es) h n (inl o) = let one = h 0 e refl in occurs_within sig ctx e.left one.0 one.1 n o

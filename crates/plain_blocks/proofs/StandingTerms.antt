@@ -1,4 +1,4 @@
--- Sorted terms may stand in a report where the names of the symbols may, and so may test sets and paths.
+-- Sorted terms may appear in a report if the names of the symbols may, and so may test sets and paths.
 use Rattle.std.proofs.Common.{◌≡◌, ℕ, zero, suc, ◌+◌, ◌≤◌, List, [], ◌∷◌, Some, map, length, refl, ap, sym, ◌∙◌, arith}
 use Rattle.std.specs.Prelude.{slice_get, option_map}
 use Rattle.std.specs.List.{AllByRecursion, range_with_len, AllZip}

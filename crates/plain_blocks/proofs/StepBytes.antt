@@ -22,7 +22,7 @@ use Rattle.plain_blocks.specs.Laws.{NamesAreShort}
 abbrev pub bytes : Sig → Step → ℕ
 bytes sig step = length (line_text sig (step_line step))
 
--- lines are short where names are and there are few rules
+-- lines are short if names are and there are few rules
 abbrev pub IsCheap : Spec → Type 0
 IsCheap spec = NamesAreShort spec.sig × (length spec.rules < 9999)
 

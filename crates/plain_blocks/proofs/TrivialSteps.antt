@@ -27,7 +27,7 @@ module _ (above : Tree → Tree → Type 0) (spec : Spec) (usable : ℕ → Type
   pub trivial_says : length nodes ≤ 10000 → l ≡ r → Says above (equation_clause ctx l r) nodes (row_of spec usable nodes (equation_clause ctx l r) (Trivial 1)) (Ok nothing)
   trivial_says few same = inl (only_equation here, inl (same, (nothing, tt, tt, inl ((tt, omega (arith, few)), refl))))
 
-  -- it is possible where both sides are the same
+  -- it is possible if both sides are the same
   pub trivial_same : (start : Clause) (s : Step) → IsPossible above spec usable start nodes (equation_clause ctx l r) IsTrivial s → l ≡ r
   trivial_same start s (is, made, says) =
       let c = equation_clause ctx l r in

@@ -1,4 +1,4 @@
--- The variables of terms by first occurrence: each stands once, and there are few.
+-- The variables of terms by first occurrence: each occurs once, and there are few.
 use Rattle.std.proofs.Common.{◌≡◌, ◌≢◌, ℕ, zero, suc, ◌≤◌, ◌==◌, List, [], ◌∷◌, Bool, true, false, not, cond, Some, inl, inr, filter, length, refl, ap, sym, ◌∙◌, arith}
 use Rattle.std.specs.Prelude.{slice_get}
 use Rattle.std.specs.List.{AllByRecursion}
@@ -8,7 +8,7 @@ use Rattle.term_core.specs.Tree.{Tree, Trees, var, app, none, some, tree_size, s
 use Rattle.term_core.specs.Variables.{occurrences, occurrences_all, firsts}
 use Rattle.term_core.proofs.Items.{all_at}
 
--- no number stands twice
+-- no number occurs twice
 abbrev pub AreApart : List ℕ → Type 0
 AreApart [] = Unit {0}
 AreApart (n ∷ ns) = AllByRecursion (λ m. m ≢ n) ns × AreApart ns

@@ -24,7 +24,7 @@ pub record IsSplit (spec : Spec) (goal : Goal) (x : ℕ) (step : Step) : Type 0 
   pub covers : step ≡ Cover variable (test_set_of spec.sig sort)
 
 module _ (above : Tree → Tree → Type 0) (spec : Spec) (start : Clause) where
-  -- each of these steps, which stand behind the first one, is chosen at the node of its number, over
+  -- each of these steps, which come after the first one, is chosen at the node of its number, over
   -- the nodes that the steps before it make. No goal is used
   abbrev pub AreChosen : List Step → List Children → Type 0
   AreChosen others made =

@@ -33,7 +33,7 @@ abbrev pub IsFull : Clause → Step → Type 0
 IsFull start (Subsume node terms) = length terms ≡ length start.ctx
 IsFull start _ = Unit {0}
 
--- the equations, with their sides swapped where true
+-- the equations, with their sides swapped if true
 abbrev pub wanted : Bool → List Equation → List Equation
 wanted true es = map swapped es
 wanted false es = es
@@ -54,7 +54,7 @@ IsOf spec start c WithSidesSwapped step = IsReference start (map swapped c.concl
 abbrev pub IsCandidate : Spec → Clause → Clause → Candidate → Step → Type 0
 IsCandidate spec start c candidate step = IsOf spec start c candidate step × IsFull start step
 
--- what the table says that a step makes, where it is defined, where no goal is used
+-- what the table says that a step makes, if it is defined and no goal is used
 abbrev pub IsMade : (Tree → Tree → Type 0) → Spec → List Clause → Clause → Step → Option Children
     → Type 0
 IsMade above spec nodes c step (Some made) =

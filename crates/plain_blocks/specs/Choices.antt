@@ -16,7 +16,7 @@ use Rattle.clause_core.specs.Says.{Says}
 use Rattle.clause_core.specs.Steps.{row_of}
 use Rattle.rewriting.specs.FirstUses.{IsFirstUse}
 
--- the place in the left side of the first conclusion, where true, or in its right side
+-- the place in the left side of the first conclusion, if true, or in its right side
 abbrev pub place_in : Bool → List ℕ → Place
 place_in left path = record { conclusion = true; number = 1; left = left; path = path }
 
@@ -28,7 +28,7 @@ with_terms terms es = map (equation_instance (map (λ (t : Tree). Some t) terms)
 abbrev pub IsTrivial : Step → Type 0
 IsTrivial step = step ≡ Trivial 1
 
--- the leftmost-innermost use of an unguarded rule in the left side of the conclusion, where true, or
+-- the leftmost-innermost use of an unguarded rule in the left side of the conclusion, if true, or
 -- in its right side
 abbrev pub IsUse : Spec → Clause → Bool → Step → Type 0
 IsUse spec c left step =
@@ -55,7 +55,7 @@ module _
       IsOne step × (made : Children) × Says above c nodes (row_of spec usable nodes c step)
       (Ok made)
 
-  -- the first possible step: such a one, or where none is possible one of the others
+  -- the first possible step: such a one, or if none is possible one of the others
   abbrev pub first_of : (Step → Type 0) → (Step → Type 0) → Step → Type 0
   first_of IsOne IsOther step =
       IsPossible IsOne step ⊎ (((s : Step) → IsPossible IsOne s → ⊥) × IsOther step)

@@ -36,9 +36,9 @@ abbrev pub NamesAreShort : Sig → Type 0
 NamesAreShort sig =
     (f : ℕ) (name : List ℕ) → slice_get (names_of sig) f ≡ Some name → length name ≤ 64
 
--- the goal's plain proof on x of this length has a block, which proves the goal behind any claims, and
+-- the goal's plain proof on x of this length has a block, which proves the goal after any claims, and
 -- has at most one step more than the proof is long; the text of the claim has at most 300,000 bytes
--- where the length is at most 1,000, names are short and there are few rules
+-- if the length is at most 1,000, names are short and there are few rules
 pub record HasBlock (above : Tree → Tree → Type 0) (spec : Spec) (goal : Goal) (x long : ℕ) :
     Type 0 where
   pub steps : List Step

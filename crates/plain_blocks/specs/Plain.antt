@@ -16,8 +16,8 @@ use Rattle.plain_blocks.specs.Blocks.{IsPlainBlock}
 use Rattle.plain_blocks.specs.Laws.{NamesAreShort}
 
 -- the block of the goal's plain proof on the first variable with one of at most this length. It proves
--- the goal behind any claims, and has at most one step more than that; the text of the claim has at
--- most 300,000 bytes where names are short and there are few rules
+-- the goal after any claims, and has at most one step more than that; the text of the claim has at
+-- most 300,000 bytes if names are short and there are few rules
 pub record IsFirstBlock (above : Tree → Tree → Type 0) (spec : Spec) (goal : Goal) (most : ℕ)
     (block : Block) : Type 0 where
   pub variable : VarId

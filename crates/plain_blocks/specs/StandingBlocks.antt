@@ -1,4 +1,4 @@
--- The steps of the block of a plain proof may stand in a report.
+-- The steps of the block of a plain proof may appear in a report.
 use Rattle.std.specs.Prelude.{ℕ, ◌<◌, ◌^◌, List, length}
 use Rattle.std.specs.List.{AllByRecursion}
 use Rattle.term_core.specs.Tree.{Tree}
@@ -11,11 +11,11 @@ use Rattle.proof_script.specs.Names.{IsReportName}
 use Rattle.proof_script.specs.Standing.{StepStands}
 use Rattle.plain_blocks.specs.Blocks.{IsPlainBlock}
 
--- the name of each symbol may stand in a report
+-- the name of each symbol may appear in a report
 abbrev pub SymbolNamesStand : Sig → Type 0
 SymbolNamesStand sig = AllByRecursion IsReportName (names_of sig)
 
--- where the names of the symbols may stand, and the number of each rule is short, so may each step of
+-- if the names of the symbols may appear, and the number of each rule is short, so may each step of
 -- a block
 abbrev pub PlainBlocksStand : (Tree → Tree → Type 0) → Type 0
 PlainBlocksStand above =

@@ -71,7 +71,7 @@ impl Candidate {
     }
 }
 
-/// The leftmost-innermost use of a rule on the left side of the conclusion, where true, or on its
+/// The leftmost-innermost use of a rule on the left side of the conclusion, if true, or on its
 /// right side.
 fn use_on(
     alloc: Global,

@@ -45,7 +45,7 @@ pub(crate) fn next_step<O: TermOrder>(
     Ok(None)
 }
 
-/// The candidate's step at a node with what it makes, where the table of steps defines it.
+/// The candidate's step at a node with what it makes, if the table of steps defines it.
 fn taken_by<O: TermOrder>(
     alloc: Global,
     spec: &Spec,
@@ -79,7 +79,7 @@ fn taken_by<O: TermOrder>(
     }
 }
 
-/// What the step makes at a node, where the table of steps defines it.
+/// What the step makes at a node, if the table of steps defines it.
 pub(crate) fn made_by<O: TermOrder>(
     alloc: Global,
     spec: &Spec,

@@ -23,7 +23,7 @@ pub fn plain_blocks<O: TermOrder>(order: &O)
     plain_proof::first_steps(order);
 }
 
-/// Each step of the block of a plain proof may stand in a report.
+/// Each step of the block of a plain proof may appear in a report.
 pub fn plain_blocks_stand<O: TermOrder>(order: &O)
     ensures { PlainBlocksStand (O.above order.now) }
 {

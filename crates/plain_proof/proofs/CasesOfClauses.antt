@@ -66,7 +66,7 @@ one_place olds m n a b e =
     cc
 
 module _ (G : List SortId) (olds : List ℕ) (H : List SortId) (long : length H ≡ length olds) (sorts : (n : ℕ) → Met olds n → slice_get H (place_of olds n) ≡ Some (slice_index_or G n bool_sort)) where
-  -- the old variables by their places, and the fresh ones behind them
+  -- the old variables by their places, and the fresh ones after them
   abbrev moved : ℕ → ℕ
   moved n = cond (leb (length G) n) (n - length G + length H) (place_of olds n)
 

@@ -68,7 +68,7 @@ pub side_more : (spec : Spec) (other t next last : Tree) (p : List ℕ) (k budge
 side_more spec other t next last p k budget count pos first inside h =
     (record { uses = (p, k) ∷ h.0.uses; runs = (next, first, inside, h.0.runs); normal = h.0.normal; count_is = omega (arith, h.0.count_is) }, omega (arith, h.1, pos))
 
--- what is found of a side after so many uses is found of the side that they began with, with these uses more
+-- what is found of a side after this many uses is found of the side that they began with, with these uses more
 pub record GoesOn (spec : Spec) (other first last : Tree) (budget uses : ℕ) : Type 0 where
   pub none : HasSide spec other last (budget - uses) None → HasSide spec other first budget None
   pub some : (v : Tree) (count : ℕ) → HasSide spec other last (budget - uses) (Some (v, count))

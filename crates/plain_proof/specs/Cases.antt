@@ -5,7 +5,7 @@ use Rattle.term_core.specs.declared.ids.SortId.{SortId}
 use Rattle.substitutions.specs.Substitution.{apply}
 use Rattle.clause_core.specs.Instances.{variables}
 
--- the constructor, which is given with its argument sorts, applied to the variables behind those
+-- the constructor, which is given with its argument sorts, applied to the variables after those
 -- of the context
 abbrev pub pattern : List SortId → ℕ × List SortId → Tree
 pattern ctx c = app c.0 (trees_of (variables (length ctx) (length c.1)))

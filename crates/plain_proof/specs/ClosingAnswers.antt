@@ -8,7 +8,7 @@ use Rattle.plain_proof.specs.declared.closing.Closing.{Closing}
 use Rattle.plain_proof.specs.declared.closing.Closing.TheVariants.{Open, ByInstance, Closed}
 use Rattle.plain_proof.specs.Closings.{Closes, ClosesAll}
 
--- the answer closes a case after so many uses of rules
+-- the answer closes a case after this many uses of rules
 abbrev pub Suffices : Closing → ℕ → Type 0
 Suffices Closed uses = Unit {0}
 Suffices ByInstance uses = 0 < uses

@@ -15,7 +15,7 @@ use Rattle.plain_proof.specs.Closings.{Closes}
 
 module _ (spec : Spec) (ctx : List SortId) (e : Equation) (x : ℕ) where
   -- the case of a constructor: the left side is brought to its normal form, then the right side,
-  -- where every equation on the way is within the limits; both normal forms close, where a pair
+  -- with every equation on the way within the limits; both normal forms close, and a pair
   -- that is closed by an instance asks for a use or a stripping. The length is that of both chains
   -- with the sizes of the normal forms
   pub record CaseCloses (c : ℕ × List SortId) (long : ℕ) : Type 0 where

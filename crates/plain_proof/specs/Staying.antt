@@ -5,7 +5,7 @@ use Rattle.spec_core.specs.declared.records.Spec.{Spec}
 use Rattle.rewriting.specs.NormalForms.{IsNormal, RunsWithin}
 use Rattle.plain_proof.specs.Limits.{AreWithin}
 
--- the second term is the normal form of a side by so many uses, where each term after a use is
+-- the second term is the normal form of a side by this many uses, where each term after a use is
 -- within the limits beside the other side
 pub record IsSide (spec : Spec) (other t v : Tree) (count : ℕ) : Type 0 where
   pub uses : List (List ℕ × ℕ)

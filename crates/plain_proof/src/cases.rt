@@ -27,7 +27,7 @@ pub(crate) fn case_of(
     Ok(made)
 }
 
-/// So many variables, from a number on.
+/// This many variables, from a number on.
 fn fresh(alloc: Global, from: usize, count: usize) -> Result<Terms, OutOfMemory>
     requires { from + count < 2 ^ 32 }
     ensures { IfOk result (λ made. made ≡ variables from count) }

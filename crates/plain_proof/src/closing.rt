@@ -20,7 +20,7 @@ pub enum Closing {
 }
 
 impl Closing {
-    /// Whether the pair is closed after so many uses of rules: one that is closed by an instance
+    /// Whether the pair is closed after this many uses of rules: one that is closed by an instance
     /// alone needs a use.
     pub(crate) fn suffices(self, uses: u32) -> bool
         ensures { IsTrue result ↔ Suffices self uses }
@@ -33,8 +33,8 @@ impl Closing {
     }
 }
 
-/// How the pair of normal forms over the variables of `over` is closed: where it is identical,
-/// where equal constructors are stripped, or by an instance of the equation as written or swapped.
+/// How the pair of normal forms over the variables of `over` is closed: it is identical, or equal
+/// constructors are stripped, or it is an instance of the equation as written or swapped.
 #[cycle(close)]
 pub(crate) fn close(
     alloc: Global,
@@ -101,7 +101,7 @@ fn close_all(
     }
 }
 
-/// The arguments of both terms where they have the same constructor at the head.
+/// The arguments of both terms if they have the same constructor at the head.
 fn same_heads<'a>(sig: &Signature, a: &'a Term, b: &'a Term) -> Option<(&'a [Term], &'a [Term])>
     ensures { MatchOption result (HaveSameHead sig.now a.now b.now → ⊥)
         (λ p. (f : ℕ) × IsConstructor sig.now f × (a.now ≡ application f (trees_of p.0.now))

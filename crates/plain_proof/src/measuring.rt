@@ -45,7 +45,7 @@ pub(crate) fn has_cases(
     Ok(true)
 }
 
-/// The length of the variable's case with this constructor, where it closes by at most `budget`.
+/// The length of the variable's case with this constructor, if it closes by at most `budget`.
 fn case_length(
     alloc: Global,
     spec: &Spec,

@@ -12,7 +12,7 @@ use std::alloc::Global;
 use term_core::{OutOfMemory, SortId, VarId};
 
 /// The first variable, in the goal's own order, on which the goal has a plain proof of at most this
-/// length; None where it has none on any variable. A goal with a premise, or without exactly one
+/// length; None if it has none on any variable. A goal with a premise, or without exactly one
 /// conclusion, has none.
 ///
 /// The stack grows with the length, which is at most 1,000.

@@ -12,7 +12,7 @@ use spec_core::Spec;
 use std::alloc::Global;
 use term_core::{OutOfMemory, ReplaceError, Term};
 
-/// The normal form of a side with the number of its uses, where it needs at most `budget` and each
+/// The normal form of a side with the number of its uses, if it needs at most `budget` and each
 /// term on the way is within the limits beside the other side. It stops at the first term that
 /// isn't, so no term grows beyond the limits.
 pub(crate) fn normal_side(

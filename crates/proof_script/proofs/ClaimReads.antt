@@ -139,7 +139,7 @@ module _ (sig : Sig) (d : NamesDiffer sig) where
   pub next_claim : (a : Claim) (cs : List Claim) (r : List ℕ) → claims_text sig (a ∷ cs) ++ r ≡ claim_text sig a ++ (claims_text sig cs ++ r)
   next_claim a cs r = append_assoc (claim_text sig a) (claims_text sig cs) r
 
-  -- where the texts of two lists of claims begin the same bytes, one of the lists begins with the other
+  -- if the texts of two lists of claims begin the same bytes, one of the lists begins with the other
   pub claims_extend : (cs ds : List Claim) (r s : List ℕ) → AllByRecursion (ClaimStands sig) cs → AllByRecursion (ClaimStands sig) ds → claims_text sig cs ++ r ≡ claims_text sig ds ++ s → Extends cs ds ⊎ Extends ds cs
   claims_extend [] ds r s p q e = inl (ds, refl)
   claims_extend (c ∷ cs) [] r s p q e = inr (c ∷ cs, refl)

@@ -14,7 +14,7 @@ use Rattle.proof_script.specs.Reading.{IsNumber}
 own : IsNumeralModel (AllDigits 10) (digits_value 10)
 own = numerals_by_value (AllDigits 10) tells_digits
 
--- digits that may stand, at least one and at most nine
+-- digits that may appear, at least one and at most nine
 pub record IsForm (bytes : List ℕ) : Type 0 where
   pub some : 0 < length bytes
   pub few : length bytes ≤ 9

@@ -40,7 +40,7 @@ module _ (sig : Sig) where
   pub front : (bytes : List ℕ) (w : Word) (ws : List Word) → AreWords sig bytes (w ∷ ws) → IsWordAt sig bytes w (words_text sig ws)
   front bytes w ws h = record { stands = h.stand.0; is = h.is; ends = text_ends ws }
 
-  -- the words behind the first one, where that was read
+  -- the words after the first one, if that was read
   pub behind : NamesDiffer sig → (bytes : List ℕ) (v : Word) (rest : List ℕ) (w : Word) (ws : List Word) → kind_of v ≡ kind_of w → Varies v → Varies w → IsWordAt sig bytes v rest → AreWords sig bytes (w ∷ ws) → (v ≡ w) × AreWords sig rest ws
   behind d bytes v rest w ws k x y h l =
       let one = word_reads sig d v w rest (words_text sig ws) k (sound sig v x h.stands) (sound sig w y l.stand.0) h.ends (text_ends ws) (same_tail (sym h.is ∙ l.is)) in

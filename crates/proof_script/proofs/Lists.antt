@@ -19,7 +19,7 @@ pub record Same (a b r s : List ℕ) : Type 0 where
   pub text : a ≡ b
   pub rest : r ≡ s
 
--- two runs of a class that go on to the same bytes are the same, where the class ends behind them
+-- two runs of a class that go on to the same bytes are the same, if the class ends after them
 pub run_one : (P : ℕ → Type 0) (a b r s : List ℕ) → AllByRecursion P a → AllByRecursion P b → Stops P r → Stops P s → a ++ r ≡ b ++ s → Same a b r s
 run_one P [] [] r s p q u v e = record { text = refl; rest = e }
 run_one P [] (c ∷ b) [] s p q u v e = absurd (nil_cons e)

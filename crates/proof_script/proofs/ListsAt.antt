@@ -16,18 +16,18 @@ module _ (sig : Sig) (v : Variables) where
   abbrev text_of : Tree → List ℕ
   text_of t = text_by sig v t
 
-  -- terms behind the first one
+  -- terms after the first one
   abbrev pub further : List Tree → List ℕ
   further ts = flat_map (λ u. codes ", " ++ u) (map text_of ts)
 
-  -- terms with `, ` behind each
+  -- terms with `, ` after each
   abbrev pub before : List Tree → List ℕ
   before ts = flat_map (λ t. text_of t ++ codes ", ") ts
 
   abbrev pub AreItems : List Tree → Type 0
   AreItems ts = AllByRecursion (IsReadable sig v 100 0) ts
 
-  -- each list that stands at the front goes on with these bytes
+  -- each list that is at the front goes on with these bytes
   pub record GoesOn (bytes rest : List ℕ) (ts : List Tree) (r : List ℕ) : Type 0 where
     pub first : Tree
     pub others : List Tree
@@ -51,7 +51,7 @@ module _ (sig : Sig) (v : Variables) where
   last_of (x ∷ (y ∷ ts)) t = ap (λ z. text_of x ++ z) (further_is y (ts ++ (t ∷ [])) ∙ ap (λ z. codes ", " ++ z) (last_of (y ∷ ts) t))
       ∙ sym (append_assoc (text_of x) (codes ", ") (before (y ∷ ts) ++ text_of t)) ∙ sym (append_assoc (text_of x ++ codes ", ") (before (y ∷ ts)) (text_of t))
 
-  -- a list that isn't empty has a first term behind the bracket
+  -- a list that isn't empty has a first term after the bracket
   pub goes_on_first : (bytes rest : List ℕ) → bytes ≡ codes "[" ++ rest → ((r : List ℕ) → rest ≡ codes "]" ++ r → ⊥) → AllGoOn bytes rest
   goes_on_first bytes rest e never [] r h = absurd (never r (same_tail (sym e ∙ h.is)))
   goes_on_first bytes rest e never (t ∷ ts) r h = record {
@@ -64,7 +64,7 @@ module _ (sig : Sig) (v : Variables) where
   pub no_item : (bytes rest : List ℕ) → AllGoOn bytes rest → ((t : Tree) (r : List ℕ) → IsTermAt sig v 100 0 rest t r → ⊥) → (ts : List Tree) (r : List ℕ) → IsListAt sig v bytes ts r → ⊥
   no_item bytes rest all never ts r h = let g = all ts r h in never g.first (further g.others ++ (93 ∷ r)) (record { readable = g.items.0; is = g.is; ends = further_ends g.others r })
 
-  -- behind a term that was read stand the others
+  -- after a term that was read come the others
   pub record Behind (behind : List ℕ) (r : List ℕ) : Type 0 where
     pub others : List Tree
     pub items : AreItems others

@@ -1,4 +1,4 @@
--- The next word of a line, where it is a term or a list of them.
+-- The next word of a line, if it is a term or a list of them.
 use Rattle.std.proofs.Common.{◌≡◌, ◌≤◌, ℕ, List, [], ◌∷◌, ◌++◌, ap, sym, ◌∙◌, subst, codes, map, length, append_assoc}
 use Rattle.std.specs.List.{AllByRecursion}
 use Rattle.term_core.specs.Tree.{Tree}

@@ -1,4 +1,4 @@
--- A name that may stand in a report has no byte that ends a word.
+-- A name that may appear in a report has no byte that ends a word.
 use Rattle.std.proofs.Common.{◌≡◌, ◌≢◌, ℕ, ◌+◌, ◌<◌, ◌≤◌, ◌/◌, List, [], ◌∷◌, ◌++◌, Bool, true, false, cond, refl, ap, sym, ◌∙◌, subst, codes, arith, lit<, ltb, length, length-append}
 use Rattle.std.specs.Prelude.{◌==◌, ◌||◌, IsTrue}
 use Rattle.std.specs.Str.{chars}
@@ -65,7 +65,7 @@ chars_run : (cs : List ℕ) → AllByRecursion (λ d. IsTrue (is_xid_continue d)
 chars_run [] h = tt
 chars_run (c ∷ cs) h = all_append Run (encode c) (encodes cs) (char_run c (continues_run c h.0)) (chars_run cs h.1)
 
--- the first byte of a character is the byte 63 only where the character is that
+-- the first byte of a character is the byte 63 only if the character is that
 first_byte : (c : ℕ) (bs : List ℕ) (b : ℕ) (ds : List ℕ) → encode c ++ bs ≡ b ∷ ds → b ≡ 63 → c ≡ 63
 first_byte c bs b ds e q = (encode_same c 63 bs ds (e ∙ ap (λ x. x ∷ ds) q ∙ ap (λ x. x ++ ds) (sym (encode_ascii 63 (lit< tt))))).0
 

@@ -1,4 +1,4 @@
--- Terms and patterns that may stand are read in one way.
+-- Terms and patterns that may appear are read in one way.
 use Rattle.std.proofs.Common.{◌≡◌, inl, inr, ℕ, zero, suc, ◌+◌, ◌<◌, List, [], ◌∷◌, ◌++◌, Option, Some, None, refl, ap, sym, ◌∙◌, subst, codes, length, length-append, map, append_assoc, arith}
 use Rattle.std.specs.Prelude.{slice_get, option_map}
 use Rattle.std.specs.List.{AllByRecursion, range_with_len}
@@ -31,7 +31,7 @@ new_parts : (name : List ℕ) (xs ys : List (List ℕ × SymInfo)) → IsNew nam
 new_parts name [] ys h = h
 new_parts name (x ∷ xs) ys h = new_parts name xs ys h.1
 
--- what stands behind is new to what was seen
+-- what comes after is new to what was seen
 seen_apart : (seen es : List (List ℕ × SymInfo)) (e : List ℕ × SymInfo) (i : ℕ) (name : List ℕ) → AreFresh (seen ++ (e ∷ [])) es → slice_get (map (λ (d : List ℕ × SymInfo). d.0) es) i ≡ Some name → e.0 ≡ name → ⊥
 seen_apart seen [] e i name h at q = absurd (let p : None ≡ Some name = at in cc)
 seen_apart seen (x ∷ xs) e zero name h at q = (new_parts x.0 seen (e ∷ []) h.0).0 (some_is at ∙ sym q)
@@ -70,7 +70,7 @@ module _ (sig : Sig) (names : List (List ℕ)) where
   symbol_named f arity (text, info, at, long, is) = (text, slice_get-map (λ (e : List ℕ × SymInfo). e.0) sig.table f ∙ ap (λ z. option_map (λ (e : List ℕ × SymInfo). e.0) z) at, name_plain text is)
 
   mutual
-    -- a term of symbols that may stand is plain where each of its variables has a mark
+    -- a term of symbols that may appear is plain if each of its variables has a mark
     pub plain_by : (t : Tree) → AllByRecursion (λ n. IsMark (mark_of names n)) (occurrences t) → SymbolsStand sig t → IsPlain sig names t
     plain_by (var n) m h = m.0
     plain_by (app f ts) m h = (symbol_named f _ h.0, plain_all ts m h.1)
@@ -80,7 +80,7 @@ module _ (sig : Sig) (names : List (List ℕ)) where
     plain_all (some t ts) m h = (plain_by t (all_left (λ n. IsMark (mark_of names n)) (occurrences t) (occurrences_all ts) m) h.0, plain_all ts (all_right (λ n. IsMark (mark_of names n)) (occurrences t) (occurrences_all ts) m) h.1)
 
 mutual
-  -- the variables of a term that may stand have short numbers
+  -- the variables of a term that may appear have short numbers
   pub shorts : (sig : Sig) (t : Tree) → SymbolsStand sig t → AllByRecursion IsShort (occurrences t)
   shorts sig (var n) h = (h, tt)
   shorts sig (app f ts) h = shorts_all sig ts h.1
@@ -142,7 +142,7 @@ module _ (names others : List (List ℕ)) where
     as_many_all (some t ts) (some u us) a = omega (arith, length-append (occurrences t) (occurrences_all ts), length-append (occurrences u) (occurrences_all us), as_many t u a.0, as_many_all ts us a.1)
 
   mutual
-    -- and are the same where these are
+    -- and are the same if these are
     pub same_by : (t u : Tree) → Alike names others t u → occurrences t ≡ occurrences u → t ≡ u
     same_by (var m) (var n) a e = ap (λ x. var x) (same_head e)
     same_by (var m) (app g us) a e = absurd a
@@ -165,7 +165,7 @@ module _ (names others : List (List ℕ)) where
 pub term_plain : (sig : Sig) (t : Tree) → TermStands sig t → IsPlain sig [] t
 term_plain sig t h = plain_by sig [] t (all_map IsShort (λ n. IsMark (mark_of [] n)) (occurrences t) (λ n k. inr (n, k, refl)) (shorts sig t h.symbols)) h.symbols
 
--- two terms that may stand and whose texts go on to the same bytes are the same
+-- two terms that may appear and whose texts go on to the same bytes are the same
 pub term_reads : (sig : Sig) → NamesDiffer sig → (t u : Tree) (r s : List ℕ) → TermStands sig t → TermStands sig u → Ends r → Ends s → term_text sig [] t ++ r ≡ term_text sig [] u ++ s → (t ≡ u) × (r ≡ s)
 term_reads sig d t u r s p q x y e =
     let both = reads sig d [] [] t u r s (term_plain sig t p) (term_plain sig u q) x y e in
@@ -184,7 +184,7 @@ pub blank_at : (xs : List ℕ) (n : ℕ) → n < length xs → mark_of (map (λ 
 blank_at xs n h = ap (λ z. variable_text z n) (blank_got xs n h)
 
 mutual
-  -- a pattern's text is that of the term where each of its variables has the name `_`
+  -- a pattern's text is that of the term if each of its variables has the name `_`
   pub named_pattern : (sig : Sig) (names : List (List ℕ)) (p : Tree) → AllByRecursion (λ n. mark_of names n ≡ codes "_") (occurrences p) → pattern_text sig p ≡ term_text sig names p
   named_pattern sig names (var n) h = sym h.0
   named_pattern sig names (app f none) h = refl

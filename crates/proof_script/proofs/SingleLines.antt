@@ -84,7 +84,7 @@ bare sig l = l.head ++ words_text sig l.words
 pub bare_line : (sig : Sig) (l : Line) → AllRun l.head → AllByRecursion (Sound sig) l.words → IsOneLine (bare sig l)
 bare_line sig l h k = join l.head (words_text sig l.words) (run_line l.head h) (words_line sig l.words k)
 
--- the next line of some bytes is the line's text, where they go on from it
+-- the next line of some bytes is the line's text, if they go on from it
 pub next_line : (sig : Sig) (l : Line) (raw r s : List ℕ) → AllRun l.head → AllByRecursion (Sound sig) l.words → IsOneLine raw → line_text sig l ++ r ≡ (raw ++ codes "\n") ++ s → (raw ≡ bare sig l) × (r ≡ s)
 next_line sig l raw r s h k o e =
     let whole : bare sig l ++ (10 ∷ r) ≡ raw ++ (10 ∷ s) = append_assoc l.head (words_text sig l.words) (10 ∷ r) ∙ sym (line_grouped sig l r) ∙ e ∙ append_assoc raw (codes "\n") s in

@@ -1,4 +1,4 @@
--- What a report has where its text begins with whole claims, and a claim where its text begins with a first line and steps.
+-- What a report has if its text begins with whole claims, and a claim if its text begins with a first line and steps.
 use Rattle.std.proofs.Common.{◌≡◌, ℕ, ◌≤◌, List, [], ◌∷◌, ◌++◌, refl, sym, ◌∙◌, map, length, append_assoc, append-nil, arith}
 use Rattle.std.specs.List.{AllByRecursion}
 use Rattle.spec_core.specs.Sig.{Sig}

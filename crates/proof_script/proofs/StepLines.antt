@@ -15,7 +15,7 @@ use Rattle.proof_script.proofs.StepReads.{step_run}
 use Rattle.proof_script.proofs.LineParts.{text_ends}
 
 module _ (sig : Sig) (line head words : List ℕ) (split : IsFirstWord line head words) where
-  -- behind its name stand its words
+  -- after its name come its words
   pub step_behind : (step : Step) → IsStepLine sig line step → IsStepBehind sig head words step
   step_behind step h = record { named = sym same.text; stand = record { stand = h.stands; is = same.rest } }
     where
@@ -32,7 +32,7 @@ module _ (sig : Sig) (line head words : List ℕ) (split : IsFirstWord line head
         ∙ ap (λ z. z ++ (words ++ codes "\n")) (sym h.named) ∙ ap (λ z. (step_line step).head ++ (z ++ codes "\n")) h.stand.is;
   }
 
-  -- what is found behind the name is what the line says
+  -- what is found after the name is what the line says
   pub line_by_words :
       (name : List ℕ) → name ≡ head → (step : Step) → IsStepBehind sig name words step →
       IsStepLine sig line step

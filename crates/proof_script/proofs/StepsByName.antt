@@ -11,7 +11,7 @@ use Rattle.proof_script.specs.LineWords.{AreWords, IsStepBehind}
 use Rattle.proof_script.proofs.StepReads.{total, tag}
 
 module _ (sig : Sig) (words : List ℕ) where
-  -- the words of this step stand there
+  -- the words of this step are there
   abbrev pub Stand : Step → Type 0
   Stand step = AreWords sig words (step_line step).words
 

@@ -1,4 +1,4 @@
--- Two terms whose texts go on to the same bytes are alike, and the same where their variables are.
+-- Two terms whose texts go on to the same bytes are alike, and the same if their variables are.
 use Rattle.std.proofs.Common.{◌≡◌, ℕ, List, ◌∷◌, ◌++◌, Some, true, refl, ap, sym, ◌∙◌, subst, codes, append_assoc, arith}
 use Rattle.std.specs.Prelude.{slice_get}
 use Rattle.term_core.specs.Tree.{Tree, Trees, var, app, none, some}
@@ -52,7 +52,7 @@ next_grouped t ts r = append_assoc (codes ", " ++ t) ts r ∙ append_assoc (code
 pub named : (sig : Sig) (f : ℕ) (name : List ℕ) → slice_get (names_of sig) f ≡ Some name → symbol_text (slice_get (names_of sig) f) ≡ name
 named sig f name e = ap symbol_text e
 
--- behind arguments comes a comma or what follows the list
+-- after arguments comes a comma or what follows the list
 others_end : (sig : Sig) (names : List (List ℕ)) (ts : Trees) (c : ℕ) (r : List ℕ) → is_end c ≡ true → Ends (others_text sig names ts ++ (c ∷ r))
 others_end sig names none c r e = e
 others_end sig names (some t ts) c r e = refl

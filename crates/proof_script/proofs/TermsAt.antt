@@ -1,4 +1,4 @@
--- The term at the front of some bytes is one, and is told by its first word.
+-- The term at the front of some bytes is the only one, and its first word tells which it is.
 use Rattle.std.proofs.Common.{◌≡◌, inl, inr, ℕ, zero, suc, ◌+◌, ◌<◌, ◌≤◌, List, [], ◌∷◌, ◌++◌, Option, Some, None, refl, ap, sym, ◌∙◌, subst, codes, length, length-append, map, append_assoc, append-nil, arith}
 use Rattle.std.proofs.lemmas.List.{length-map}
 use Rattle.std.specs.Prelude.{true, ◌-◌, slice_get, option_map, MatchOption}
@@ -34,7 +34,7 @@ range_append k (suc a) b =
     let y : (k + 1) + a ≡ k + suc a = omega arith in
     ap (λ n. range_with_len k n) z ∙ ap (λ ns. k ∷ ns) (range_append (k + 1) a b ∙ ap (λ j. range_with_len (k + 1) a ++ range_with_len j b) y)
 
--- the variables of two parts are counted one behind the other
+-- the variables of two parts are counted one after the other
 pub count_split : (v : Variables) (k : ℕ) (ns ms : List ℕ) → CountFrom v k (ns ++ ms) → CountFrom v k ns × CountFrom v (count_after v k ns) ms
 count_split Numbered k ns ms h = (tt, tt)
 count_split Blank k ns ms h =
@@ -198,7 +198,7 @@ module _ (sig : Sig) (v : Variables) where
       append_assoc (codes "(") (text_by sig v t ++ (others_by sig v ts ++ codes ")")) r
       ∙ ap (λ z. codes "(" ++ z) (append_assoc (text_by sig v t) (others_by sig v ts ++ codes ")") r ∙ ap (λ z. text_by sig v t ++ z) (append_assoc (others_by sig v ts) (codes ")") r))
 
-  -- the first of several terms that may stand, and the others
+  -- the first of several terms that may appear, and the others
   first_readable : (room k count : ℕ) (t : Tree) (ts : Trees) → AreReadable sig v room k count (some t ts) → IsReadable sig v room k t
   first_readable room k count t ts h = record { symbols = h.symbols.0; depth = omega (arith, h.depth, le-max_left (tree_depth t) (depths ts)); counted = (count_split v k (occurrences t) (occurrences_all ts) h.counted).0 }
 
@@ -224,7 +224,7 @@ module _ (sig : Sig) (v : Variables) where
   no_next room k count bytes next n e never (some t ts) r h = never t (others_by sig v ts ++ r) (next_at room k count bytes next t ts r e h)
 
   module _ (d : NamesDiffer sig) where
-    -- where a term is read, the further ones stand behind it
+    -- if a term is read, the further ones come after it
     pub others_behind : (room k count : ℕ) (bytes next : List ℕ) (t : Tree) (behind : List ℕ) (u : Tree) (us : Trees) (r : List ℕ) → bytes ≡ codes ", " ++ next → IsTermAt sig v room k next t behind → AreOthersAt sig v room k count bytes (some u us) r → AreOthersAt sig v room (count_after v k (occurrences t)) (count - 1) behind us r
     others_behind room k count bytes next t behind u us r e x h =
         let y = next_at room k count bytes next u us r e h in
@@ -285,7 +285,7 @@ module _ (sig : Sig) (v : Variables) where
         (arguments_behind room k count bytes next t behind t ts r e x p)
         (arguments_behind room k count bytes next t behind u us s e x q))
 
-    -- what follows the arguments of a term at the front is what was read behind them
+    -- what follows the arguments of a term at the front is what was read after them
     pub same_behind : (room k count : ℕ) (bytes : List ℕ) (ts us : Trees) (r s : List ℕ) → AreArgumentsAt sig v room k count bytes ts r → AreArgumentsAt sig v room k count bytes us s → Ends s → Ends r
     same_behind room k count bytes ts us r s p q e = subst Ends (sym (one_arguments room k count bytes ts us r s p q)) e
 
@@ -322,7 +322,7 @@ pub symbol_in_range : (sig : Sig) (word : List ℕ) (f : ℕ) → IsSymbol sig w
 symbol_in_range sig word f s = omega (arith, slice_get_within (names_of sig) f word s.at, length-map sig.table (λ (e : List ℕ × SymInfo). e.0))
 
 module _ (sig : Sig) (v : Variables) (room k : ℕ) (bytes word rest : List ℕ) (w : IsFirstWord bytes word rest) where
-  -- where the first word is a variable, no other term stands there
+  -- if the first word is a variable, no other term is there
   pub ends_behind : (n : ℕ) → IsVariable v k word n → (t : Tree) (r : List ℕ) → IsTermAt sig v room k bytes t r → Ends rest
   ends_behind n x (var m) r h = subst Ends (sym (root_is sig v room k bytes word rest (var m) r w h).rest) h.ends
   ends_behind n x (app f ts) r h = absurd (apart_by sig v k word n f x (symbol_of sig v room k bytes word rest f ts r w h))

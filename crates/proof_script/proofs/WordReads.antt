@@ -64,7 +64,7 @@ kind_of (term t) = 7
 kind_of (terms ts) = 8
 kind_of (patterns ps) = 9
 
--- a word that may stand, and of which the fixed text has no byte that ends a word
+-- a word that may appear, and of which the fixed text has no byte that ends a word
 abbrev pub Sound : Sig → Word → Type 0
 Sound sig (fixed text) = AllRun text
 Sound sig w = WordStands sig w
@@ -135,6 +135,6 @@ words_reads sig d (w ∷ ws) (v ∷ vs) r s k p q e =
 pub line_grouped : (sig : Sig) (l : Line) (r : List ℕ) → line_text sig l ++ r ≡ l.head ++ (words_text sig l.words ++ (10 ∷ r))
 line_grouped sig l r = append_assoc l.head (words_text sig l.words ++ codes "\n") r ∙ ap (λ z. l.head ++ z) (append_assoc (words_text sig l.words) (codes "\n") r)
 
--- two lines have the same head, and behind it the same follows
+-- two lines have the same head, and after it the same follows
 pub head_reads : (sig : Sig) (l m : Line) (r s : List ℕ) → AllRun l.head → AllRun m.head → line_text sig l ++ r ≡ line_text sig m ++ s → Same l.head m.head (words_text sig l.words ++ (10 ∷ r)) (words_text sig m.words ++ (10 ∷ s))
 head_reads sig l m r s p q e = run_one Run l.head m.head (words_text sig l.words ++ (10 ∷ r)) (words_text sig m.words ++ (10 ∷ s)) p q (ends_stop (words_text sig l.words ++ (10 ∷ r)) (words_end sig l.words r)) (ends_stop (words_text sig m.words ++ (10 ∷ s)) (words_end sig m.words s)) (sym (line_grouped sig l r) ∙ e ∙ line_grouped sig m s)

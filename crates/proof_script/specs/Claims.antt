@@ -42,7 +42,7 @@ first_line goal (Open b) =
           ∷ fixed (codes "plain") ∷ number b.plain ∷ fixed (codes "nodes") ∷ number b.nodes ∷ [];
     }
 
--- the lines behind it: a line for each step, or for each value
+-- the lines after it: a line for each step, or for each value
 abbrev pub other_lines : Outcome → List Line
 other_lines (Proved block) = map step_line block.steps
 other_lines (Refuted index values) = map value_line values
@@ -62,7 +62,7 @@ header_lines steps =
 abbrev pub last_line : Line
 last_line = record { head = codes "done"; words = [] }
 
--- the text of a claim, and of claims one behind the other
+-- the text of a claim, and of claims one after the other
 abbrev pub claim_text : Sig → Claim → List ℕ
 claim_text sig claim = lines_text sig (claim_lines claim)
 

@@ -53,7 +53,7 @@ pub record WorkedExamples : Type 0 where
       ++ codes "refuted b index 3 with 1\nx = leaf\n"
       ++ codes "open c depth 3 tried 5 skipped 0 cut no plain 0 nodes 0\ndone\n"
 
--- no step that may stand has this line
+-- no step that may appear has this line
 abbrev pub IsNoStep : Sig → List ℕ → Type 0
 IsNoStep sig text =
     (step : Step) → StepStands sig step → line_text sig (step_line step) ≡ text → ⊥

@@ -20,7 +20,7 @@ pub record FaultExamples : Type 0 where
   -- the last line has no newline
   pub no_newline : (sig : Sig) → IsDeclared sig
       → IsFaultyLine sig (codes "spike-report 1\nsteps 9\ndone") 3
-  -- a line behind the last one
+  -- a line after the last one
   pub follows : (sig : Sig) → IsDeclared sig
       → IsFaultyLine sig (codes "spike-report 1\nsteps 9\ndone\ndone\n") 4
   -- an unknown first line, whatever follows it

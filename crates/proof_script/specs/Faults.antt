@@ -18,7 +18,7 @@ module _ (sig : Sig) where
   abbrev pub BeginsSome : List ℕ → Type 0
   BeginsSome bytes = (report : Report) × Begins sig bytes report
 
-  -- behind the lines before, the next line begins no report's text with them; or there is no
+  -- after the lines before, the next line begins no report's text with them; or there is no
   -- further whole line, and the bytes are no report's text
   pub data CannotGoOn (before : List (List ℕ)) (rest : List ℕ) : Type 0 where
     strange : (line after : List ℕ) → rest ≡ (line ++ codes "\n") ++ after → IsOneLine line
@@ -27,7 +27,7 @@ module _ (sig : Sig) where
         → ((report : Report) → IsReportText sig (whole_lines before ++ rest) report → ⊥)
         → CannotGoOn before rest
 
-  -- The line of this number, which counts from 1, is the first that can't continue.
+  -- The line with this number, which counts from 1, is the first that can't continue.
   pub record IsFaultyLine (bytes : List ℕ) (number : ℕ) : Type 0 where
     pub before : List (List ℕ)
     pub rest : List ℕ

@@ -10,11 +10,11 @@ use Rattle.proof_script.specs.Reports.{ClaimStands}
 use Rattle.proof_script.specs.Texts.{Begins, IsReportText}
 use Rattle.proof_script.specs.Faults.{IsFaultyLine}
 
--- the second list is the first one with more behind it
+-- the second list is the first one with more after it
 abbrev pub Extends : List Claim → List Claim → Type 0
 Extends cs ds = (more : List Claim) × (ds ≡ cs ++ more)
 
--- a text has one report, and nothing follows it; where the texts of two lists of claims begin the
+-- a text has one report, and nothing follows it; if the texts of two lists of claims begin the
 -- same bytes, one of the lists goes on with what the other one has
 pub record OneReport : Type 0 where
   pub one : (sig : Sig) (bytes : List ℕ) (report other : Report) → IsDeclared sig

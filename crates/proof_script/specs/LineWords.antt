@@ -15,23 +15,23 @@ pub record IsPlainWordAt (bytes word rest : List ℕ) : Type 0 where
   pub ends : Ends rest
 
 module _ (sig : Sig) where
-  -- the bytes are a blank, this word, which may stand, and what follows
+  -- the bytes are a blank, this word, which may appear, and what follows
   pub record IsWordAt (bytes : List ℕ) (word : Word) (rest : List ℕ) : Type 0 where
     pub stands : WordStands sig word
     pub is : bytes ≡ codes " " ++ (word_text sig word ++ rest)
     pub ends : Ends rest
 
-  -- the words may stand, and the bytes are their texts, each behind a blank
+  -- the words may appear, and the bytes are their texts, each after a blank
   pub record AreWords (bytes : List ℕ) (words : List Word) : Type 0 where
     pub stand : AllByRecursion (WordStands sig) words
     pub is : bytes ≡ flat_map (λ w. codes " " ++ word_text sig w) words
 
-  -- the step has this name, it may stand, and the bytes are its words, each behind a blank
+  -- the step has this name, it may appear, and the bytes are its words, each after a blank
   pub record IsStepBehind (head words : List ℕ) (step : Step) : Type 0 where
     pub named : (step_line step).head ≡ head
     pub stand : AreWords words (step_line step).words
 
-  -- the step may stand, and the line with a newline behind it is the step's
+  -- the step may appear, and the line with a newline after it is the step's
   pub record IsStepLine (line : List ℕ) (step : Step) : Type 0 where
     pub stands : StepStands sig step
     pub is : line ++ codes "\n" ≡ line_text sig (step_line step)

@@ -1,4 +1,4 @@
--- The names that may stand in a report.
+-- The names that may appear in a report.
 use Rattle.std.specs.Prelude.{ℕ, ◌≤◌, List, [], ◌∷◌, Contains, codes, length}
 use Rattle.std.specs.Str.{chars, IsUtf8}
 use Rattle.spec_text.specs.Names.{IsName}

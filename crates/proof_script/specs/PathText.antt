@@ -23,7 +23,7 @@ pub record StandsBeforeDot (bytes first rest : List ℕ) : Type 0 where
   pub run : AllByRecursion (λ b. b ≢ 46) first
   pub stops : Stops (λ b. b ≢ 46) rest
 
--- the word is this place, which may stand
+-- the word is this place, which may appear
 pub record IsPlace (word : List ℕ) (p : Place) : Type 0 where
   pub stands : PlaceStands p
   pub is : word ≡ place_text p

@@ -34,7 +34,7 @@ pub record IsFirstWord (bytes word rest : List ℕ) : Type 0 where
   pub run : AllRun word
   pub stops : Stops Run rest
 
--- the numbers of the variables that are read behind k of them: in a pattern they go on from k
+-- the numbers of the variables that are read after k of them: in a pattern they go on from k
 abbrev pub CountFrom : Variables → ℕ → List ℕ → Type 0
 CountFrom Numbered k ns = Unit {0}
 CountFrom Blank k ns = ns ≡ range_with_len k (length ns)
@@ -49,13 +49,13 @@ abbrev pub mark : Variables → ℕ → List ℕ
 mark Numbered n = codes "?" ++ decimal n
 mark Blank n = codes "_"
 
--- the word is the variable that may stand behind k of them
+-- the word is the variable that may come after k of them
 pub record IsVariable (variables : Variables) (k : ℕ) (word : List ℕ) (n : ℕ) : Type 0 where
   pub short : IsShort n
   pub is : word ≡ mark variables n
   pub counted : CountFrom variables k (n ∷ [])
 
--- the word is the name of this symbol, which may stand
+-- the word is the name of this symbol, which may appear
 pub record IsSymbol (sig : Sig) (word : List ℕ) (f : ℕ) : Type 0 where
   pub at : slice_get (names_of sig) f ≡ Some word
   pub name : IsReportName word
@@ -67,7 +67,7 @@ module _ (sig : Sig) (variables : Variables) where
   arguments_by (some t ts) =
       codes "(" ++ (text_by sig variables t ++ (others_by sig variables ts ++ codes ")"))
 
-  -- a term that may stand at this depth, behind k variables
+  -- a term that may appear at this depth, after k variables
   pub record IsReadable (room k : ℕ) (t : Tree) : Type 0 where
     pub symbols : SymbolsStand sig t
     pub depth : tree_depth t ≤ room
@@ -79,14 +79,14 @@ module _ (sig : Sig) (variables : Variables) where
     pub is : bytes ≡ text_by sig variables t ++ rest
     pub ends : Ends rest
 
-  -- so many terms that may stand
+  -- this many terms that may appear
   pub record AreReadable (room k count : ℕ) (ts : Trees) : Type 0 where
     pub symbols : AllSymbolsStand sig ts
     pub depth : depths ts ≤ room
     pub counted : CountFrom variables k (occurrences_all ts)
     pub many : length (list_of ts) ≡ count
 
-  -- the bytes are their texts, each behind `, `, and what follows
+  -- the bytes are their texts, each after `, `, and what follows
   pub record AreOthersAt (room k count : ℕ) (bytes : List ℕ) (ts : Trees) (rest : List ℕ)
       : Type 0 where
     pub readable : AreReadable room k count ts

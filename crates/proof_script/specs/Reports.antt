@@ -1,4 +1,4 @@
--- What may stand in the lines of a claim, and which reports have a text.
+-- What may appear in the lines of a claim, and which reports have a text.
 use Rattle.std.specs.Prelude.{ℕ, ◌≤◌, List, length}
 use Rattle.std.specs.List.{AllByRecursion}
 use Rattle.term_core.specs.Tree.{Tree, Trees, var, app, none, some}
@@ -49,7 +49,7 @@ module _ (sig : Sig) where
     pub goal : IsReportName claim.goal
     pub outcome : OutcomeStands claim.outcome
 
-  -- each line of the report may stand
+  -- each line of the report may appear
   pub record ReportStands (report : Report) : Type 0 where
     pub steps : Between 1 most_steps report.steps
     pub claims : AllByRecursion ClaimStands report.claims

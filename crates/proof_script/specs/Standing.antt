@@ -1,4 +1,4 @@
--- What may stand in a word of a report, and in the line of a step.
+-- What may appear in a word of a report, and in the line of a step.
 use Rattle.std.specs.Prelude.{◌≡◌, ℕ, ◌≤◌, ◌<◌, ◌^◌, List, Some, length, slice_get}
 use Rattle.std.specs.List.{AllByRecursion, range_with_len}
 use Rattle.term_core.specs.Tree.{Tree, Trees, var, app, none, some, list_of, tree_depth}
@@ -23,14 +23,14 @@ pub record PlaceStands (p : Place) : Type 0 where
   pub path : AllByRecursion (Between 1 9) p.path
 
 module _ (sig : Sig) where
-  -- the symbol is one of the signature's with this number of arguments, and its name may stand in a
+  -- the symbol is one of the signature's with this number of arguments, and its name may appear in a
   -- report
   abbrev pub SymbolStands : ℕ → ℕ → Type 0
   SymbolStands f arity =
       (text : List ℕ) × (info : SymInfo) × (slice_get sig.table f ≡ Some (text, info))
       × (length info.args ≡ arity) × IsReportName text
 
-  -- the symbols of the term may stand, and its variables have short numbers
+  -- the symbols of the term may appear, and its variables have short numbers
   abbrev mutual
     pub SymbolsStand : Tree → Type 0
     SymbolsStand (var n) = IsShort n
@@ -44,7 +44,7 @@ module _ (sig : Sig) where
     pub symbols : SymbolsStand t
     pub depth : tree_depth t ≤ 100
 
-  -- the variables of a pattern are numbered from 0 on, and each stands once
+  -- the variables of a pattern are numbered from 0 on, and each occurs once
   pub record PatternStands (p : Tree) : Type 0 where
     pub stands : TermStands p
     pub numbered : occurrences p ≡ range_with_len 0 (length (occurrences p))

@@ -6,7 +6,7 @@ use Rattle.proof_script.specs.Words.{lines_text}
 use Rattle.proof_script.specs.Claims.{claim_text, header_lines, report_text}
 use Rattle.proof_script.specs.Reports.{ReportStands}
 
--- of texts that stand one behind the other, the first bytes of this number hold at most 300,000 of
+-- of texts one after the other, the first bytes of this number hold at most 300,000 of
 -- each
 abbrev pub IsFew : ℕ → List (List ℕ) → Type 0
 IsFew n [] = Unit {0}
@@ -18,7 +18,7 @@ ClaimsAreFew sig n report =
     IsFew (n - length (lines_text sig (header_lines report.steps)))
     (map (claim_text sig) report.claims)
 
--- The bytes begin the report's text, each line of which may stand, and up to their end no claim has
+-- The bytes begin the report's text, each line of which may appear, and up to their end no claim has
 -- too many bytes.
 pub record Begins (sig : Sig) (bytes : List ℕ) (report : Report) : Type 0 where
   pub stands : ReportStands sig report

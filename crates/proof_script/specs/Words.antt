@@ -13,10 +13,10 @@ pub data Word : Type 0 where
   -- a number, and a variable by its number
   number : ℕ → Word
   variable : ℕ → Word
-  -- a conclusion where true, a premise where false, by its number
+  -- a conclusion if true, a premise if false, by its number
   equation : Bool → ℕ → Word
   place : Place → Word
-  -- the left side where true, the right one where false
+  -- the left side if true, the right one if false
   side : Bool → Word
   -- a term, a list of terms, and a list of patterns
   term : Tree → Word

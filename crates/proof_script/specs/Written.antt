@@ -26,7 +26,7 @@ abbrev pub text_by : Sig → Variables → Tree → List ℕ
 text_by sig Numbered t = term_text sig [] t
 text_by sig Blank t = pattern_text sig t
 
--- so the texts of further terms, each behind `, `
+-- so the texts of further terms, each after `, `
 abbrev pub others_by : Sig → Variables → Trees → List ℕ
 others_by sig Numbered ts = others_text sig [] ts
 others_by sig Blank ts = other_patterns_text sig ts

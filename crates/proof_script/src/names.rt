@@ -8,7 +8,7 @@ use spec_text::name_at;
 
 const MAX_NAME_BYTES: usize = 64;
 
-/// Whether the bytes are a name that may stand in a report.
+/// Whether the bytes are a name that may appear in a report.
 pub fn is_report_name(bytes: &[u8]) -> bool
     ensures { IsTrue result ↔ IsReportName bytes.now }
 {

@@ -5,7 +5,7 @@ use crate::terms::after;
 use std::alloc::Global;
 use term_core::{OutOfMemory, Seq};
 
-/// The argument numbers of a path, each of which stands behind a dot.
+/// The argument numbers of a path, each of which comes after a dot.
 pub fn read_path(alloc: Global, bytes: &[u8]) -> Result<Option<Seq<u8>>, OutOfMemory>
     ensures { IfOk result (λ o. MatchOption o
         ((path : List ℕ) → IsPath bytes.now path → ⊥) (λ path. IsPath bytes.now path)) }
@@ -22,7 +22,7 @@ pub fn read_path(alloc: Global, bytes: &[u8]) -> Result<Option<Seq<u8>>, OutOfMe
     Ok(Some(path))
 }
 
-/// The argument number behind the dot at the front, and what follows it.
+/// The argument number after the dot at the front, and what follows it.
 fn next_argument(bytes: &[u8]) -> Option<(u8, &[u8])>
     ensures { MatchOption result
         ((number : ℕ) (rest : List ℕ) → IsArgumentAt bytes.now number rest → ⊥)

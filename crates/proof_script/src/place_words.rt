@@ -64,7 +64,7 @@ fn split_dot(bytes: &[u8]) -> (&[u8], &[u8])
     (bytes, &[])
 }
 
-/// The side behind the dot at the front, left where true, and what follows it.
+/// The side after the dot at the front, left if true, and what follows it.
 fn after_side(bytes: &[u8]) -> Option<(bool, &[u8])>
     ensures { MatchOption result
         ((left : Bool) (rest : List ℕ)

@@ -13,7 +13,7 @@ use spec_core::Signature;
 use std::alloc::Global;
 use term_core::{Name, OutOfMemory, Seq, Term};
 
-/// The text of a report. It is printed whatever the limits: it can be read back where they hold.
+/// The text of a report. It is printed whatever the limits: it can be read back if they hold.
 pub fn print_report(alloc: Global, sig: &Signature, report: &Report) -> Result<Vec<u8>, OutOfMemory>
     requires { ReportIsInRange sig.now report.now }
     ensures { IfOk result (λ made. made.items ≡ report_text sig.now report.now) }

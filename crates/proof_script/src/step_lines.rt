@@ -16,7 +16,7 @@ use spec_core::Signature;
 use std::alloc::Global;
 use term_core::OutOfMemory;
 
-/// The step that the line says, where it may stand in a report. The line comes without its newline.
+/// The step that the line says, if it may appear in a report. The line comes without its newline.
 pub fn read_step(alloc: Global, sig: &Signature, line: &[u8]) -> Result<Step, StepLineError>
     requires { IsDeclared sig.now }
     ensures ok { IfOk result (IsStepLine sig.now line.now) }

@@ -14,7 +14,7 @@ use spec_core::Signature;
 use std::alloc::Global;
 use term_core::{OutOfMemory, SymId, Term, Terms, VarId};
 
-/// Bytes that are left to read, behind so many variables of a pattern.
+/// Bytes that are left to read, after this many variables of a pattern.
 #[derive(Clone, Copy)]
 pub struct Cursor<'a> {
     pub bytes: &'a [u8],
@@ -63,7 +63,7 @@ pub fn after<'a>(bytes: &'a [u8], sign: &[u8]) -> Option<&'a [u8]>
     bytes.strip_prefix(sign)
 }
 
-/// The variable that the word is, behind so many of them.
+/// The variable that the word is, after this many of them.
 fn read_variable(variables: Variables, count: u32, word: &[u8]) -> Option<VarId>
     ensures { MatchOption result ((n : ℕ) → IsVariable variables count word.now n → ⊥)
         (λ v. IsVariable variables count word.now v.0) }
@@ -83,7 +83,7 @@ fn read_variable(variables: Variables, count: u32, word: &[u8]) -> Option<VarId>
     }
 }
 
-/// The symbol that the word is the name of, where it may stand.
+/// The symbol that the word is the name of, if it may appear.
 fn read_symbol(sig: &Signature, word: &[u8]) -> Option<SymId>
     ensures { MatchOption result ((f : ℕ) → IsSymbol sig.now word.now f → ⊥)
         (λ f. IsSymbol sig.now word.now f.0) }
@@ -200,7 +200,7 @@ fn read_arguments<'a>(
     Ok(Some((made, Cursor { bytes, count })))
 }
 
-/// Reads so many further terms, each behind a comma and a blank.
+/// Reads this many further terms, each after a comma and a blank.
 #[cycle(terms)]
 fn read_others<'a>(
     alloc: Global,

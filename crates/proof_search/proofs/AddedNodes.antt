@@ -13,7 +13,7 @@ use Rattle.proof_search.specs.Building.{child_nodes, child_parents}
 use Rattle.proof_search.specs.Leading.{ArePlaces}
 use Rattle.proof_search.proofs.LeadingPlaces.{places_more}
 
--- nodes are the same where their clauses are
+-- nodes are the same if their clauses are
 pub same_nodes : (nodes others : List ClauseNode) → clauses_of nodes ≡ clauses_of others → nodes ≡ others
 same_nodes [] [] e = refl
 same_nodes [] (n ∷ others) e = absurd (omega (arith, ap length e))

@@ -95,7 +95,7 @@ module _ (says : Table) (candidates : ℕ → List Node → Node → List Candid
           run_ends node (length steps) b.0 at none b.2
 
       module _ (one : OneChosen) (node : Node) (move : Move) where
-        -- the nodes behind the move of node k
+        -- the nodes after the move of node k
         abbrev after : ℕ → List Node
         after k = nodes ++ born k node move.step move.made
 

@@ -16,7 +16,7 @@ use Rattle.routine_proof.specs.Ways.{Node, born}
 use Rattle.proof_search.specs.declared.building.Building.{Building}
 use Rattle.proof_search.specs.Building.{way_below, grown, nodes_in, IsWhole, Begins, child_nodes, child_parents, Takes}
 
--- an item stays where it is when more come behind
+-- an item stays where it is when more come after it
 pub get_more :
     {X : Type 0} (xs ys : List X) (k : ℕ) (x : X) → slice_get xs k ≡ Some x →
     slice_get (xs ++ ys) k ≡ Some x
@@ -88,7 +88,7 @@ grown_within steps nodes (m ∷ ms) k lt =
     let more : k < length (nodes ++ w ∷ []) = omega (arith, length_one nodes w, lt) in
     grown_within steps (nodes ++ w ∷ []) ms k more ∙ get_within nodes (w ∷ []) k lt
 
--- what stands at a place
+-- what is at a place
 grown_at :
     (steps : List Step) (nodes : List Node) (ms : List (ClauseNode × ℕ)) (k : ℕ)
     (m : ClauseNode × ℕ) → slice_get ms k ≡ Some m → m.1 < length nodes + k →
@@ -173,7 +173,7 @@ way_first b here at = go b.block.nodes.items b.parents.items at
         sym (grown_within b.steps.items (w ∷ []) (zip ds ps) 0 (omega arith)) ∙ h in
         sym (ap (λ (n : Node). n.way) (same_Some w here e))
 
--- a later node stands below its parent
+-- a later node is below its parent
 pub record IsBelow (b : Building) (p : ℕ) (here : Node) : Type 0 where
   pub parent : Node
   pub step : Step
@@ -241,7 +241,7 @@ zip_second (x ∷ xs) [] k m at = absurd (none-some m at)
 zip_second (x ∷ xs) (y ∷ ys) zero m at = let e = same_Some (x, y) m at in λ i. Some (e i).1
 zip_second (x ∷ xs) (y ∷ ys) (suc k) m at = zip_second xs ys k m at
 
--- steps behind those of the nodes change no way
+-- steps after those of the nodes change no way
 steps_longer :
     (steps more : List Step) (ds : List ClauseNode) (ps : List ℕ) →
     ((k p : ℕ) → slice_get ps (suc k) ≡ Some p → p < length steps) →

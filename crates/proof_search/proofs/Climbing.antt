@@ -9,7 +9,7 @@ use Rattle.proof_search.specs.declared.building.Building.{Building}
 use Rattle.proof_search.specs.Building.{nodes_in, IsWhole}
 use Rattle.proof_search.proofs.BuiltNodes.{IsBelow, way_first, way_later}
 
--- where no ancestor counts, each step on the way is a cover
+-- if no ancestor counts, each step on the way is a cover
 all_covers : (way : Way) → ancestors way ≡ [] → moves way ≡ false
 all_covers [] e = refl
 all_covers (a ∷ way) e = by (moves (a ∷ way)) e

@@ -113,7 +113,7 @@ module _ {A R : Type 0} (is : A → R → Type 0) where
       (subst (λ (p : List A × List A). IsFirst is (p.0 ++ p.1) found) (λ i. (e.0 i, f.0 i)) first)
       f.1)
 
-  -- one item that is there where a test says so
+  -- one item that is there if a test says so
   keeps_one :
       (marked there : Bool) (x : A) → (marked ≡ true → there ≡ true) →
       (marked ≡ false → there ≡ true → HasNone is x) →

@@ -1,5 +1,5 @@
 -- From spot to spot of a clause the run of a symbol along last arguments grows by one at most,
--- since the last argument of a call stands right before it. So as many spots are passed over as
+-- since the last argument of a call comes right before it. So as many spots are passed over as
 -- symbols are missing at one.
 use Rattle.std.proofs.Common.{◌≡◌, ℕ, zero, suc, ◌+◌, ◌-◌, ◌≤◌, ◌==◌, List, [], ◌∷◌, ◌++◌, Bool, true, false, cond, Option, Some, None, ap, sym, ◌∙◌, subst, arith, append_assoc}
 use Rattle.std.specs.Prelude.{slice_get, option_map}
@@ -33,7 +33,7 @@ module _ (g : ℕ) where
   Grows r [] = Unit {0}
   Grows r (t ∷ ts) = (count t ≤ suc r) × Grows (count t) ts
 
-  -- the run of the last of the terms, where there is one
+  -- the run of the last of the terms, if there is one
   abbrev last_count : ℕ → Trees → ℕ
   last_count r none = r
   last_count r (some t ts) = (last_run g (some t ts)).0

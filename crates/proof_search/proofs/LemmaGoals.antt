@@ -12,7 +12,7 @@ use Rattle.routine_proof.specs.Candidates.{each}
 use Rattle.routine_proof.specs.Entries.{lemma_goals}
 use Rattle.proof_search.specs.Settings.{lemma_goal}
 
--- the lemmas among the first so many goals
+-- the lemmas among this many first goals
 abbrev pub lemmas_before : List ℕ → List Goal → ℕ → List (List ℕ × Clause)
 lemmas_before lemmas goals i =
     map lemma_goal

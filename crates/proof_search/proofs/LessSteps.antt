@@ -1,4 +1,4 @@
--- A step that rewrites a term by a clause makes what is less only where the term is above what it
+-- A step that rewrites a term by a clause makes what is less only if the term is above what it
 -- becomes.
 use Rattle.std.proofs.Common.{◌≡◌, ℕ, List, [], ◌∷◌, ◌++◌, ◌≤◌, Bool, true, false, not, Some, None, Ok, Err, Result, inl, inr, refl, ap, sym, ◌∙◌, subst, arith, map}
 use Rattle.std.specs.List.{AllByRecursion, AllZip}
@@ -210,7 +210,7 @@ one_item f (x ∷ []) y e = (x, refl)
 one_item {X} {Y} f (x ∷ z ∷ xs) y e =
     absurd (let q : ◌≡◌ {A = List Y} (f x ∷ f z ∷ map f xs) (y ∷ []) = e in cc)
 
--- where the term doesn't fall, the step makes nothing that is less
+-- if the term doesn't fall, the step makes nothing that is less
 module _ (above : Tree → Tree → Type 0) (decides : PlaceDecides above) (at : At) (place : Place)
     (list : List Tree) (left : Bool) (target : Target) (d : Clause) (t : Tree) where
   pub none_rising :

@@ -31,7 +31,7 @@ pub clause_read : (nodes : List Node) (k : ℕ) (d : Node) → k < length nodes 
     slice_get (clauses_of nodes) k ≡ Some (get_or nodes k d).clause
 clause_read nodes k d lt = clause_listed nodes k (get_or nodes k d) (slice_get-get_or nodes k d lt)
 
--- candidates by a clause where it is listed
+-- candidates by a clause if it is listed
 module _ {B R : Type 0} (is : B → R → Type 0) (f : Clause → List B) where
   pub none_listed : (o : Option Clause) → o ≡ None → NoneIs is (each (option_to_list o) f)
   unfolding each

@@ -92,7 +92,7 @@ module _ (above : Tree → Tree → Type 0) (at : At) (is : IsAt at) (entry : By
           is = instance_there f;
         }))
 
-    -- where none fits
+    -- if none fits
     pub none_where_unfit :
         ((n : ℕ) (by : RuleAt at.setting.now.spec.now n) → IsInstance by.rule there.term → ⊥) →
         (ns : List ℕ) → NoneIs (Gives (SaysAt above at)) (rulings_by entry place ns)
@@ -103,7 +103,7 @@ module _ (above : Tree → Tree → Type 0) (at : At) (is : IsAt at) (entry : By
           is = instance_there f;
         }))
 
-    -- where it is a variable
+    -- if it is a variable
     pub none_at_variable : (ns : List ℕ) (m : ℕ) → var m ≡ there.term →
         NoneIs (Gives (SaysAt above at)) (rulings_by entry place ns)
     none_at_variable ns m e = no_steps ns (λ n f.

@@ -44,7 +44,7 @@ use Rattle.proof_search.specs.Taking.{IsAt, SaysAt}
 use Rattle.proof_search.proofs.FallingSteps.{by_sides, falling_variables, first_at_spot, instance_sorted}
 use Rattle.proof_search.proofs.LessSteps.{named_clause, never}
 
--- the instance of an instance, where both lists have so many terms
+-- the instance of an instance, if both lists have this many terms
 entry_twice :
     (f : Tree → Tree) (xs zs : List Tree) (n : ℕ) (d : Tree) → length xs ≡ length zs →
     f d ≡ get_or xs n d → get_or (map f zs) n d ≡ f (get_or zs n d)
@@ -82,7 +82,7 @@ module _ (sig : Sig) (to : List SortId) where
   terms_sorted (y ∷ ys) (s ∷ ss) same h =
       (h 0 s y refl refl, terms_sorted ys ss (omega (arith, same)) (λ n r z p q. h (suc n) r z p q))
 
-  -- where a term that has all variables becomes one of its sort
+  -- if a term that has all variables becomes one of its sort
   terms_for :
       (ys : List Tree) (ss : List SortId) (t : Tree) (sort : SortId) → length ys ≡ length ss →
       ((n : ℕ) → n < length ss → Occurs n t) → Sorted sig ss t sort →
@@ -280,7 +280,7 @@ module _ (above : Tree → Tree → Type 0) (d : Clause) (sides : FallingSides) 
       abbrev by : Place → Tree → Bool → Candidate
       by place t left = rewriting_by (goal name) d place t left (side left e)
 
-      -- where the left side rewrites nothing, the right one doesn't
+      -- if the left side rewrites nothing, the right one doesn't
       none_right :
           (place : Place) (t : Tree) → HasNone (Gives says) (by place t true) →
           HasNone (Gives says) (by place t false)

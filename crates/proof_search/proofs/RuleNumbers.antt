@@ -1,4 +1,4 @@
--- The numbers of a function's rules stand for all rules where a rule of another function has no
+-- The numbers of a function's rules stand for all rules if a rule of another function has no
 -- result.
 use Rattle.std.proofs.Common.{◌≡◌, ℕ, suc, ◌+◌, List, [], ◌∷◌, ◌++◌, Bool, true, false, cond, Some, None, Option, inl, inr, refl, subst, arith, length}
 use Rattle.std.specs.Prelude.{slice_get}

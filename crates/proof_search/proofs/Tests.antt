@@ -1,4 +1,4 @@
--- What a test says where its answer is known.
+-- What a test says if its answer is known.
 use Rattle.std.proofs.Common.{◌≡◌, Bool, true, false, ap}
 use Rattle.std.specs.Prelude.{◌↔◌, IsTrue, Option, Some, None}
 use Rattle.std.specs.Option.{option_eq}
@@ -7,7 +7,7 @@ pub not_is : (r : Bool) (P : Type 0) → r ≡ false → (IsTrue r ↔ P) → P 
 not_is true P e h p = absurd (let q : true ≡ false = e in cc)
 not_is false P e h p = let t : IsTrue false = h.1 p in absurd (cc)
 
--- an option that is tested for an item is that item, where equality of items is decided
+-- an option that is tested for an item is that item, if equality of items is decided
 pub is_some_same :
     {X : Type 0} (eq : X → X → Bool) → ((x y : X) → eq x y ≡ true → x ≡ y) → (o : Option X) (x : X) →
     option_eq eq o (Some x) ≡ true → o ≡ Some x

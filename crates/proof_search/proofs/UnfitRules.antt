@@ -12,7 +12,7 @@ use Rattle.spec_core.proofs.RuleTables.{instance_head, rule_has_place}
 use Rattle.clause_core.specs.RuleInstances.{RuleAt, IsInstance}
 use Rattle.proof_search.proofs.OtherRules.{not_variable}
 
--- what is said where an option has no value
+-- what is said if an option has no value
 pub where_none :
     {X : Type 0} (o : Option X) (P : Type 0) (Q : X → Type 0) → is_some o ≡ false →
     MatchOption o P Q → P
@@ -20,7 +20,7 @@ where_none None P Q none p = p
 where_none (Some x) P Q none p = absurd (let q : true ≡ false = none in cc)
 
 module _ (spec : Spec) (t : Tree) where
-  -- the left side of the rule of this number doesn't become the term
+  -- the left side of the rule with this number doesn't become the term
   abbrev pub Unfit : ℕ → Type 0
   Unfit n = (by : RuleAt spec n) → IsInstance by.rule t → ⊥
 
@@ -43,7 +43,7 @@ module _ (spec : Spec) (t : Tree) where
         not_variable spec.sig by.rule.left fits.terms m
         (fine.rules by.place by.rule by.is).left (fits.is ∙ sym e)
 
-    -- where those of the function don't, none does
+    -- if those of the function don't, none does
     pub none_called :
         (f : ℕ) (ts : Trees) → app f ts ≡ t → (places : List ℕ) →
         places ≡ numbers_of f 0 spec.rules → (k : ℕ) → length places ≤ k → UnfitBefore places k →

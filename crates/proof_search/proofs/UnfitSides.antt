@@ -1,4 +1,4 @@
--- Where no side that may fall becomes a term, no step by these sides rewrites the term.
+-- If no side that may fall becomes a term, no step by these sides rewrites the term.
 use Rattle.std.proofs.Common.{◌≡◌, ℕ, ◌+◌, ◌<◌, ◌≤◌, List, [], ◌∷◌, Bool, true, false, cond, Some, None, refl, arith}
 use Rattle.std.specs.Prelude.{slice_get}
 use Rattle.term_core.specs.Tree.{Tree, instance}
@@ -25,7 +25,7 @@ head_same t u e = cc
 module _
     (says : Step → Children → Type 0) (target : Target) (d : Clause) (place : Place) (term : Tree)
     (e : Equation) (sides : FallingSides) where
-  -- a candidate that is there where a test says so
+  -- a candidate that is there if a test says so
   where_marked :
       (mark : Bool) (candidate : Candidate) → (mark ≡ true → HasNone (Gives says) candidate) →
       NoneIs (Gives says) (cond mark (candidate ∷ []) [])
@@ -48,7 +48,7 @@ module _
         (falling_rewriting target d place term e sides false) None None refl (none_by true)
         (none_by false)
 
--- where so many symbols are missing at a spot, no side becomes the term of one of so many spots
+-- if this many symbols are missing at a spot, no side becomes the term of one of as many spots
 module _
     (law : (list : List Tree) (p t : Tree) → instance list p ≡ t → missing_in (spine_of p) t ≡ 0)
     (here : Clause) (e : Equation) (sides : FallingSides) (k missing : ℕ) (s : Spot)

@@ -1,4 +1,4 @@
--- Where the spines of sides don't fit, no list makes the sides those. Where those of a leading
+-- If the spines of sides don't fit, no list makes the sides those. If those of a leading
 -- equation fit no equation of a node, no instance of its clause closes the node.
 use Rattle.std.proofs.Common.{◌≡◌, ℕ, suc, List, [], ◌∷◌, Option, Some, None, inl, inr, refl, sym, subst, arith, length}
 use Rattle.std.specs.Prelude.{Any}
@@ -78,7 +78,7 @@ module _
           ),
         )
 
-  -- by the clause whose leading equation stands there
+  -- by the clause whose leading equation is there
   pub none_closes :
       (here : Clause) (place : Option LeadingPlace) → IsPlace d place → (MayClose here place → ⊥) →
       NoneIs (Gives says) (closings here target d)

@@ -74,7 +74,7 @@ module _ {A B R : Type 0} (is : B → R → Type 0) (xs : List A) (f : A → Lis
       drop_past xs k h ∙ sym (drop_past xs (k + 1) (omega (arith, h))) in
       record { left = subst (λ (l : List A). IsLeft is (each xs f) (each l f)) e p.left }
 
-  -- so many items without a result, or fewer at the end
+  -- this many items without a result, or fewer at the end
   pub skipped_all :
       (k n : ℕ) → Passed k →
       ((m : ℕ) (x : A) → k ≤ m → m < k + n → slice_get xs m ≡ Some x → NoneIs is (f x)) →

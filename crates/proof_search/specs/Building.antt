@@ -11,13 +11,13 @@ use Rattle.routine_proof.specs.Ways.{Way, Node}
 use Rattle.proof_search.specs.declared.building.Building.{Building}
 use Rattle.proof_search.specs.Leading.{ArePlaces}
 
--- the way to a child of the node of this number, where the node and its step are there
+-- the way to a child of the node with this number, if the node and its step are there
 abbrev pub way_below : ℕ → Option Node → Option Step → Way
 way_below parent (Some node) (Some step) = node.way ++ (parent, step) ∷ []
 way_below parent (Some node) None = []
 way_below parent None step = []
 
--- some nodes, and behind them those of these clauses, each with the number of its parent
+-- some nodes, and after them those of these clauses, each with the number of its parent
 abbrev pub grown : List Step → List Node → List (ClauseNode × ℕ) → List Node
 grown steps nodes [] = nodes
 grown steps nodes (made ∷ more) =
@@ -58,7 +58,7 @@ child_nodes children = map (λ (d : Child). record { clause = d.clause }) childr
 abbrev pub child_parents : ℕ → List Child → List ℕ
 child_parents parent children = map (λ (d : Child). parent) children
 
--- the next node has the step of the move, and what it makes stands behind the other nodes
+-- the next node has the step of the move, and what it makes comes after the other nodes
 pub record Takes (old new : Building) (move : Move) : Type 0 where
   pub nodes : new.block.nodes.items ≡ old.block.nodes.items ++ child_nodes move.made.clauses
   pub parents :

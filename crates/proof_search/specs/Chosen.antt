@@ -12,7 +12,7 @@ use Rattle.proof_search.specs.declared.setting.LemmaGoal.{LemmaGoal}
 use Rattle.proof_search.specs.Building.{nodes_in}
 use Rattle.proof_search.specs.Referring.{node, goal, closings, rewritings}
 
--- the clause of the node of this number
+-- the clause of the node with this number
 abbrev pub clause_of : At → ℕ → List Clause
 clause_of at j = option_to_list (slice_get (clauses_of at.nodes.now) j)
 

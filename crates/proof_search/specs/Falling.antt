@@ -1,4 +1,4 @@
--- Steps that rewrite a term to one that is less: whether they do is told by the two terms. Where
+-- Steps that rewrite a term to one that is less: whether they do is decided by the two terms. If
 -- one side of the equation is above the other one, no step from the other one does.
 use Rattle.std.specs.Prelude.{◌≡◌, ℕ, ◌≤◌, Bool, true, List, [], ◌∷◌, Some, slice_get}
 use Rattle.std.specs.List.{AllByRecursion}
@@ -61,7 +61,7 @@ pub record FallsTo (above : Tree → Tree → Type 0) (t u : Tree) : Type 0 wher
   pub old : tree_size t ≤ 4294967295
   pub new : tree_size u ≤ 4294967295
 
--- where a term is above another one, no sorted instance of the other one is above that of the term
+-- if a term is above another one, no sorted instance of the other one is above that of the term
 abbrev pub NeverRises : (Tree → Tree → Type 0) → Type 0
 NeverRises above =
     (sig : Sig) (ctx : List SortId) (xs : List Tree) (t u : Tree) (s r : SortId) →

@@ -15,7 +15,7 @@ use Rattle.proof_search.specs.declared.falling_sides.FallingSides.{FallingSides}
 use Rattle.proof_search.specs.declared.setting.LemmaGoal.{LemmaGoal}
 use Rattle.proof_search.specs.declared.setting.Setting.{Setting}
 
--- whether the left side, where true, or the right one may fall
+-- whether the left side, if true, or the right one may fall
 abbrev pub marked : Bool → FallingSides → Bool
 marked true sides = sides.left
 marked false sides = sides.right
@@ -24,7 +24,7 @@ marked false sides = sides.right
 abbrev pub HasSorts : Clause → Type 0
 HasSorts c = (sig : Sig) × ClauseIsSorted sig c
 
--- by some list of so many terms each side of the equation becomes the other one
+-- by some list of this many terms each side of the equation becomes the other one
 abbrev pub Permutes : ℕ → Equation → Type 0
 Permutes count e =
     (list : List Tree)

@@ -17,7 +17,7 @@ use Rattle.proof_search.specs.declared.proving.Tried.{Tried}
 use Rattle.proof_search.specs.declared.proving.Tried.TheVariants.{Proof, Not}
 use Rattle.proof_search.specs.Starting.{BeginsWith}
 
--- the block, where its claim has at most 300,000 bytes, or its first step
+-- the block, if its claim has at most 300,000 bytes, or its first step
 abbrev pub IsShortBlock : Spec → Goal → BlockOf → Tried → Type 0
 IsShortBlock spec goal block (Proof found) =
     (found ≡ block) × (length (claim_bytes spec goal block.steps) ≤ 300000)
@@ -33,7 +33,7 @@ IsTried above spec lemmas goal most start (Not first) =
     HasNone (IsProof above spec lemmas goal most) start
     × BeginsWith above spec lemmas start (goal_clause goal) first
 
--- the step that is told is the cover of the variable by the test set of its sort
+-- the step that is given is the cover of the variable by the test set of its sort
 abbrev pub IsCoverOf : Spec → Clause → Option Step → VarId → Type 0
 IsCoverOf spec c first v =
     (s : SortId) × (slice_get c.ctx v.0 ≡ Some s)

@@ -16,7 +16,7 @@ use Rattle.proof_search.specs.FallingSides.{marked}
 use Rattle.proof_search.specs.declared.referring.Referral.{Referral}
 use Rattle.proof_search.specs.declared.referring.Referral.TheVariants.{Node, Goal}
 
--- the node of this number, or the goal of this name
+-- the node with this number, or the goal of this name
 pub data Target : Type 0 where
   node : ℕ → Target
   goal : List ℕ → Target
@@ -73,7 +73,7 @@ rewriting_by target d place term left side = record {
   asks = all_less;
 }
 
--- those for one side of the equation, the left one where true, if it may fall
+-- those for one side of the equation, the left one if true, if it may fall
 abbrev pub falling_rewriting :
     Target → Clause → Place → Tree → Equation → FallingSides → Bool → List Candidate
 falling_rewriting target d place term e sides left =

@@ -46,7 +46,7 @@ module _ (above : Tree → Tree → Type 0) (spec : Spec) (lemmas : List ℕ) (s
       (candidates spec (lemma_goals spec lemmas) start (length b.steps.items) (nodes_in b) here)
       found
 
-  -- the step is chosen at the node of the clause, where a step is told
+  -- the step is chosen at the node of the clause, if a step is given
   abbrev pub BeginsWith : Clause → Option Step → Type 0
   BeginsWith goal (Some step) =
       (move : Move) × (move.step ≡ step)

@@ -61,7 +61,7 @@ SaysAt above at =
     makes above at.setting.now.spec.now at.setting.now.lemmas.now (clauses_of at.nodes.now)
     at.here.now
 
--- the step with what it makes where the relations are those that are asked for, or that it makes
+-- the step with what it makes if the relations are those that are asked for, or that it makes
 -- nothing such
 abbrev pub IsTaken : (Step → Children → Type 0) → Step → Asks → Option Move → Type 0
 IsTaken says step asks (Some move) =

@@ -41,7 +41,7 @@ pub(crate) struct At<'a> {
 }
 
 impl<'a> At<'a> {
-    /// The node of this number. Its places are listed once, with their terms, for all entries.
+    /// The node with this number. Its places are listed once, with their terms, for all entries.
     pub(crate) fn new(
         alloc: Global,
         setting: &'a Setting<'a>,
@@ -77,7 +77,7 @@ impl<'a> At<'a> {
         })
     }
 
-    /// The spines of the conclusions where true, of the premises where false.
+    /// The spines of the conclusions if true, of the premises if false.
     pub(crate) fn spines(&self, conclusion: bool) -> &[SideSpines]
         requires { IsAt self.now }
         ensures { result.now ≡ listed_spines (equations conclusion self.now.here.now) }
@@ -162,7 +162,7 @@ fn are_not_neither(refs: &[Reference]) -> bool
     true
 }
 
-/// The step with what it makes at the node, where the table defines it and its relations are those
+/// The step with what it makes at the node, if the table defines it and its relations are those
 /// that are asked for.
 pub(crate) fn taken<O: TermOrder>(
     alloc: Global,

@@ -19,7 +19,7 @@ pub(crate) struct Building {
     /// For each node the number of the node whose child it is, and 0 for node 0.
     pub parents: Vec<u32>,
     pub steps: Vec<Step>,
-    /// For each node the place of its leading equation, where it has one.
+    /// For each node the place of its leading equation, if it has one.
     pub leadings: Vec<Option<LeadingPlace>>,
     /// The falling sides of node 0.
     pub sides: FallingSides,
@@ -66,7 +66,7 @@ impl Building {
         Ok(())
     }
 
-    /// The first step, where there is one.
+    /// The first step, if there is one.
     pub fn first_step(self) -> Option<Step>
         ensures { result ≡ slice_get self.steps.items 0 }
     {
@@ -95,7 +95,7 @@ impl Building {
     }
 }
 
-/// The first of the steps, where there is one.
+/// The first of the steps, if there is one.
 pub(crate) fn first_of(steps: Vec<Step>) -> Option<Step>
     ensures { result ≡ slice_get steps.items 0 }
 {

@@ -99,7 +99,7 @@ impl Entry {
     }
 }
 
-/// The chosen step of a node with what it makes there, or None where no entry of the list gives
+/// The chosen step of a node with what it makes there, or None if no entry of the list gives
 /// one.
 pub(crate) fn chosen<'a, O: TermOrder>(
     alloc: Global,

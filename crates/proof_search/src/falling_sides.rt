@@ -19,7 +19,7 @@ pub(crate) struct FallingSides {
 }
 
 impl FallingSides {
-    /// Whether the left side, where true, or the right one is among them.
+    /// Whether the left side, if true, or the right one is among them.
     pub(crate) fn has(self, left: bool) -> bool
         ensures { result ≡ marked left self }
     {
@@ -27,7 +27,7 @@ impl FallingSides {
     }
 }
 
-/// The sides that have all variables of the clause, and that the other side isn't above. Where the
+/// The sides that have all variables of the clause, and that the other side isn't above. If the
 /// other side is above, so are its instances: no step by the side rewrites to what is less.
 pub(crate) fn falling_sides<O: TermOrder>(order: &O, clause: &Clause) -> FallingSides
     ensures { AreFalling (O.above order.now) clause.now result }
@@ -70,7 +70,7 @@ pub(crate) fn lemma_sides<O: TermOrder>(
     })
 }
 
-/// Whether one list of terms for the equation's variables, of which there are so many, makes each
+/// Whether one list of terms for the equation's variables, of which there are this many, makes each
 /// side the other one, as in plus(x, y) = plus(y, x).
 fn permutes(alloc: Global, count: usize, equation: &Equation) -> Result<bool, OutOfMemory>
     requires { AreVariables count (both_sides equation.now) }
@@ -90,7 +90,7 @@ fn may_fall<O: TermOrder>(order: &O, clause: &Clause, side: &Term, other: &Term)
     !order.greater(other, side)
 }
 
-/// The clause's conclusion, where it has one alone.
+/// The clause's conclusion, if it has one alone.
 pub(crate) fn only_conclusion(clause: &Clause) -> Option<&Equation>
     ensures { MatchOption result ((e : EquationOf) → clause.now.conclusions ≡ e ∷ [] → ⊥)
         (λ e. clause.now.conclusions ≡ e.now ∷ []) }

@@ -19,8 +19,8 @@ use term_core::{OutOfMemory, Term, VarId};
 use term_order::TermOrder;
 use test_sets::test_set;
 
-/// The first routine proof of the goal of this number with at most `nodes` nodes, over the goals of
-/// the other numbers as lemmas. A number that no goal has is no lemma.
+/// The first routine proof of the goal with this number with at most `nodes` nodes, over the goals
+/// of the other numbers as lemmas. A number that no goal has is no lemma.
 pub fn guided<O: TermOrder>(
     alloc: Global,
     admitted: &Admitted<O>,

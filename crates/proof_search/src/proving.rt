@@ -25,7 +25,7 @@ use term_order::TermOrder;
 pub(crate) enum Tried {
     /// The start's block, which is a proof.
     Proof(Block),
-    /// The start gives no proof. What was built begins with this step, where it has one.
+    /// The start gives no proof. What was built begins with this step, if it has one.
     Not { first: Option<Step> },
 }
 
@@ -66,7 +66,7 @@ pub(crate) fn proof_from<O: TermOrder>(
     }
 }
 
-/// The block, where the claim that it proves the goal isn't too long for a report.
+/// The block, if the claim that it proves the goal isn't too long for a report.
 fn short_block(alloc: Global, spec: &Spec, goal: &Goal, block: Block) -> Result<Tried, OutOfMemory>
     requires { ClaimIsInRange spec.now.sig (proved_by goal.now block) }
     ensures { IfOk result (IsShortBlock spec.now goal.now block) }

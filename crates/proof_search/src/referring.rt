@@ -20,7 +20,7 @@ use std::alloc::Global;
 use term_core::{Name, OutOfMemory, Seq, Term};
 use term_order::TermOrder;
 
-/// Which clause a step refers to: that of the node of this number, or that of the goal of this
+/// Which clause a step refers to: that of the node with this number, or that of the goal of this
 /// name.
 #[derive(Drop)]
 pub(crate) enum Referral<'a> {
@@ -49,7 +49,7 @@ impl<'a> Referral<'a> {
     }
 
     /// The step that rewrites the term at the place by the instance with these terms, from left to
-    /// right where `left` is true.
+    /// right if `left` is true.
     pub(crate) fn rewriting_step(
         &self,
         alloc: Global,
@@ -97,7 +97,7 @@ pub(crate) fn first_subsumption<O: TermOrder>(
     Ok(None)
 }
 
-/// The first step by the node of this number that closes the node. Where the spines tell that there
+/// The first step by the node with this number that closes the node. If the spines tell that there
 /// is none, no equation is gone through.
 fn subsumption_by<'a, O: TermOrder>(
     alloc: Global,
@@ -243,7 +243,7 @@ fn closing_either_way<'a, O: TermOrder>(
     )
 }
 
-/// The step by which the sides of the leading equation become these, whose spines are known. Where
+/// The step by which the sides of the leading equation become these, whose spines are known. If
 /// they don't fit, nothing is walked.
 fn closing_by<'a, O: TermOrder>(
     alloc: Global,

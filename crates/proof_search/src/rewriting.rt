@@ -37,7 +37,7 @@ struct Rewriting<'a> {
 }
 
 impl<'a> Rewriting<'a> {
-    /// How often the symbol at the root of a side that may fall would have to stand more along the
+    /// How often the symbol at the root of a side that may fall would have to occur more along the
     /// term for the side to become it: the least such number.
     fn missing(&self, term: &Term) -> u32
         requires { self.now.spines ≡ side_spines self.now.equation.now }
@@ -128,7 +128,7 @@ pub(crate) fn first_lemma_use<O: TermOrder>(
 }
 
 /// The first step by an instance of the clause that rewrites a term here. Since the last argument
-/// of a call stands right before it, a symbol stands from one spot to the next at most once more:
+/// of a call comes right before it, a symbol occurs from one spot to the next at most once more:
 /// as many spots are passed over as symbols are missing at one.
 fn first_rewriting<'a, O: TermOrder>(
     alloc: Global,
@@ -182,7 +182,7 @@ fn first_rewriting<'a, O: TermOrder>(
 }
 
 /// The step that rewrites the term of the spot of this index from the left side, or else from the
-/// right one, where they may fall.
+/// right one, if they may fall.
 fn rewriting_at<'a, O: TermOrder>(
     alloc: Global,
     order: &O,
@@ -208,8 +208,8 @@ fn rewriting_at<'a, O: TermOrder>(
     rewriting_from(alloc, order, at, matcher, rewriting, index, false)
 }
 
-/// The step that rewrites it from the left side where true, from the right one where false, if that
-/// side may fall. Where the term isn't above what it becomes, the clause that holds the other term
+/// The step that rewrites it from the left side if true, from the right one if false, if that
+/// side may fall. If the term isn't above what it becomes, the clause that holds the other term
 /// there isn't less: whole clauses needn't be compared.
 fn rewriting_from<'a, O: TermOrder>(
     alloc: Global,

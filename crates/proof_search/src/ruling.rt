@@ -99,7 +99,7 @@ fn ruling_at<O: TermOrder>(
 }
 
 /// The first of them at the place by a rule at these places among all rules. The table of steps is
-/// asked only where the symbols of the left side are there.
+/// asked only if the symbols of the left side are there.
 fn ruling_by<O: TermOrder>(
     alloc: Global,
     order: &O,

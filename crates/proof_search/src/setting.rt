@@ -28,7 +28,7 @@ pub(crate) struct Setting<'a> {
 pub(crate) struct LemmaGoal {
     pub(crate) name: Name,
     pub(crate) clause: Clause,
-    /// The place of the clause's leading equation, where it has one.
+    /// The place of the clause's leading equation, if it has one.
     pub(crate) leading: Option<LeadingPlace>,
     /// The sides from which it rewrites.
     pub(crate) sides: FallingSides,
@@ -55,8 +55,8 @@ impl<'a> Setting<'a> {
         })
     }
 
-    /// The number of the rule at this place, which counts from 1, where the term may be an instance
-    /// of its left side: where some symbol differs, it isn't one.
+    /// The number of the rule at this place, which counts from 1, if the term may be an instance
+    /// of its left side: if some symbol differs, it isn't one.
     pub(crate) fn fitting(&self, place: usize, term: &Term) -> Option<u32>
         requires { IsSetting self.now }
         ensures { MatchOption result

@@ -29,11 +29,11 @@ pub(crate) enum Built {
     /// The routine block.
     Block(Building),
     /// It has more nodes than are allowed, or there is none. What was built begins with this step,
-    /// where it has one.
+    /// if it has one.
     Not { first: Option<Step> },
 }
 
-/// The routine block of the clause from this start, where it has at most `most` nodes.
+/// The routine block of the clause from this start, if it has at most `most` nodes.
 pub(crate) fn block<O: TermOrder>(
     alloc: Global,
     order: &O,

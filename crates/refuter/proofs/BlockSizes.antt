@@ -13,7 +13,7 @@ large_times : (limit n m : ℕ) → limit ≤ n → n * m < limit → m ≡ 0
 large_times limit n zero h lt = refl
 large_times limit n (suc m) h lt = let e = mul-suc n m in absurd (omega arith)
 
--- a product of two numbers, each of which is right where it is below the limit, is right below it
+-- a product of two numbers, each of which is right if it is below the limit, is right below it
 product_right : (limit n m a b k : ℕ) → (n < limit → n ≡ a) → (m < limit → m ≡ b) → k ≡ min (n * m) limit → k < limit → k ≡ b * a
 product_right limit n m a b k f g e lt =
     let p = mul_comm n m in

@@ -1,4 +1,4 @@
--- Where blocks stand in the list of substitutions, and how large they are.
+-- Where blocks are in the list of substitutions, and how large they are.
 use Rattle.std.proofs.Common.{◌≡◌, ℕ, ◌*◌, ◌<◌, List, [], ◌∷◌, ◌++◌, Some, None, inl, inr, refl, ap, sym, ◌∙◌, subst, arith, append_assoc, length, length-append}
 use Rattle.std.specs.Prelude.{map, slice_get}
 use Rattle.std.specs.List.{flat_map, AllByRecursion}
@@ -86,11 +86,11 @@ module _ (sig : Sig) (depth : ℕ) where
   unfolding joins
   joined_in xs ys p r a b = subst (λ rows. In (p ++ r) rows) (sym (rows_joined xs ys)) (in_flat_map (λ q. map (λ x. q ++ x) (rows_of sig depth ys)) (rows_of sig depth xs) p (p ++ r) a (in_map (λ x. p ++ x) (rows_of sig depth ys) r b))
 
-  -- where a block has a member, so have the blocks in it
+  -- if a block has a member, so have the blocks in it
   pub others_some : (xs ys : List SortId) → 0 < length (rows_of sig depth (xs ++ ys)) → 0 < length (rows_of sig depth ys)
   others_some xs ys h = some_joined (rows_of sig depth xs) (rows_of sig depth ys) (subst (λ rows. 0 < length rows) (rows_joined xs ys) h)
 
-  -- one more sort has so many times as many rows
+  -- one more sort has this many times as many rows
   pub rows_times : (s : SortId) (ss : List SortId) → length (rows_of sig depth (s ∷ ss)) ≡ length (values sig depth s) * length (rows_of sig depth ss)
   rows_times s ss = times (values sig depth s) (rows_of sig depth ss)
     where

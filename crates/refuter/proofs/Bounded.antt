@@ -46,7 +46,7 @@ rows_without bound t (r ∷ rows) h =
     let p = le_false (tree_size t + sizes (trees_of r)) bound (omega arith) in
     rw p (rows_without bound t rows h)
 
--- rows of which each has so many symbols are none within less
+-- rows of which each has this many symbols are none within less
 none_within : (bound least : ℕ) (rows : List (List Tree)) → AllByRecursion (λ r. least ≤ sizes (trees_of r)) rows → bound < least → small_rows bound rows ≡ []
 none_within bound least [] a h = refl
 none_within bound least (r ∷ rows) a h =

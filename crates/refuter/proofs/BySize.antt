@@ -37,7 +37,7 @@ module _ {X : Type 0} (size : X → ℕ) where
   unfolding number_of_size
   both_of_size xs ys n = ap (λ zs. length zs) (filter-append (λ y. size y == n) xs ys) ∙ length-append (filter (λ y. size y == n) xs) (filter (λ y. size y == n) ys)
 
-  -- all items, where no size is above a bound
+  -- all items, if no size is above a bound
   pub all_of_size : (m : ℕ) (xs : List X) → AllByRecursion (λ x. size x ≤ m) xs → length xs ≡ sum_below (m + 1) (λ n. number_of_size size xs n * 1)
   all_of_size m [] a = sym (sum_zero (λ n. number_of_size size [] n * 1) (m + 1) (λ i l. ap (λ k. k * 1) (none_of_size i) ∙ zero-mul 1))
   all_of_size m (x ∷ xs) a =
@@ -48,7 +48,7 @@ module _ {X : Type 0} (size : X → ℕ) where
       let l : length (x ∷ xs) ≡ 1 + length xs = omega arith in
       omega (arith, more, apart, one, l, all_of_size m xs a.1)
 
-  -- items that are kept where they have this size
+  -- items that are kept if they have this size
   pub kept_of_size : (p : X → Bool) (n : ℕ) → ((x : X) → size x ≡ n → p x ≡ true) → (xs : List X) → number_of_size size (filter p xs) n ≡ number_of_size size xs n
   kept_of_size p n h [] = refl
   kept_of_size p n h (x ∷ xs) =
@@ -60,7 +60,7 @@ module _ {X : Type 0} (size : X → ℕ) where
       ] in
       keeps (p x) (h x)
 
--- items that grow by as much are of a size where they were as much smaller
+-- items that grow by as much are of a size if they were as much smaller
 pub grown_of_size : {X Y : Type 0} (small : X → ℕ) (large : Y → ℕ) (grow : X → Y) (k : ℕ) → ((x : X) → large (grow x) ≡ k + small x) → (xs : List X) (n : ℕ) → number_of_size large (map grow xs) n ≡ shifted k (number_of_size small xs) n
 grown_of_size small large grow k h [] n =
     elim (split_le k n) [

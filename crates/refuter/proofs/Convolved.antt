@@ -55,7 +55,7 @@ module _ (cap : ℕ) (f g : ℕ → ℕ) where
         ];
   }
 
-  -- numbers of the first sequence behind a place add nothing to the convolution at that place
+  -- numbers of the first sequence after a place add nothing to the convolution at that place
   convolution_long : (m n : ℕ) → n < m → sum_below m (λ i. f i * shifted i g n) ≡ convolution f g n
   unfolding sum_below convolution
   convolution_long zero n l = absurd (omega arith)

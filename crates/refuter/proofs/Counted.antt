@@ -57,7 +57,7 @@ module _ (sig : Sig) (depth : ℕ) where
   abbrev pub applied : ℕ × List SortId → List Tree
   applied c = map (λ ts. app c.0 (trees_of ts)) (product (map (λ u. values sig depth u) c.1))
 
-  -- how many applications of the sort's constructors from this number on have so many symbols
+  -- how many applications of the sort's constructors from this number on have this many symbols
   unfoldable pub applied_from : ℕ → SortId → ℕ → ℕ
   applied_from f s n = terms_of_size (flat_map applied (constructors_after sig f s)) n
 
@@ -97,7 +97,7 @@ values_counted sig depth cap s row r =
     sums_capped (slice_index row) (λ n. terms_of_size vs n * 1) cap 256 (λ i l. omega (arith, r.each i l, mul-one (terms_of_size vs i)))
     ∙ ap (λ n. min n cap) (sym all)
 
--- what is counted of a sort's applications, where those of the constructors from this number on are left
+-- what is counted of a sort's applications, if those of the constructors from this number on are left
 pub record IsCountedTo (sig : Sig) (depth cap f : ℕ) (s : SortId) (row : List ℕ) : Type 0 where
   pub long : length row ≡ 256
   pub low : (n : ℕ) → n < 256 → slice_index row n ≤ cap

@@ -15,7 +15,7 @@ use Rattle.refuter.proofs.Chains.{next_value_is}
 use Rattle.refuter.proofs.Steps.{first_left, value_fits, begins, first_on, room_fits, after_last, row_parts, place_some}
 
 module _ (sig : Sig) (depth : ℕ) where
-  -- the first row on some values has the symbols of the first value, and of the first row of the others behind it
+  -- the first row on some values has the symbols of the first value, and of the first row of the others after it
   on_symbols : (ss : List SortId) (bound left : ℕ) (ts : List Tree) (t : Tree) → bound < 4096 → slice_get ts 0 ≡ Some t → tree_size t ≤ room_before sig depth ss bound → left ≡ bound - tree_size t → row_symbols (slice_get (rows_on sig depth ss bound ts) 0) ≡ tree_size t + row_symbols (slice_get (rows_within sig depth ss left) 0)
   on_symbols ss bound left ts t l e fits k = by (slice_get (rows_within sig depth ss left) 0) refl
     where

@@ -1,4 +1,4 @@
--- What is kept over a bank stays right where cells are added.
+-- What is kept over a bank stays right when cells are added.
 use Rattle.std.proofs.Common.{List}
 use Rattle.value_bank.specs.Cells.{Cell, AddsCells}
 use Rattle.value_bank.proofs.Terms.{term_kept, terms_kept}

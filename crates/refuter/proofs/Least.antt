@@ -1,4 +1,4 @@
--- The fewest symbols of a value: no value has fewer, and where it is a number within the limit some value has as many.
+-- The fewest symbols of a value: no value has fewer, and if it is a number within the limit some value has as many.
 use Rattle.std.proofs.Common.{◌≡◌, ℕ, zero, suc, ◌+◌, ◌<◌, ◌≤◌, min, List, [], ◌∷◌, ◌++◌, None, ◌⊎◌, inl, inr, refl, sym, subst, arith}
 use Rattle.std.specs.Prelude.{filter, map, nat_le, slice_get}
 use Rattle.std.specs.List.{flat_map, AllByRecursion}
@@ -95,7 +95,7 @@ module _ (f : SortId → ℕ) where
       let e : filter is_small (F c ++ flat_map F cs) ≡ filter is_small (F c) ++ filter is_small (flat_map F cs) = filter-append is_small (F c) (flat_map F cs) in
       subst (λ xs. AllByRecursion P xs) (sym e) (all_append P (filter is_small (F c)) (filter is_small (flat_map F cs)) (applied_least n c.0 cs c.1 (product (map V c.1)) (rows_least V h c.1)) (all_least V h (lowered n (1 + total f c.1)) cs))
 
-  -- where the sum is below the number that says that there is no value, there is a row of so many symbols
+  -- if the sum is below the number that says that there is no value, there is a row of this many symbols
   row_exists : (V : SortId → List Tree) → ((s : SortId) → IsNumber (f s)) → ((s : SortId) → f s ≤ 255 → (t : Tree) × In t (V s) × (tree_size t ≤ f s)) → (ss : List SortId) → total f ss < 4096 → (r : List Tree) × In r (product (map V ss)) × (sizes (trees_of r) ≤ total f ss)
   unfolding IsNumber
   row_exists V number h [] l = ([], inl refl, omega arith)
@@ -157,7 +157,7 @@ module _ (sig : Sig) where
   pub rows_have : (depth : ℕ) (ss : List SortId) → AllByRecursion (λ r. total (λ u. fewest sig depth u) ss ≤ sizes (trees_of r)) (product (map (λ u. values sig depth u) ss))
   rows_have depth ss = rows_least (λ u. fewest sig depth u) (λ u. values sig depth u) (λ u. fewest_least depth u) ss
 
-  -- where there is room for so many symbols, there is a row
+  -- if there is room for this many symbols, there is a row
   pub row_fits : (depth : ℕ) (ss : List SortId) (bound : ℕ) → total (λ u. fewest sig depth u) ss ≤ bound → bound < 4096 → slice_get (rows_within sig depth ss bound) 0 ≡ None → ⊥
   unfolding rows_within
   row_fits depth ss bound h l e =
@@ -170,7 +170,7 @@ module _ (sig : Sig) where
   unfolding values_within
   none_fits depth s bound h = none_at_most bound (fewest sig depth s) (values sig depth s) (fewest_least depth s) h
 
-  -- where there is room for a value, the depth is at least 1, and the room too
+  -- if there is room for a value, the depth is at least 1, and the room too
   pub some_fits : (depth : ℕ) (s : SortId) (bound : ℕ) → fewest sig depth s ≤ bound → bound < 4096 → (1 ≤ depth) × (1 ≤ bound)
   unfolding fewest IsNumber
   some_fits zero s bound h l = absurd (omega arith)

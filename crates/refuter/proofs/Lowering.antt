@@ -117,7 +117,7 @@ module _ (sig : Sig) where
           numbers = λ s k. h s k ∙ lowered_same (number_in row) (λ u. fewest sig depth u) (λ u q. r.numbers u q) (number_in row s) (fewest sig depth s) (r.numbers s k) (constructors_of sig s) (of_sort s) ∙ sym (fewest_next depth s);
         })
 
-    -- where a pass lowers nothing, no later pass does
+    -- if a pass lowers nothing, no later pass does
     settled : (depth : ℕ) → ((s : SortId) → IsSort sig s → fewest sig (suc depth) s ≡ fewest sig depth s) → (more : ℕ) (s : SortId) → IsSort sig s → fewest sig (more + depth) s ≡ fewest sig depth s
     settled depth h zero s k = ap (λ d. fewest sig d s) (let z : 0 + depth ≡ depth = omega arith in z)
     settled depth h (suc more) s k =
@@ -142,7 +142,7 @@ module _ (sig : Sig) where
               }
         ]
 
-    -- where nothing was lowered, the rows so far serve all depths
+    -- if nothing was lowered, the rows so far serve all depths
     pub rows_end : (rows : List (List ℕ)) (row next : List ℕ) → ((depth : ℕ) (r : List ℕ) → slice_get rows depth ≡ Some r → IsRowOf sig depth r) → IsRowOf sig (length rows) row → length next ≡ length row → next ≡ row → ((s : SortId) → IsSort sig s → number_in next s ≡ lowered_by (number_in row) (number_in row s) (constructors_of sig s)) → (new : List (List ℕ)) → new ≡ rows ++ row ∷ [] → AreRowsOf sig new
     rows_end rows row next each here l same h new e =
         let r = row_more (length rows) row next here l h in

@@ -1,4 +1,4 @@
--- Where a walk stands in the rows of some sorts: the row that it is at, and those that are left.
+-- Where a walk is in the rows of some sorts: the row that it is at, and those that are left.
 use Rattle.std.proofs.Common.{◌≡◌, ℕ, zero, suc, ◌*◌, ◌≤◌, List, [], ◌∷◌, ◌++◌, Bool, true, false, cond, refl, ap, sym, subst, arith, length, take, drop}
 use Rattle.std.specs.Prelude.{map, filter, slice_get, nat_le}
 use Rattle.std.specs.List.{AllByRecursion, Contains, flat_map}
@@ -55,14 +55,14 @@ module _ (sig : Sig) where
   unfolding rows_within
   whole depth ss bound h = all_kept _ (rows_of sig depth ss) (all_true (255 * length ss) bound (rows_of sig depth ss) h (rows_small depth ss))
 
-  -- the first values stand at the places, and then those of the first row that is left
+  -- the first values are at the places, and then those of the first row that is left
   pub record Here (cells : List Cell) (depth : ℕ) (ss : List SortId) (bound : ℕ) (rest : List (List Tree)) (firsts : List Tree) (places : List ℕ) : Type 0 where
     pub row : List Tree
     pub is : rest ≡ row ∷ rows_after sig depth ss bound row
     pub listed : Contains (rows_within sig depth ss bound) row
     pub stand : AreTerms cells places (trees_of (firsts ++ row))
 
-  -- the same; or no row is left, and the first values stand at the places
+  -- the same; or no row is left, and the first values are at the places
   abbrev pub IsAt : List Cell → ℕ → List SortId → ℕ → List (List Tree) → List Tree → List ℕ → Bool → Type 0
   IsAt cells depth ss bound rest firsts places false = (rest ≡ []) × AreTerms cells places (trees_of firsts)
   IsAt cells depth ss bound rest firsts places true = Here cells depth ss bound rest firsts places

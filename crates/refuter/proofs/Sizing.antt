@@ -105,7 +105,7 @@ pub next_place : (old new : List Cell) (values : List Tree) (i p : ℕ) (places 
 next_place old new values i p places after t at adds h here e =
     subst (λ ps. AreTerms new ps (trees_of (take (i + 1) values))) (sym e) (subst (λ us. AreTerms new (places ++ p ∷ []) (trees_of us)) (sym (take_here values i t at)) (joined new places (p ∷ []) (take i values) (t ∷ []) (terms_kept old new places (trees_of (take i values)) adds h) (here, tt)))
 
--- a number that isn't 0 isn't the 0 behind a list
+-- a number that isn't 0 isn't the 0 after a list
 pub not_behind : (xs : List ℕ) (k n : ℕ) → slice_get (xs ++ 0 ∷ []) k ≡ Some n → 0 < n → slice_get xs k ≡ Some n
 not_behind [] zero n e lt =
     let q : Some 0 ≡ Some n = e in

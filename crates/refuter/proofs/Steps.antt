@@ -107,14 +107,14 @@ module _ (sig : Sig) where
   unfolding made_from constructors_after
   made_none depth s bound f h = let z : sig.constructors - f ≡ 0 = omega arith in rw z refl
 
-  -- the first application of a constructor, or of a later one where there is no row for this one
+  -- the first application of a constructor, or of a later one if there is no row for this one
   pub made_first : (depth : ℕ) (s : SortId) (bound f : ℕ) (i : SymInfo) (r : List Tree) → info_of sig f ≡ Some i → f < sig.constructors → i.result.0 ≡ s.0 → slice_get (rows_within sig depth i.args (room_within sig bound)) 0 ≡ Some r → slice_get (made_from sig depth s bound f) 0 ≡ Some (app f (trees_of r))
   made_first depth s bound f i r at h q e = ap (λ xs. slice_get xs 0) (made_here depth s bound f i at h q) ∙ first_left (λ x. app f (trees_of x)) (rows_within sig depth i.args (room_within sig bound)) (made_from sig depth s bound (f + 1)) r e
 
   pub made_later : (depth : ℕ) (s : SortId) (bound f : ℕ) (i : SymInfo) → info_of sig f ≡ Some i → f < sig.constructors → i.result.0 ≡ s.0 → slice_get (rows_within sig depth i.args (room_within sig bound)) 0 ≡ None → slice_get (made_from sig depth s bound f) 0 ≡ slice_get (made_from sig depth s bound (f + 1)) 0
   made_later depth s bound f i at h q e = ap (λ xs. slice_get xs 0) (made_here depth s bound f i at h q) ∙ first_right (λ x. app f (trees_of x)) (rows_within sig depth i.args (room_within sig bound)) (made_from sig depth s bound (f + 1)) e
 
-  -- where the fewest symbols are more, there is no value
+  -- if the fewest symbols are more, there is no value
   pub first_none : (depth : ℕ) (s : SortId) (bound least : ℕ) → least ≡ fewest sig depth s → bound < least → None ≡ slice_get (values_within sig depth s bound) 0
   first_none depth s bound least e h = sym (ap (λ xs. slice_get xs 0) (none_fits sig depth s bound (omega arith)))
 
@@ -139,12 +139,12 @@ module _ (sig : Sig) where
   unfolding rows_on
   none_on depth ss bound ts e = ap (λ us. flat_map (λ u. map (λ y. u ∷ y) (rows_within sig depth ss (bound - tree_size u))) us) (no_first ts e)
 
-  -- where a value leaves room for the fewest symbols of the others, these have a row
+  -- if a value leaves room for the fewest symbols of the others, these have a row
   pub room_fits : (depth : ℕ) (ss : List SortId) (bound : ℕ) (t : Tree) → bound < 4096 → tree_size t ≤ room_before sig depth ss bound → slice_get (rows_within sig depth ss (bound - tree_size t)) 0 ≡ None → ⊥
   unfolding room_before
   room_fits depth ss bound t l h e = row_fits sig depth ss (bound - tree_size t) (let w = size_positive t in omega arith) (omega arith) e
 
-  -- a first value, and the first row of the others behind it
+  -- a first value, and the first row of the others after it
   goes_on : (cells : List Cell) (depth : ℕ) (ss : List SortId) (bound left : ℕ) (ts : List Tree) (t : Tree) (p : ℕ) (kept mid row : List ℕ) (answer : Bool) → bound < 4096 → slice_get ts 0 ≡ Some t → IsTerm cells p t → tree_size t ≤ room_before sig depth ss bound → left ≡ bound - tree_size t → mid ≡ kept ++ p ∷ [] → GoesOn cells mid (slice_get (rows_within sig depth ss left) 0) row answer → GoesOn cells kept (slice_get (rows_on sig depth ss bound ts) 0) row answer
   goes_on cells depth ss bound left ts t p kept mid row answer l e at h k m g =
       elim (split_bool answer) [
@@ -296,7 +296,7 @@ application_at cells p f places (app g ts) at (ps, there, h) =
     let all : AreTerms cells places ts = subst (λ qs. AreTerms cells qs ts) (sym e.1) h in
     (list_of ts, ap (λ us. app f us) (trees_of-list_of ts) ∙ ap (λ g. app g ts) e.0, subst (λ us. AreTerms cells places us) (sym (trees_of-list_of ts)) all)
 
--- the places behind a row
+-- the places after a row
 pub behind_row : (old row places xs : List ℕ) (start : ℕ) → row ≡ old ++ places → start ≡ length old → xs ≡ row → take (length xs - start) (drop start xs) ≡ places
 behind_row old row places xs start r n x =
     let whole : take (length xs - start) (drop start xs) ≡ drop start xs = take_all (length xs - start) (drop start xs) (omega (arith, length-drop start xs)) in
@@ -375,7 +375,7 @@ whole_taken cells sig depth ss bound place row values e h a =
     elim (subst (λ xs. In values xs) k a) [ inl v ↦ all_taken row place (no_places cells (drop place row) (subst (λ vs. AreTerms cells (drop place row) (trees_of vs)) v h)) | inr v ↦ absurd v ]
 
 module _ (sig : Sig) (depth : ℕ) (s : SortId) (bound f : ℕ) (args : List Tree) (t : Tree) where
-  -- what an application is where it is a value
+  -- what an application is if it is a value
   pub application_is : In t (values_within sig depth s bound) → app f (trees_of args) ≡ t → (1 ≤ depth) × (f < sig.constructors) × (f < length sig.table)
   application_is a e =
       let w = value_parts sig depth s bound t a in

@@ -37,7 +37,7 @@ module _ (f g : ℕ → ℕ) where
   sums_add zero = refl
   sums_add (suc m) = omega (arith, sums_add m)
 
-  -- sums are the same up to a cap where their summands are
+  -- sums are the same up to a cap if their summands are
   pub sums_capped : (cap m : ℕ) → ((i : ℕ) → i < m → min (f i) cap ≡ min (g i) cap) → min (sum_below m f) cap ≡ min (sum_below m g) cap
   unfolding sum_below
   sums_capped cap zero h = refl
@@ -48,7 +48,7 @@ unfolding sum_below
 sum_zero f zero h = refl
 sum_zero f (suc m) h = omega (arith, sum_zero f m (λ i l. h i (omega arith)), h m (omega arith))
 
--- of the products with 1 at one place one is left, or none where the place isn't among the first
+-- of the products with 1 at one place one is left, or none if the place isn't among the first
 pub sum_without : (h : ℕ → ℕ) (k m : ℕ) → m ≤ k → sum_below m (λ i. one_at k i * h i) ≡ 0
 sum_without h k m l = sum_zero (λ i. one_at k i * h i) m (λ i b. ap (λ n. n * h i) (at_other k i (λ q. omega arith)) ∙ zero-mul (h i))
 

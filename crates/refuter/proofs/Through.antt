@@ -27,7 +27,7 @@ use Rattle.refuter.proofs.Progress.{Here, IsAt, whole, starts, moves, here, none
 use Rattle.refuter.proofs.Steps.{at_places}
 
 module _ (spec : Spec) (goal : Goal) (budget tries depth bound : ℕ) where
-  -- the first values of a row are fixed; so many of the rows of the next sorts are done, and the walk is at the others
+  -- the first values of a row are fixed; this many rows of the next sorts are done, and the walk is at the others
   pub record Through (firsts others : List SortId) (begun cells : List Cell) (old places : List ℕ) (start : ℕ) (before after : Tally) (more : Bool) : Type 0 where
     pub values : List Tree
     pub sorts : List SortId
@@ -123,7 +123,7 @@ module _ (spec : Spec) (goal : Goal) (budget tries depth bound : ℕ) where
         let all : block spec.sig depth t.values (firsts ++ others) ≡ flat_map F t.done = block_parted spec.sig depth t.values firsts others ∙ ap (λ xs. flat_map F xs) rows in
         at_places begun old (λ vs. LooksOver spec goal budget tries (block spec.sig depth vs (firsts ++ others)) before after Whole) t.values t.first (subst (λ xs. LooksOver spec goal budget tries xs before after Whole) (sym all) t.looked)
 
-    -- the first values stand again where no row is left
+    -- the first values are there again if no row is left
     pub through_stays : (begun cells : List Cell) (old places : List ℕ) (start : ℕ) (before after : Tally) (more : Bool) → more ≡ false → Through firsts others begun cells old places start before after more → (vs : List Tree) → AreTerms begun old (trees_of vs) → AreTerms cells places (trees_of vs)
     through_stays begun cells old places start before after more e t =
         at_places begun old (λ vs. AreTerms cells places (trees_of vs)) t.values t.first (none_left spec.sig cells depth firsts bound t.rest t.values places more e t.at).1

@@ -92,7 +92,7 @@ module _ (spec : Spec) (goal : Goal) (depth : ℕ) (sig : Sig) (bound : ℕ) (si
     pub begun_again : (now : List Cell) (there : List ℕ) → AreTerms now there (trees_of firsts) → IsBegun spec.sig depth (sorts_of goal.vars) now there others firsts
     begun_again now there h = record { sorts = b.sorts; parted = b.parted; listed = b.listed; stand = h }
 
-    -- where the row goes on with the first values of the others
+    -- if the row goes on with the first values of the others
     pub record FirstRow (now : List Cell) (row : List ℕ) : Type 0 where
       pub rest : List Tree
       pub first : slice_get (block spec.sig depth firsts others) 0 ≡ Some (firsts ++ rest)
@@ -129,7 +129,7 @@ module _ (spec : Spec) (goal : Goal) (depth : ℕ) (sig : Sig) (bound : ℕ) (si
       let l : length ss ≡ length (sorts_of goal.vars) = ap (λ xs. length xs) e in
       ap (λ (s : Sig). rows_within s depth ss bound) w.walks ∙ whole spec.sig depth ss bound (omega arith)
 
-  -- where it finds a first row there are rows, and else none
+  -- if it finds a first row there are rows, and else none
   pub rows_some : (cells : List Cell) (kept row : List ℕ) (more : Bool) (ss : List SortId) → ss ≡ sorts_of goal.vars → more ≡ true → GoesOn cells kept (slice_get (rows_within sig depth ss bound) 0) row more → 0 < length (rows_of spec.sig depth ss)
   rows_some cells kept row more ss e m g =
       let h = goes_true cells kept (slice_get (rows_within sig depth ss bound) 0) row more g m in

@@ -22,11 +22,11 @@ module _ (sig : Sig) where
   unfoldable pub constructors_after : ℕ → SortId → List (ℕ × List SortId)
   constructors_after f s = constructors_from f (sig.constructors - f) s (drop f sig.table)
 
-  -- the room for the arguments where an application has at most so many symbols
+  -- the room for the arguments if an application has at most this many symbols
   unfoldable pub room_within : ℕ → ℕ
   room_within bound = min bound 255 - 1
 
-  -- the constructor's applications of at most one more than this depth and at most so many symbols
+  -- the constructor's applications of at most one more than this depth and at most this many symbols
   unfoldable pub applications : ℕ → ℕ → ℕ × List SortId → List Tree
   applications depth bound c =
       map (λ ts. app c.0 (trees_of ts)) (rows_within sig depth c.1 (room_within bound))
@@ -40,7 +40,7 @@ module _ (sig : Sig) where
   rows_on depth ss bound ts =
       flat_map (λ t. map (λ r. t ∷ r) (rows_within sig depth ss (bound - tree_size t))) ts
 
-  -- the room for the first value where the fewest symbols of the others are left free
+  -- the room for the first value if the fewest symbols of the others are left free
   unfoldable pub room_before : ℕ → List SortId → ℕ → ℕ
   room_before depth ss bound = bound - total (λ s. fewest sig depth s) ss
 

@@ -21,7 +21,7 @@ module _ (sig : Sig) (depth : ℕ) where
   abbrev pub block : List Tree → List SortId → List (List Tree)
   block firsts ss = map (λ rest. firsts ++ rest) (rows_of ss)
 
-  -- values of the first of all sorts stand at the places, and these others are left
+  -- values of the first of all sorts are at the places, and these others are left
   pub record IsBegun (all : List SortId) (cells : List Cell) (places : List ℕ)
       (others : List SortId) (firsts : List Tree) : Type 0 where
     pub sorts : List SortId

@@ -6,10 +6,10 @@ use Rattle.spec_core.specs.Shapes.{shape, tree_sig}
 use Rattle.refuter.specs.Counts.{values_of_size}
 
 pub record WorkedExamples : Type 0 where
-  -- seven naturals have a depth of at most 7, and there is no value where succ is the one constructor
+  -- seven naturals have a depth of at most 7, and there is no value if succ is the one constructor
   pub naturals : min (length (values naturals_sig 7 nat)) 100 ≡ 7
   pub endless : min (length (values endless_sig 7 nat)) 100 ≡ 0
-  -- five trees of node(Tree, Tree) | leaf have a depth of at most 3, four where 4 is the cap, and
+  -- five trees of node(Tree, Tree) | leaf have a depth of at most 3, four if 4 is the cap, and
   -- none has depth 0
   pub trees : min (length (values tree_sig 3 shape)) 100 ≡ 5
   pub capped_trees : min (length (values tree_sig 3 shape)) 4 ≡ 4

@@ -9,16 +9,16 @@ abbrev pub total : (SortId → ℕ) → List SortId → ℕ
 total f [] = 0
 total f (s ∷ ss) = f s + total f ss
 
--- the number, or the other where that is less and at most 255
+-- the number, or the other if that is less and at most 255
 unfoldable pub lowered : ℕ → ℕ → ℕ
 lowered number other = if nat_le other 255 then min number other else number
 
--- the number, lowered by an application of each constructor to arguments of so many symbols
+-- the number, lowered by an application of each constructor to arguments of this many symbols
 abbrev pub lowered_by : (SortId → ℕ) → ℕ → List (ℕ × List SortId) → ℕ
 lowered_by f number [] = number
 lowered_by f number (c ∷ cs) = lowered_by f (lowered number (1 + total f c.1)) cs
 
--- the fewest symbols of a value of the sort with at most this depth, or 4096 where there is no value
+-- the fewest symbols of a value of the sort with at most this depth, or 4096 if there is no value
 unfoldable pub fewest : Sig → ℕ → SortId → ℕ
 fewest sig zero s = 4096
 fewest sig (suc depth) s =

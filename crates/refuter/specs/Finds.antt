@@ -17,7 +17,7 @@ module _ (spec : Spec) (goal : Goal) (budget : ℕ) where
       (k : ℕ) (row : List Tree) → k < count → slice_get rows k ≡ Some row
       → IsVerdict spec row budget goal Fails → ⊥
 
-  -- so many of the rows have the verdict Spent
+  -- this many of the rows have the verdict Spent
   abbrev pub SpentRows : List (List Tree) → ℕ → Type 0
   SpentRows [] n = n ≡ 0
   SpentRows (row ∷ rows) n =

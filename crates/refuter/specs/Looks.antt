@@ -28,7 +28,7 @@ IsAnswerOf Cut tally search = search ≡ NotFound tally.tried tally.skipped true
 IsAnswerOf (Found row) tally search = search ≡ IsFound tally.tried row
 
 module _ (spec : Spec) (goal : Goal) (budget : ℕ) where
-  -- none of the rows has the verdict Fails, and so many have the verdict Spent
+  -- none of the rows has the verdict Fails, and this many have the verdict Spent
   abbrev pub Passes : List (List Tree) → ℕ → Type 0
   Passes rows spent =
       NoOverlap spec → GroupsAreWhole spec

@@ -11,13 +11,13 @@ module _ (walk : Walk) where
   abbrev pub most_cells : ℕ
   most_cells = 2 ^ 18 + most_looked walk.prepared.now walk.budget
 
-  -- there are at most so many cells where all rows were looked at, and else those of one row more
+  -- there are at most this many cells if all rows were looked at, and else those of one row more
   abbrev pub HasAtMost : ℕ → List Cell → Look → Type 0
   HasAtMost most cells Whole = length cells ≤ most
   HasAtMost most cells Cut = length cells ≤ most + walk.bound
   HasAtMost most cells (Found row) = length cells ≤ most + walk.bound
 
-  -- however many cells there were, a look leaves at most so many; where the tries are used up, at
+  -- however many cells there were, a look leaves at most this many; if the tries are used up, at
   -- most as many or those that there were
   abbrev pub LeavesFew : List Cell → List Cell → Look → Type 0
   LeavesFew old new Whole = length new ≤ most_cells

@@ -6,14 +6,14 @@ use Rattle.spec_core.specs.WellSorted.{HasFewArguments}
 use Rattle.value_bank.specs.Cells.{Cell, IsTerm, AreTerms}
 use Rattle.refuter.specs.Fewest.{AreRowsOf}
 
--- the value stands at the place, or there is neither
+-- the value is at the place, or there is neither
 abbrev pub IsPlaceOf : List Cell → Option Tree → Option ℕ → Type 0
 IsPlaceOf cells None None = Unit {0}
 IsPlaceOf cells None (Some place) = ⊥
 IsPlaceOf cells (Some value) None = ⊥
 IsPlaceOf cells (Some value) (Some place) = IsTerm cells place value
 
--- the row has places of these values behind those that are kept, and the answer says whether there
+-- the row has places of these values after those that are kept, and the answer says whether there
 -- are any
 abbrev pub GoesOn : List Cell → List ℕ → Option (List Tree) → List ℕ → Bool → Type 0
 GoesOn cells kept None row answer = (answer ≡ false) × (row ≡ kept)

@@ -10,6 +10,6 @@ sum_below (suc k) f = sum_below k f + f k
 unfoldable pub convolution : (ℕ → ℕ) → (ℕ → ℕ) → ℕ → ℕ
 convolution f g n = sum_below (n + 1) (λ i. f i * g (n - i))
 
--- the sequence, begun so many places later
+-- the sequence, begun this many places later
 unfoldable pub shifted : ℕ → (ℕ → ℕ) → ℕ → ℕ
 shifted k f n = if nat_le k n then f (n - k) else 0

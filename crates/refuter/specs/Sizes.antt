@@ -4,7 +4,7 @@ use Rattle.std.specs.List.{AllByRecursion}
 use Rattle.term_core.specs.Tree.{Tree, tree_size, sizes as symbols, trees_of}
 use Rattle.value_bank.specs.Cells.{Cell, IsTerm, AreTerms}
 
--- the value at the place has so many symbols, or at least 4096 where it is this number
+-- the value at the place has this many symbols, or at least 4096 if it is this number
 abbrev pub GivesSize : List Cell → ℕ → ℕ → Type 0
 GivesSize cells place size = (t : Tree) × IsTerm cells place t × (size ≡ min (tree_size t) 4096)
 
@@ -13,7 +13,7 @@ unfoldable pub AreSizes : List Cell → List ℕ → Type 0
 AreSizes cells kept =
     (place size : ℕ) → slice_get kept place ≡ Some size → 0 < size → GivesSize cells place size
 
--- the number, where it isn't 0, is that of the symbols of a value with arguments at these places
+-- the number, if it isn't 0, is that of the symbols of a value with arguments at these places
 abbrev pub IsSizeBy : List ℕ → List ℕ → ℕ → Type 0
 IsSizeBy kept args size =
     0 < size → (cells : List Cell) → AreSizes cells kept
@@ -26,7 +26,7 @@ IsNoted old place size new =
     (k n : ℕ) → slice_get new k ≡ Some n → 0 < n
     → ((k ≡ place) × (n ≡ size)) ⊎ (slice_get old k ≡ Some n)
 
--- values of at most 255 symbols stand at the places
+-- values of at most 255 symbols are at the places
 abbrev pub CanRead : List Cell → List ℕ → Type 0
 CanRead cells places =
     (row : List Tree) × AreTerms cells places (trees_of row)

@@ -1,4 +1,4 @@
--- What a walk over the substitutions of a goal stands on, and what its looks answer.
+-- What a walk over the substitutions of a goal builds on, and what its looks answer.
 use Rattle.std.specs.Prelude.{◌≡◌, ℕ, ◌*◌, ◌<◌, List, Some, length, slice_get}
 use Rattle.term_core.specs.Tree.{Tree, trees_of}
 use Rattle.term_core.specs.declared.ids.SortId.{SortId}
@@ -43,7 +43,7 @@ module _ (walk : Walk) where
   abbrev pub AreKept : List Cell → Tables → Type 0
   AreKept cells tables = AreRightTables walk.prepared.now cells tables
 
-  -- values for the first variables stand at the places, and these sorts are left
+  -- values for the first variables are at the places, and these sorts are left
   abbrev pub HasBegun : List Cell → List ℕ → List SortId → List Tree → Type 0
   HasBegun cells places others firsts =
       IsBegun spec_of.sig walk.depth (sorts_of goal_of.vars) cells places others firsts
@@ -68,7 +68,7 @@ module _ (walk : Walk) where
       → LooksOver spec_of goal_of walk.budget walk.tries
       (block spec_of.sig walk.depth firsts ss) old new look
 
--- where all rows were looked at, the values at the old places stand at the new ones
+-- if all rows were looked at, the values at the old places are at the new ones
 abbrev pub StandsAgain : List Cell → List ℕ → List Cell → List ℕ → Look → Type 0
 StandsAgain cells places now there look =
     look ≡ Whole → (firsts : List Tree)

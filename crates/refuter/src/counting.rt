@@ -14,7 +14,7 @@ use term_core::{OutOfMemory, Seq, SortId, SymId, front};
 /// How many numbers of symbols there are, from 0 to that of the largest value.
 const SIZES: usize = MOST_SYMBOLS as usize + 1;
 
-/// How many values of at most this depth the sort has, or `cap` where that is less. They are
+/// How many values of at most this depth the sort has, or `cap` if that is less. They are
 /// counted by their number of symbols, and none is made: an argument of a constructor costs some
 /// 2^15 products at each depth.
 pub fn count(
@@ -33,7 +33,7 @@ pub fn count(
 }
 
 /// How many values of at most a depth each sort has. Contracts see the signature, the depth and the
-/// cap. The table has by sort and number of symbols how many values there are, or the cap where
+/// cap. The table has by sort and number of symbols how many values there are, or the cap if
 /// that is less: sums and products of such numbers are exact up to the cap.
 #[derive(Drop)]
 pub(crate) struct Counts<'a> {
@@ -70,7 +70,7 @@ impl<'a> Counts<'a> {
         Ok(counts)
     }
 
-    /// How many values the sort has, or the cap where that is less.
+    /// How many values the sort has, or the cap if that is less.
     pub(crate) fn of(&self, sort: SortId) -> u32
         requires { IsSort self.now.sig sort }
         ensures { result ≡ min (length (values self.now.sig self.now.depth sort)) self.now.cap }
@@ -83,7 +83,7 @@ impl<'a> Counts<'a> {
         total
     }
 
-    /// How many values of the sort have so many symbols, by this number.
+    /// How many values of the sort have this many symbols, by this number.
     fn values(&self, sort: SortId) -> &[u32]
         requires { IsSort self.now.sig sort }
         ensures { IsCapped self.now.cap (values_of_size self.now.sig self.now.depth sort)
@@ -127,7 +127,7 @@ impl<'a> Counts<'a> {
         })
     }
 
-    /// How many values of the sort with one more depth have so many symbols: the applications of
+    /// How many values of the sort with one more depth have this many symbols: the applications of
     /// each of its constructors.
     fn applications(&self, alloc: Global, sort: SortId) -> Result<Seq<u32>, OutOfMemory>
         ensures { IfOk result
@@ -146,7 +146,7 @@ impl<'a> Counts<'a> {
         Ok(Seq::from_vec(numbers))
     }
 
-    /// How many rows of values of the sorts have so many symbols altogether.
+    /// How many rows of values of the sorts have this many symbols altogether.
     fn value_rows(&self, alloc: Global, sorts: &[SortId]) -> Result<Seq<u32>, OutOfMemory>
         requires { AllByRecursion (IsSort self.now.sig) sorts.now }
         ensures { IfOk result
@@ -160,7 +160,7 @@ impl<'a> Counts<'a> {
     }
 }
 
-/// One row has no symbols, where there are no sorts.
+/// One row has no symbols, if there are no sorts.
 fn one_empty_row(alloc: Global, cap: u32) -> Result<Seq<u32>, OutOfMemory>
     ensures { IfOk result (IsCapped cap (rows_of_size ([] ∷ []))) }
 {
@@ -187,7 +187,7 @@ fn convolve(alloc: Global, first: &[u32], rest: &[u32], cap: u32) -> Result<Seq<
     Ok(Seq::from_vec(numbers))
 }
 
-/// Adds so many times the others to the numbers from this place on.
+/// Adds this many times the others to the numbers from this place on.
 fn add_multiple(numbers: &mut [u32], factor: u32, others: &[u32], place: usize, cap: u32)
     requires numbers { length numbers.old ≡ 256 }
     requires others { length others.now ≡ 256 }

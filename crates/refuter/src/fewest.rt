@@ -12,7 +12,7 @@ use term_core::{OutOfMemory, Seq, SortId, SymId};
 /// The symbols of the largest value that is tried.
 pub(crate) const MOST_SYMBOLS: u32 = SMALL_VALUE_SYMBOLS as u32;
 
-/// Stands for the size of a value where there is none. Sixteen values have fewer symbols.
+/// Stands for the size of a value if there is none. Sixteen values have fewer symbols.
 pub(crate) const NO_VALUE: u32 = 4096;
 
 /// By depth and sort the fewest symbols of a value of at most that depth. The last row serves all
@@ -60,7 +60,7 @@ fn lower_all(sig: &Signature, row: &[u32], next: &mut [u32]) -> bool
     lowered
 }
 
-/// The sum of the sorts' numbers, or 4096 where that is less.
+/// The sum of the sorts' numbers, or 4096 if that is less.
 pub(crate) fn total_size(row: &[u32], sorts: &[SortId]) -> u32
     requires { AllByRecursion (λ s. s.0 < length row.now) sorts.now }
     ensures { result ≡ min (total (number_in row.now) sorts.now) 4096 }

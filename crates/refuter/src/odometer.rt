@@ -18,10 +18,10 @@ use std::marker::Model;
 use term_core::{OutOfMemory, Seq, SortId, SymId, front};
 
 /// Goes from one row of values to the next, in the order of a search. Contracts see the signature.
-/// The last value that can move does, and the values after it begin anew (Knuth, The Art of
+/// The last value that can move does, and the values after it begin again (Knuth, The Art of
 /// Computer Programming 4A, 2011, 7.2.1.1, Algorithm M), inside the values too. A value may take
-/// what the bound leaves where the values before it are counted in full and those after it with
-/// their fewest symbols, so that each row that is begun can be completed. Values stand in a bank,
+/// what the bound leaves if the values before it are counted in full and those after it with
+/// their fewest symbols, so that each row that is begun can be completed. Values are in a bank,
 /// and a row has their places: a step makes no more than the values that move.
 #[derive(Drop)]
 pub(crate) struct Odometer<'a> {
@@ -66,7 +66,7 @@ impl<'a> Odometer<'a> {
         self.sizes_at(depth)[sort.0 as usize]
     }
 
-    /// What a first value may take of the bound, where the others are as small as can be.
+    /// What a first value may take of the bound, if the others are as small as can be.
     fn room_before(&self, depth: u32, others: &[SortId], bound: u32) -> u32
         requires sorts { AllByRecursion (IsSort self.now) others.now }
         requires few { bound < 4096 }
@@ -108,8 +108,8 @@ impl<'a> Odometer<'a> {
         }
     }
 
-    /// The place of the first value of the sort with at most this depth and so many symbols. It
-    /// isn't looked for where the fewest symbols are more: each constructor would be tried at each
+    /// The place of the first value of the sort with at most this depth and this many symbols. It
+    /// isn't looked for if the fewest symbols are more: each constructor would be tried at each
     /// depth. The row serves as room for arguments.
     #[cycle(first)]
     fn first_value(
@@ -136,8 +136,8 @@ impl<'a> Odometer<'a> {
         self.first_made(alloc, bank, sort, depth - 1, bound, 0, row)
     }
 
-    /// The place of the first application of at most so many symbols of a constructor of the sort,
-    /// from this number on, to arguments of at most this depth.
+    /// The place of the first application of at most this many symbols of a constructor of the
+    /// sort, from this number on, to arguments of at most this depth.
     #[cycle(first)]
     fn first_made(
         &self,
@@ -173,7 +173,7 @@ impl<'a> Odometer<'a> {
     }
 
     /// Moves the values from this place on to the next row of the sorts, and says whether there is
-    /// one. Where there is none, it takes them away.
+    /// one. If there is none, it takes them away.
     #[cycle(next)]
     pub(crate) fn advance(
         &self,

@@ -4,9 +4,9 @@ use term_core::Terms;
 /// What is to be done with the members that begin with some values.
 #[derive(Drop)]
 pub(crate) enum Asked {
-    /// All have this verdict, and there are so many.
+    /// All have this verdict, and there are this many.
     Block { verdict: Verdict, size: u32 },
-    /// So many more values are to be fixed.
+    /// This many more values are to be fixed.
     Split(usize),
 }
 

@@ -23,10 +23,10 @@ const MOST_COUNTED: u32 = 8;
 
 /// Looks for the first counterexample among the first `tries` members of the goal's substitutions
 /// of this depth. Each side has the whole budget. Members that begin with the same values and have
-/// one verdict are tried in one turn, where evaluation doesn't look at the values that follow. The
+/// one verdict are tried in one turn, if evaluation doesn't look at the values that follow. The
 /// memory doesn't grow with the number of tries: a look at some members begins with at most 2^18
 /// shared values, and leaves at most those, what one verdict may add, and 255 for each variable.
-/// That stands in the contract of each look, since the values are gone when the search ends. What
+/// That is in the contract of each look, since the values are gone when the search ends. What
 /// calls gave is kept from one look to the next, in one table of fixed size.
 pub fn search(
     alloc: Global,
@@ -41,7 +41,7 @@ pub fn search(
     ensures finds { IfOk result (λ r. NoOverlap spec.now → GroupsAreWhole spec.now
         → Finds spec.now goal.now budget tries (substitutions spec.now goal.now depth) r) }
 
-    // A counterexample is one also where left sides overlap or groups aren't whole.
+    // A counterexample is one also if left sides overlap or groups aren't whole.
     ensures found { IfOk result
         (IsFalse spec.now goal.now tries (substitutions spec.now goal.now depth)) }
 {
@@ -50,7 +50,7 @@ pub fn search(
     search_prepared(alloc, spec, goal, &prepared, depth, tries, budget)
 }
 
-/// The same, where the goal is prepared.
+/// The same for a goal that is prepared.
 fn search_prepared(
     alloc: Global,
     spec: &Spec,
@@ -95,7 +95,7 @@ pub(crate) fn sorts_of_vars(alloc: Global, vars: &[VarInfo]) -> Result<Seq<SortI
     Ok(sorts)
 }
 
-/// The numbers of rows of values of the last sorts, first of none of them and last of all, where the
+/// The numbers of rows of values of the last sorts, first of none of them and last of all, if the
 /// values are counted.
 fn block_sizes(
     alloc: Global,

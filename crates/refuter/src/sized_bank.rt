@@ -79,7 +79,7 @@ impl SizedBank {
         Ok(place)
     }
 
-    /// The number of symbols of the value at a place, or `bound` where that is less.
+    /// The number of symbols of the value at a place, or `bound` if that is less.
     pub(crate) fn size(&mut self, alloc: Global, place: u32, bound: u32) -> Result<u32, OutOfMemory>
         requires there { (t : Tree) × IsTerm self.old place t }
         requires few { bound < 4096 }
@@ -199,7 +199,7 @@ fn known_size(sizes: &[u32], place: u32) -> u32
     }
 }
 
-/// The number of symbols of a value with arguments at these places, or 0 where one isn't known.
+/// The number of symbols of a value with arguments at these places, or 0 if one isn't known.
 fn size_by(sizes: &[u32], args: &[u32]) -> u32
     ensures { IsSizeBy sizes.now args.now result }
 {

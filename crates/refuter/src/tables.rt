@@ -8,7 +8,7 @@ use ground_eval::ConstantMarks;
 use std::alloc::Global;
 
 /// What a search keeps over its bank from one verdict to the next: what calls gave, and in which
-/// values a constant for a variable stands.
+/// values a constant for a variable occurs.
 #[derive(Drop)]
 pub(crate) struct Tables {
     pub(crate) kept: KeptCalls,

@@ -25,7 +25,7 @@ use ground_eval::{Part, PartialGoal, Verdict};
 use std::alloc::Global;
 use term_core::{OutOfMemory, SortId, Terms};
 
-/// A search begins its bank anew, between two looks, where it has more cells than these.
+/// A search begins its bank again, between two looks, if it has more cells than these.
 const MANY_CELLS: usize = 1 << 18;
 
 /// A block of fewer members isn't asked for its verdict: to ask for that of each member is as fast.
@@ -35,13 +35,13 @@ const FEW_MEMBERS: u32 = 10;
 const UNKNOWN: u32 = u32::MAX;
 
 /// A walk over the members of a goal's substitutions. The members that begin with the same values
-/// are a block. Where they have one verdict, they are passed over in one turn, and else the values
+/// are a block. If they have one verdict, they are passed over in one turn, and else the values
 /// of the next variables are gone through, up to one on which the verdict may depend.
 #[derive(Drop)]
 pub(crate) struct Walk<'a> {
     pub(crate) prepared: &'a PartialGoal<'a>,
     pub(crate) odometer: &'a Odometer<'a>,
-    /// By the number of values that are left: how many members a block has, where it is known.
+    /// By the number of values that are left: how many members a block has, if it is known.
     pub(crate) sizes: &'a [u32],
     pub(crate) depth: u32,
     pub(crate) bound: u32,
@@ -84,9 +84,9 @@ impl<'a> Walk<'a> {
         Ok(answer(look, &tally))
     }
 
-    /// Looks at the block of the row, where values of these sorts are left. However large the bank
+    /// Looks at the block of the row, with values of these sorts left. However large the bank
     /// was, it has at most 2^18 cells afterwards, and what one verdict may add, and one row more
-    /// where the look ends before the block does; it stays as it was where no try is left. So the
+    /// if the look ends before the block does; it stays as it was if no try is left. So the
     /// number of tries doesn't count.
     #[cycle(look)]
     fn look(
@@ -233,7 +233,7 @@ impl<'a> Walk<'a> {
         }
     }
 
-    /// How many rows of values of these last sorts there are, where that is known.
+    /// How many rows of values of these last sorts there are, if that is known.
     fn size(&self, sorts: &[SortId]) -> Option<u32>
         requires walk { IsWalk self.now }
         requires last { (before : List SortIdOf)
@@ -346,7 +346,7 @@ fn answer(look: Look, tally: &Tally) -> Search
     }
 }
 
-/// Begins the bank anew where it has many cells, and with it what is kept over it. The values
+/// Begins the bank again if it has many cells, and with it what is kept over it. The values
 /// of the row are put into the bank again.
 fn make_room(
     alloc: Global,

@@ -37,7 +37,7 @@ module _ (above : Tree → Tree → Type 0) (c : Clause) (nodes others : List Cl
   node_back number same at = record { clause = at.clause; is = same ∙ at.is }
 
   module _ (spec : Spec) (usable : ℕ → Type 0) where
-    -- so does the row of a step, where the node that it refers to has the same clause
+    -- so does the row of a step, if the node that it refers to has the same clause
     row_over : (step : Step) (answer : Result Children Why) → ((k : ℕ) → referred step ≡ Some k → slice_get nodes k ≡ slice_get others k) → Says above c nodes (row_of spec usable nodes c step) answer → Says above c nodes (row_of spec usable others c step) answer
     row_over (Subsume node terms) answer same (inl h) = inl (node_too node (same node refl) h.0, h.1)
     row_over (Subsume node terms) answer same (inr h) = inr (λ at. h.0 (node_back node (same node refl) at), h.1)
@@ -48,7 +48,7 @@ module _ (above : Tree → Tree → Type 0) (c : Clause) (nodes others : List Cl
     pub step_over : (step : Step) (answer : Result Children Why) → ((k : ℕ) → referred step ≡ Some k → slice_get nodes k ≡ slice_get others k) → Says above c nodes (row_of spec usable nodes c step) answer → Says above c others (row_of spec usable others c step) answer
     step_over step answer same h = says_over (row_of spec usable others c step) answer (row_over step answer same h)
 
--- behind lists of one length stand the same clauses
+-- after lists of one length come the same clauses
 pub same_joined : (xs ys zs : List Clause) (k : ℕ) → length xs ≡ length ys → slice_get xs k ≡ slice_get ys k → slice_get (xs ++ zs) k ≡ slice_get (ys ++ zs) k
 same_joined [] [] zs k long same = refl
 same_joined [] (y ∷ ys) zs k long same = absurd (omega (arith, long))
@@ -71,7 +71,7 @@ each_exchanged P x p (y ∷ ys) zero each (suc k) d at = each (suc k) d at
 each_exchanged P x p (y ∷ ys) (suc i) each zero d at = each 0 d at
 each_exchanged P x p (y ∷ ys) (suc i) each (suc k) d at = each_exchanged P x p ys i (λ j e get. each (suc j) e get) k d at
 
--- a clause without sides can stand in a block
+-- a clause without sides can be in a block
 empty_node : (sig : Sig) → IsNode sig without_sides
 empty_node sig = record {
   sorted = record { variables = tt; premises = λ k e is. absurd (none-some e is); conclusions = λ k e is. absurd (none-some e is) };
@@ -102,7 +102,7 @@ one_goes lasts k node old new here last nodes links = record {
     another j (inl lt) e = omega (arith, lt, here, e)
     another j (inr lt) e = let h : k < slice_index_or lasts node 0 = subst (λ i. k < slice_index_or lasts i 0) e lt in omega (arith, h, last)
 
--- what is needed from a step on is needed behind the step before it, and from that step on
+-- what is needed from a step on is needed after the step before it, and from that step on
 pub needed_behind : (steps : List Step) (lasts : List ℕ) → length lasts ≡ length steps → TellLastUses steps lasts → (i : ℕ) → i < length steps → (node : ℕ) → IsNeededFrom steps (i + 1) node → IsNeededBehind lasts i node
 needed_behind steps lasts long last i lt node (inl le) = inl (omega (arith, le))
 needed_behind steps lasts long last i lt node (inr (k, step, le, at, is)) = elim (told_or_not node (length lasts)) [

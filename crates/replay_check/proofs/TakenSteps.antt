@@ -32,7 +32,7 @@ use Rattle.replay_check.specs.Taken.{AreTaken, StopsAt, FindsSteps}
 use Rattle.replay_check.proofs.KeptClauses.{needed_before, needed_behind, same_joined, step_over}
 
 module _ (above : Tree → Tree → Type 0) (spec : Spec) (usable : ℕ → Type 0) where
-  -- where clauses are let go there are few nodes still
+  -- when clauses are let go there are few nodes still
   still_few : (needed : ℕ → Type 0) (old new : TakenSteps) → AreFewNodes above spec usable old → LetsGo needed old new → AreFewNodes above spec usable new
   still_few needed old new few go =
       let olds = length-clauses old.nodes.items in
@@ -44,7 +44,7 @@ module _ (above : Tree → Tree → Type 0) (spec : Spec) (usable : ℕ → Type
       }
 
   module _ (start : Clause) (steps : List Step) (i : ℕ) (step : Step) (lt : i < length steps) (is : step ≡ get_or steps i step) (old : TakenSteps) (taken : AreTaken above spec usable start steps i old) where
-    -- the next step is that of the node behind those with links
+    -- the next step is that of the node after those with links
     reached : length old.links.items ≡ i
     reached = ap length taken.links ∙ length-map taken.made links_of ∙ as_many above spec usable (start ∷ []) 0 (take i steps) taken.made taken.makes ∙ length-take-le i steps (omega (arith, lt))
 
@@ -67,7 +67,7 @@ module _ (above : Tree → Tree → Type 0) (spec : Spec) (usable : ℕ → Type
         let more : length new.links.items ≡ length old.links.items + 1 = ap length links ∙ length-append old.links.items (links_of m ∷ []) in
         omega (arith, few.reached, reached, more)
 
-    -- the children behind the nodes that are kept
+    -- the children after the nodes that are kept
     kept_more : (needed : ℕ → Type 0) (between new : TakenSteps) (m : Children) → clauses_of between.nodes.items ≡ clauses_of old.nodes.items ++ clauses_made m → LetsGo needed between new → ((j : ℕ) → IsNeededFrom steps (i + 1) j → needed j) → Agree (IsNeededFrom steps (i + 1)) (clauses_of new.nodes.items) (nodes_of start (taken.made ++ m ∷ []))
     kept_more needed between new m nodes go behind =
         let all = nodes_more start taken.made m in
@@ -105,7 +105,7 @@ module _ (above : Tree → Tree → Type 0) (spec : Spec) (usable : ℕ → Type
     block_stops new line no_memory (Refused at reason) h s = absurd s
     block_stops new line error OutOfMemory h s = tt
 
-  -- where no step is taken yet
+  -- if no step is taken yet
   pub none_taken : (start : Clause) (steps : List Step) → IsNode spec.sig start → (new : TakenSteps) → clauses_of new.nodes.items ≡ start ∷ [] → new.links.items ≡ [] → AreTaken above spec usable start steps 0 new
   none_taken start steps is new nodes links = record {
     made = [];

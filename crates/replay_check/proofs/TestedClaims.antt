@@ -25,7 +25,7 @@ use Rattle.acceptance.specs.Refusals.{Refusal, lines_of, line_after, outcome_tes
 use Rattle.acceptance.proofs.Longer.{claims_longer}
 use Rattle.acceptance.proofs.NoRefusal.{accepted_clean}
 
--- the line behind a claim
+-- the line after a claim
 pub line_more : (before : List Claim) (claim : Claim) → line_after (before ++ claim ∷ []) ≡ line_after before + lines_of claim.outcome
 line_more before claim =
     let lines = λ (c : Claim). lines_of c.outcome in

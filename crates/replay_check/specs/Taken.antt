@@ -19,7 +19,7 @@ use Rattle.replay_check.specs.Kept.{Agree, IsNeededFrom}
 use Rattle.replay_check.specs.declared.answers.Stop.{Stop}
 use Rattle.replay_check.specs.declared.answers.Stop.TheVariants.{Refused, OutOfMemory}
 
--- a step that isn't defined is refused on its line, behind the first one of the claim; want of memory
+-- a step that isn't defined is refused on its line, after the first one of the claim; want of memory
 -- may always come
 abbrev pub StopsAt : ℕ → ℕ → StepError → Stop → Type 0
 StopsAt line k (because why) (Refused at reason) = (at ≡ line + suc k) × (reason ≡ of_step why)
@@ -37,7 +37,7 @@ module _ (above : Tree → Tree → Type 0) (spec : Spec) (usable : ℕ → Type
       pub links : taken.links.items ≡ map links_of made
       pub few : AreFewNodes above spec usable taken
 
-  -- all steps are taken, or one is refused, on its line, behind the first one of the claim
+  -- all steps are taken, or one is refused, on its line, after the first one of the claim
   abbrev pub FindsSteps : Clause → List Step → ℕ → Result TakenSteps Stop → Type 0
   FindsSteps start steps line (Ok taken) = AreTaken start steps (length steps) taken
   FindsSteps start steps line (Err (Refused at reason)) =

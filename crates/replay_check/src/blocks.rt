@@ -23,8 +23,8 @@ use std::alloc::Global;
 use term_core::OutOfMemory;
 use term_order::TermOrder;
 
-/// Tests whether the steps prove the goal, where the goals of these numbers may be used. The first
-/// line of the claim is given; the steps stand on the lines behind it.
+/// Tests whether the steps prove the goal, if the goals of these numbers may be used. The first
+/// line of the claim is given; the steps are on the lines after it.
 pub(crate) fn check_block<O: TermOrder>(
     alloc: Global,
     admitted: &Admitted<O>,

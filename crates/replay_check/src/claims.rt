@@ -41,8 +41,8 @@ pub(crate) fn check_claims<O: TermOrder>(
     Ok(())
 }
 
-/// Tests a claim whose first line is this one, behind claims on the goals so far. The number of its
-/// goal comes where no test refuses it.
+/// Tests a claim whose first line is this one, after claims on the goals so far. The number of its
+/// goal comes if no test refuses it.
 fn check_claim<O: TermOrder>(
     alloc: Global,
     admitted: &Admitted<O>,
@@ -76,7 +76,7 @@ fn check_claim<O: TermOrder>(
     Ok(number)
 }
 
-/// Tests what a claim on the goal says, where the goals of these numbers are proved before it.
+/// Tests what a claim on the goal says, given that the goals of these numbers are proved before it.
 fn check_outcome<O: TermOrder>(
     alloc: Global,
     admitted: &Admitted<O>,

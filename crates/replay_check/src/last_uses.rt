@@ -5,7 +5,7 @@ use clause_core::Step;
 use std::alloc::Global;
 use term_core::OutOfMemory;
 
-/// For each node that has a step of these, the last step that refers to it, or 0 where none does.
+/// For each node that has a step of these, the last step that refers to it, or 0 if none does.
 pub(crate) fn last_uses(alloc: Global, steps: &[Step]) -> Result<Vec<usize>, OutOfMemory>
     ensures long { IfOk result (λ lasts. length lasts.items ≡ length steps.now) }
     ensures last { IfOk result (λ lasts. TellLastUses steps.now lasts.items) }

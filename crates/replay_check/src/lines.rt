@@ -4,7 +4,7 @@ ghost use Rattle.acceptance.specs.Refusals.{lines_of};
 use clause_core::Outcome;
 use term_core::OutOfMemory;
 
-/// The line of a claim behind its first one and this many others. A number past 64 bits counts as
+/// The line of a claim after its first one and this many others. A number past 64 bits counts as
 /// want of memory.
 pub(crate) fn line_behind(first: u64, others: usize) -> Result<u64, OutOfMemory>
     ensures { IfOk result (λ line. line ≡ first + suc others) }
@@ -13,7 +13,7 @@ pub(crate) fn line_behind(first: u64, others: usize) -> Result<u64, OutOfMemory>
     last.checked_add(1).ok_or(OutOfMemory)
 }
 
-/// How many lines a claim has behind its first one.
+/// How many lines a claim has after its first one.
 pub(crate) fn other_lines(outcome: &Outcome) -> usize
     ensures { suc result ≡ lines_of outcome.now }
 {

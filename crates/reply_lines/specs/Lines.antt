@@ -35,7 +35,7 @@ yes_line claims =
     ++ codes ", refuted " ++ decimal (claim_count is_refuted claims)
     ++ codes ", open " ++ decimal (claim_count is_open claims) ++ codes "\n"
 
--- `load N: proved P, refuted R, open O`, of the report of so many goals with these claims, and
+-- `load N: proved P, refuted R, open O`, of the report of this many goals with these claims, and
 -- `replay: yes`
 abbrev pub load_lines : ℕ → List Claim → List ℕ
 load_lines goals claims =

@@ -21,7 +21,7 @@ pub fn yes_line(alloc: Global, claims: &[Claim]) -> Result<Vec<u8>, OutOfMemory>
     Ok(text)
 }
 
-/// The lines of an accepted report of so many generated goals with these claims.
+/// The lines of an accepted report of this many generated goals with these claims.
 pub fn load_lines(alloc: Global, goals: u32, claims: &[Claim]) -> Result<Vec<u8>, OutOfMemory>
     ensures { IfOk result (λ text. text.items ≡ lines_of.load_lines goals claims.now) }
 {

@@ -17,7 +17,7 @@ one_cut words false false rest last e f = (refl, append_cancel_left (codes " cut
 one_cut words true false rest last e f = absurd (let q : 121 ≡ 110 = same_head (append_cancel_left (codes " cut ") (codes "yes" ++ rest) (codes "no" ++ last) (sym e ∙ f)) in omega (arith, q))
 one_cut words false true rest last e f = absurd (let q : 110 ≡ 121 = same_head (append_cancel_left (codes " cut ") (codes "no" ++ rest) (codes "yes" ++ last) (sym e ∙ f)) in omega (arith, q))
 
--- what stands behind each of them
+-- what comes after each of them
 abbrev pub from_nodes : Budget → List ℕ
 from_nodes b = codes " nodes " ++ (decimal b.nodes ++ [])
 
@@ -49,7 +49,7 @@ module _ (b : Budget) (s : BudgetStands b) where
   pub at_nodes : (words : List ℕ) → words ≡ from_nodes b → IsNumberBehind (codes " nodes") words b.nodes []
   at_nodes words e = record { short = s.nodes; is = e; ends = tt }
 
-  -- behind a number that was read
+  -- after a number that was read
   pub past_depth : (words : List ℕ) (n : ℕ) (rest : List ℕ) → IsNumberBehind (codes " depth") words n rest → words ≡ budget_text b → (n ≡ b.depth) × (rest ≡ from_tried b)
   past_depth words n rest h e = one_number (codes " depth") words n rest b.depth (from_tried b) h (at_depth words e)
 

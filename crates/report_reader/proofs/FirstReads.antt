@@ -19,11 +19,11 @@ use Rattle.report_reader.specs.declared.first_lines.FirstLine.TheVariants.{Prove
 use Rattle.report_reader.proofs.LineTexts.{bare_is, line_is}
 
 module _ (sig : Sig) where
-  -- a name that was read is the one that stands there
+  -- a name that was read is the one that is there
   pub one_name : (bytes goal rest other last : List ℕ) → IsWordAt sig bytes (name goal) rest → IsWordAt sig bytes (name other) last → Same goal other rest last
   one_name bytes goal rest other last h k = one_plain bytes goal rest other last (as_plain sig bytes (name goal) rest tt h) (as_plain sig bytes (name other) last tt k)
 
-  -- what stands behind the name
+  -- what comes after the name
   abbrev pub from_proved : ℕ → List ℕ
   from_proved n = codes " nodes " ++ (decimal n ++ [])
 
@@ -81,7 +81,7 @@ module _ (sig : Sig) where
   no_first line a b c (Refuted goal index n) h = b (words_text sig (line_of (Refuted goal index n)).words) (bare_is sig line (line_of (Refuted goal index n)) h.is)
   no_first line a b c (Open goal budget) h = c (words_text sig (line_of (Open goal budget)).words) (bare_is sig line (line_of (Open goal budget)) h.is)
 
--- what the words behind a first word say is what the line says
+-- what the words after a first word say is what the line says
 pub by_head : {E : Type 0} (line head words : List ℕ) → line ≡ head ++ words → ((sig : Sig) (first : FirstLine) → IsFirst sig line first → (line_of first).head ≡ head) → (r : Result (Option FirstLine) E)
     → IfOk r (λ o. MatchOption o ((sig : Sig) → IsDeclared sig → (first : FirstLine) → IsFirstBehind sig head words first → ⊥) (λ first. (sig : Sig) → IsFirstBehind sig head words first))
     → IfOk r (λ o. MatchOption o ((sig : Sig) → IsDeclared sig → (first : FirstLine) → IsFirst sig line first → ⊥) (λ first. (sig : Sig) → IsFirst sig line first))

@@ -43,7 +43,7 @@ module _ (sig : Sig) where
     pub is : line_text sig line ++ (more ++ behind) ≡ bytes
     pub text : claim_text sig claim ≡ part_text sig stage ++ (line_text sig line ++ more)
 
-  -- so in a report, behind the claims that were read
+  -- so in a report, after the claims that were read
   pub record InReport (stage : Stage) (before report : Report) (bytes : List ℕ) : Type 0 where
     pub claim : Claim
     pub others : List Claim
@@ -98,7 +98,7 @@ module _ (sig : Sig) where
         let g = goes_on before report s b p e in
         claim_follows before g.claims.others s (others_stand before report g.claims.others p g.claims.are) g.claims.follow
 
-    -- one claim follows at least, where the part that was read doesn't begin the last line
+    -- one claim follows at least, if the part that was read doesn't begin the last line
     claim_inside : (stage : Stage) (before report : Report) (s : List ℕ) → (ending ≡ part_text sig stage ++ s → ⊥) → ((c : Claim) (x : List ℕ) → ClaimStands sig c → claim_text sig c ++ x ≡ part_text sig stage ++ s → InClaim stage c x s) → report.steps ≡ before.steps → (others : List Claim) → report.claims ≡ before.claims ++ others → AllByRecursion (ClaimStands sig) others → claims_text sig others ++ ending ≡ part_text sig stage ++ s → InReport stage before report s
     claim_inside stage before report s differs inside steps [] are h f = absurd (differs f)
     claim_inside stage before report s differs inside steps (c ∷ cs) are h f = record {

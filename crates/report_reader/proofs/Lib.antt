@@ -8,7 +8,7 @@ pub mod NumberReads
 pub mod FirstReads
 pub mod BudgetReads
 pub mod ValueReads
--- A text behind each stage: it begins a report, and what follows in a report.
+-- A text after each stage: it begins a report, and what follows in a report.
 pub mod ValuesSoFar
 pub mod BegunStages
 pub mod Follows

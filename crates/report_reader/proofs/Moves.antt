@@ -99,7 +99,7 @@ module _ (sig : Sig) where
   }
 
   module _ (text : List ℕ) (lines : Lines) (report : Report) where
-    -- behind the first line of a claim
+    -- after the first line of a claim
     pub first_moved : (bytes : List ℕ) (behind : Lines) (first : FirstLine) → IsBehind sig text lines (between report) → IsNext lines bytes behind → IsFirst sig bytes first → IsBehind sig text behind (behind_first report first)
     first_moved bytes behind (Proved goal n) b i f =
         let line = line_text sig (line_of (Proved goal n)) in
@@ -167,7 +167,7 @@ module _ (sig : Sig) where
           (whole_with report claim ∙ ap (λ z. whole_text sig report ++ z) same)
           (sound_with report claim b.stands.0 stands (subst (λ z. length z ≤ 300000) (sym same) b.small)) (omega arith)
 
-  -- fewer bytes are left behind a further claim
+  -- fewer bytes are left after a further claim
   pub fewer_left : (text : List ℕ) (lines behind : Lines) (report : Report) (claim : Claim) → IsBehind sig text lines (between report) → IsBehind sig text behind (between (with_claim report claim)) → length behind.rest.now < length lines.rest.now
   fewer_left text lines behind report claim b n =
       omega (arith, ap (λ (z : List ℕ). length z) b.whole, ap (λ (z : List ℕ). length z) n.whole, length-append (whole_lines b.before) lines.rest.now, length-append (whole_lines n.before) behind.rest.now, ap (λ (z : List ℕ). length z) b.is, ap (λ (z : List ℕ). length z) n.is, ap (λ (z : List ℕ). length z) (whole_with report claim), length-append (whole_text sig report) (claim_text sig claim), some_bytes claim.goal claim.outcome)

@@ -1,4 +1,4 @@
--- A number behind a sign is read in one way.
+-- A number after a sign is read in one way.
 use Rattle.std.proofs.Common.{◌≡◌, ℕ, List, [], ◌∷◌, ◌++◌, Option, Some, None, ap, sym, ◌∙◌}
 use Rattle.std.specs.Prelude.{MatchOption}
 use Rattle.std.specs.Fmt.{decimal}
@@ -21,7 +21,7 @@ one_number sign bytes n rest m last h k =
 abbrev no_sig : Sig
 no_sig = record { sorts = []; table = []; constructors = 0 }
 
--- what the next word says of the number behind the sign
+-- what the next word says of the number after the sign
 pub number_found : (sign bytes behind : List ℕ) → bytes ≡ sign ++ behind → (r : Option (ℕ × Bor (List ℕ)))
     → MatchOption r ((sig : Sig) (n : ℕ) (rest : List ℕ) → IsWordAt sig behind (number n) rest → ⊥) (λ p. (sig : Sig) → IsWordAt sig behind (number p.0) p.1.now)
     → MatchOption r ((n : ℕ) (rest : List ℕ) → IsNumberBehind sign bytes n rest → ⊥) (λ p. IsNumberBehind sign bytes p.0 p.1.now)

@@ -23,7 +23,7 @@ use Rattle.report_reader.specs.Stages.{Stage, start, titled, between, proving, r
 use Rattle.report_reader.specs.declared.first_lines.FirstLine.{FirstLine}
 use Rattle.report_reader.specs.declared.first_lines.FirstLine.TheVariants.{Proved, Refuted, Open}
 
--- no byte of the head ends a word, and the words may stand
+-- no byte of the head ends a word, and the words may appear
 pub record IsPlainLine (sig : Sig) (line : Line) : Type 0 where
   pub head : AllRun line.head
   pub some : line.head ≡ [] → ⊥

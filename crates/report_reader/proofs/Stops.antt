@@ -173,7 +173,7 @@ module _ (sig : Sig) (d : IsDeclared sig) where
           by line (inl q) is = other (bare_is sig bytes last_line (is ∙ ap (λ l. line_text sig l) q))
           by line (inr (first, h, q)) is = never first (record { stands = h; is = is ∙ ap (λ l. line_text sig l) q })
 
-    -- behind the last line
+    -- after the last line
     module _ (behind : Lines) (b : IsBehind sig text lines (between report)) (i : IsNext lines (codes "done") behind) where
       whole_is : whole_lines (b.before ++ codes "done" ∷ []) ≡ report_text sig report
       whole_is = whole_lines-push b.before (codes "done") ∙ ap (λ z. z ++ codes "done\n") b.is ∙ append_assoc (lines_text sig (header_lines report.steps)) (claims_text sig report.claims) (codes "done\n")

@@ -20,7 +20,7 @@ use Rattle.report_reader.specs.ValueLines.{IsValueLine}
 use Rattle.report_reader.proofs.LineTexts.{bare_is, line_is}
 
 module _ (sig : Sig) (line word rest : List ℕ) (split : IsFirstWord line word rest) where
-  -- what stands behind a name
+  -- what comes after a name
   abbrev pub from_value : Tree → List ℕ
   from_value value = codes " = " ++ (term_text sig [] value ++ [])
 
@@ -32,7 +32,7 @@ module _ (sig : Sig) (line word rest : List ℕ) (split : IsFirstWord line word 
     pub value_word : (name : List ℕ) (value : Tree) → IsValueLine sig line name value → IsWordAt sig behind (term value) []
     value_word name value h = record { stands = h.stands.stands; is = append_cancel_left (codes " =") behind (32 ∷ (term_text sig [] value ++ [])) (sym e ∙ (named_value name value h).rest); ends = tt }
 
-    -- a value that was read is the one that stands there
+    -- a value that was read is the one that is there
     pub one_value : NamesDiffer sig → (found : Tree) (last : List ℕ) → IsWordAt sig behind (term found) last → (name : List ℕ) (value : Tree) → IsValueLine sig line name value → (term found ≡ term value) × (last ≡ [])
     one_value d found last w name value h =
         let k = value_word name value h in

@@ -1,4 +1,4 @@
--- What values there are where their lines begin with those of others.
+-- What values there are if their lines begin with those of others.
 use Rattle.std.proofs.Common.{◌≡◌, ℕ, ◌≤◌, List, [], ◌∷◌, ◌++◌, refl, sym, ◌∙◌, map, length, append_assoc, arith}
 use Rattle.std.specs.List.{AllByRecursion}
 use Rattle.term_core.specs.Tree.{Tree}

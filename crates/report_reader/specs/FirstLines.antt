@@ -14,7 +14,7 @@ use Rattle.report_reader.specs.Numbers.{IsNumberBehind}
 use Rattle.report_reader.specs.declared.first_lines.FirstLine.{FirstLine}
 use Rattle.report_reader.specs.declared.first_lines.FirstLine.TheVariants.{Proved, Refuted, Open}
 
--- the line `steps n`, of a number that may stand there
+-- the line `steps n`, of a number that may be there
 pub record IsStepsLine (line : List ℕ) (n : ℕ) : Type 0 where
   pub range : Between 1 most_steps n
   pub is : IsNumberBehind (codes "steps") line n []
@@ -35,13 +35,13 @@ line_of (Refuted goal index values) =
     }
 line_of (Open goal budget) = first_line goal (outcomes.Open budget)
 
--- some claim that may stand has this first line
+-- some claim that may appear has this first line
 abbrev pub FirstStands : FirstLine → Type 0
 FirstStands (Proved goal nodes) = IsReportName goal × (nodes ≤ 10000)
 FirstStands (Refuted goal index values) = IsReportName goal × IsShort index × (values ≤ 16)
 FirstStands (Open goal budget) = IsReportName goal × BudgetStands budget
 
--- what stands behind the name of an open claim
+-- what comes after the name of an open claim
 abbrev pub budget_text : Budget → List ℕ
 budget_text b =
     codes " depth " ++ (decimal b.depth ++ (codes " tried " ++ (decimal b.tried
@@ -49,12 +49,12 @@ budget_text b =
     ++ (codes " plain " ++ (decimal b.plain ++ (codes " nodes " ++ (decimal b.nodes ++ [])))))))))))
 
 module _ (sig : Sig) where
-  -- the line says this, which may stand
+  -- the line says this, which may appear
   pub record IsFirst (line : List ℕ) (first : FirstLine) : Type 0 where
     pub stands : FirstStands first
     pub is : IsLine sig line (line_of first)
 
-  -- it does, where it begins with this word and these bytes follow
+  -- it does, if it begins with this word and these bytes follow
   pub record IsFirstBehind (head words : List ℕ) (first : FirstLine) : Type 0 where
     pub named : (line_of first).head ≡ head
     pub stands : FirstStands first

@@ -7,7 +7,7 @@ use Rattle.report_reader.specs.declared.errors.ReportError.{ReportError}
 use Rattle.report_reader.specs.declared.errors.ReportError.TheVariants as errors
 use Rattle.report_reader.specs.declared.lines.Lines.{Lines}
 
--- the bytes with a newline behind them are the line's text
+-- the bytes with a newline after them are the line's text
 abbrev pub IsLine : Sig → List ℕ → Line → Type 0
 IsLine sig bytes line = bytes ++ codes "\n" ≡ line_text sig line
 
@@ -21,7 +21,7 @@ pub record IsLineAt (bytes line rest : List ℕ) : Type 0 where
 abbrev pub NoLineAt : List ℕ → Type 0
 NoLineAt bytes = IsOneLine bytes ⊎ ((rest : List ℕ) × (bytes ≡ codes "\n" ++ rest))
 
--- this is the next line, with those behind it
+-- this is the next line, with those after it
 pub record IsNext (lines : Lines) (line : List ℕ) (behind : Lines) : Type 0 where
   pub at : IsLineAt lines.rest.now line behind.rest.now
   pub read : behind.read ≡ lines.read + (length line + 1)

@@ -17,7 +17,7 @@ use Rattle.report_reader.specs.declared.first_lines.FirstLine.{FirstLine}
 use Rattle.report_reader.specs.declared.first_lines.FirstLine.TheVariants.{Proved, Refuted, Open}
 
 -- The lines before: none, the first one, or a report's without the last line, and then those of a
--- claim whose first line asks for so many steps or values.
+-- claim whose first line asks for this many steps or values.
 pub data Stage : Type 0 where
   start : Stage
   titled : Stage
@@ -37,7 +37,7 @@ abbrev pub with_claim : Report → Claim → Report
 with_claim report claim =
     record { steps = report.steps; claims = report.claims ++ claim ∷ [] }
 
--- behind the first line of a claim
+-- after the first line of a claim
 abbrev pub behind_first : Report → FirstLine → Stage
 behind_first report (Proved goal nodes) = proving report goal nodes []
 behind_first report (Refuted goal index values) = refuting report goal index values []
@@ -84,12 +84,12 @@ module _ (sig : Sig) where
   abbrev pub report_size : Report → ℕ
   report_size report = length (whole_text report)
 
-  -- each line of the report may stand, and no claim has too many bytes
+  -- each line of the report may appear, and no claim has too many bytes
   pub record IsSound (report : Report) : Type 0 where
     pub stands : ReportStands sig report
     pub small : AllByRecursion (λ claim. length (claim_text sig claim) ≤ 300000) report.claims
 
-  -- what was read may stand
+  -- what was read may appear
   abbrev pub StageStands : Stage → Type 0
   StageStands start = Unit {0}
   StageStands titled = Unit {0}

@@ -16,7 +16,7 @@ use spec_core::Signature;
 use std::alloc::Global;
 use term_core::{Name, Seq, Term};
 
-/// The claim of this first line, and the lines behind it. So many bytes were read where the claim
+/// The claim of this first line, and the lines after it. This many bytes were read where the claim
 /// begins.
 pub fn read_claim<'a>(
     alloc: Global,
@@ -54,7 +54,7 @@ pub fn read_claim<'a>(
     }
 }
 
-/// As many steps of the claim that began there as it has nodes, and the lines behind them.
+/// As many steps of the claim that began there as it has nodes, and the lines after them.
 fn read_steps<'a>(
     alloc: Global,
     sig: &Signature,
@@ -85,7 +85,7 @@ fn read_steps<'a>(
     Ok((steps, lines))
 }
 
-/// So many values of the claim that began there, and the lines behind them.
+/// This many values of the claim that began there, and the lines after them.
 fn read_values<'a>(
     alloc: Global,
     sig: &Signature,
@@ -115,7 +115,7 @@ fn read_values<'a>(
     Ok((values, lines))
 }
 
-/// The next line of the claim that began there, and the lines behind it.
+/// The next line of the claim that began there, and the lines after it.
 fn claim_line(at: Lines<'_>, start: usize) -> Result<(&[u8], Lines<'_>), ReportError>
     requires { start ≤ at.read }
     ensures { MatchResult result

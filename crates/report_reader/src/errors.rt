@@ -6,7 +6,7 @@ use term_core::OutOfMemory;
 #[derive(Clone, Copy, Debug, PartialEq, Eq)]
 pub enum ReportError {
     /// The number of the first line that can't continue, from 1. A line that is missing at the end
-    /// is the one behind the last whole line.
+    /// is the one after the last whole line.
     Line { line: u64 },
     OutOfMemory,
 }

@@ -27,7 +27,7 @@ pub enum FirstLine {
     Open { goal: Name, budget: Budget },
 }
 
-/// What the line says, where it is the first line of a claim that may stand. It comes without its
+/// What the line says, if it is the first line of a claim that may appear. It comes without its
 /// newline.
 pub fn read_first_line(alloc: Global, line: &[u8]) -> Result<Option<FirstLine>, OutOfMemory>
     ensures { IfOk result (λ o. MatchOption o
@@ -46,7 +46,7 @@ pub fn read_first_line(alloc: Global, line: &[u8]) -> Result<Option<FirstLine>, 
     Ok(None)
 }
 
-/// What the words behind `proved` say.
+/// What the words after `proved` say.
 fn proved_claim(alloc: Global, words: &[u8]) -> Result<Option<FirstLine>, OutOfMemory>
     ensures { IfOk result (λ o. MatchOption o
         ((sig : Sig) → IsDeclared sig → (first : AnyFirst)
@@ -65,7 +65,7 @@ fn proved_claim(alloc: Global, words: &[u8]) -> Result<Option<FirstLine>, OutOfM
     Ok(Some(FirstLine::Proved { goal, nodes }))
 }
 
-/// What the words behind `refuted` say.
+/// What the words after `refuted` say.
 fn refuted_claim(alloc: Global, words: &[u8]) -> Result<Option<FirstLine>, OutOfMemory>
     ensures { IfOk result (λ o. MatchOption o
         ((sig : Sig) → IsDeclared sig → (first : AnyFirst)
@@ -91,7 +91,7 @@ fn refuted_claim(alloc: Global, words: &[u8]) -> Result<Option<FirstLine>, OutOf
     }))
 }
 
-/// What the words behind `open` say.
+/// What the words after `open` say.
 fn open_claim(alloc: Global, words: &[u8]) -> Result<Option<FirstLine>, OutOfMemory>
     ensures { IfOk result (λ o. MatchOption o
         ((sig : Sig) → IsDeclared sig → (first : AnyFirst)
@@ -107,7 +107,7 @@ fn open_claim(alloc: Global, words: &[u8]) -> Result<Option<FirstLine>, OutOfMem
     Ok(Some(FirstLine::Open { goal, budget }))
 }
 
-/// How far a goal was tried, as the words behind its name say.
+/// How far a goal was tried, as the words after its name say.
 fn read_budget(words: &[u8]) -> Option<Budget>
     ensures { MatchOption result
         ((b : AnyBudget) → BudgetStands b → words.now ≡ budget_text b → ⊥)
@@ -144,7 +144,7 @@ fn read_cut(words: &[u8]) -> Option<(bool, &[u8])>
     Some((false, after(words, b" cut no")?))
 }
 
-/// The number behind the sign at the front, and what follows it.
+/// The number after the sign at the front, and what follows it.
 pub fn number_behind<'a>(words: &'a [u8], sign: &[u8]) -> Option<(u32, &'a [u8])>
     ensures { MatchOption result
         ((n : ℕ) (rest : List ℕ) → IsNumberBehind sign.now words.now n rest → ⊥)
@@ -153,7 +153,7 @@ pub fn number_behind<'a>(words: &'a [u8], sign: &[u8]) -> Option<(u32, &'a [u8])
     next_number(after(words, sign)?)
 }
 
-/// The number behind the sign, where nothing follows it.
+/// The number after the sign, if nothing follows it.
 pub fn last_number(words: &[u8], sign: &[u8]) -> Option<u32>
     ensures { MatchOption result
         ((n : ℕ) → IsNumberBehind sign.now words.now n [] → ⊥)

@@ -13,7 +13,7 @@ use crate::lines::Lines;
 /// The greatest number of rule uses that one evaluation may cost.
 const MAX_STEPS: u32 = 100_000;
 
-/// The number of steps in the two lines that the text begins with, and the lines behind them.
+/// The number of steps in the two lines that the text begins with, and the lines after them.
 pub fn read_header(text: &[u8]) -> Result<(u32, Lines<'_>), ReportError>
     ensures { (sig : Sig) → IsDeclared sig → MatchResult result
         (λ p. IsBehind sig text.now p.1 (between (record { steps = p.0; claims = [] })))
@@ -27,7 +27,7 @@ pub fn read_header(text: &[u8]) -> Result<(u32, Lines<'_>), ReportError>
     Err(first.fault())
 }
 
-/// The number of steps in the second line, and the lines behind it.
+/// The number of steps in the second line, and the lines after it.
 fn read_steps_line(at: Lines<'_>) -> Result<(u32, Lines<'_>), ReportError>
     ensures { (sig : Sig) (text : List ℕ) → IsDeclared sig → IsBehind sig text at.entry titled
         → MatchResult result

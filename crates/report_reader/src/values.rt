@@ -9,7 +9,7 @@ use spec_core::Signature;
 use std::alloc::Global;
 use term_core::{Name, Node, OutOfMemory, Term};
 
-/// The name and the value that the line `NAME = VALUE` says, where they may stand in a report. The
+/// The name and the value that the line `NAME = VALUE` says, if they may appear in a report. The
 /// line comes without its newline.
 pub fn read_value(
     alloc: Global,

@@ -1,4 +1,4 @@
--- Entries of a match are normal and narrow where the arguments are, and right sides are narrow.
+-- Entries of a match are normal and narrow if the arguments are, and right sides are narrow.
 use Rattle.std.proofs.Common.{◌≡◌, ℕ, ◌+◌, suc, ◌≤◌, inl, inr, length, List, [], ◌∷◌, map, Some, None, Option, refl, ap, sym, ◌∙◌, subst, unwrap_or, arith}
 use Rattle.std.specs.Option.{IsSome}
 use Rattle.std.specs.List.{AllByRecursion}
@@ -47,7 +47,7 @@ all_are_narrow none h = tt
 all_are_narrow (some t ts) h = (h.0, all_are_narrow ts h.1)
 
 mutual
-  -- the image of a variable of the term, where the instance is normal and narrow
+  -- the image of a variable of the term, if the instance is normal and narrow
   image_fine : (spec : Spec) (t : Tree) (s : List (Option Tree)) (n : ℕ) → IsNormal spec (apply s t) → IsNarrow (apply s t) → Occurs n t → IsNormal spec (image s n) × IsNarrow (image s n)
   image_fine spec (var m) s n normal narrow o = (subst (λ j. IsNormal spec (image s j)) (sym o) normal, subst (λ j. IsNarrow (image s j)) (sym o) narrow)
   image_fine spec (app f ts) s n normal narrow o = images_fine spec ts s n (args_normal spec f (apply_all s ts) normal) narrow.1 o

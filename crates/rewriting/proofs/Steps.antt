@@ -232,7 +232,7 @@ popped place long short k n e t m =
     let b : n - 1 ≡ length place = omega arith in
     t ∙ ap (λ j. take j long) b ∙ ap (λ xs. take (length place) xs) e ∙ take_front place (k ∷ [])
 
--- a fact that holds where there is a value
+-- a fact that holds if there is a value
 pub if_some : {X : Type 0} (o : Option X) (x : X) (P : Type 0) → o ≡ Some x → IfSome o (λ _. P) → P
 if_some o x P e h = subst (λ p. IfSome p (λ _. P)) e h
 

@@ -8,7 +8,7 @@ use std::alloc::Global;
 use term_core::{Node, OutOfMemory, Term};
 
 impl<'a> Rewriter<'a> {
-    /// The place and the rule of the leftmost-innermost use, or None where the term is normal. It
+    /// The place and the rule of the leftmost-innermost use, or None if the term is normal. It
     /// looks through the term up to that place.
     pub fn first_use(
         &self,

@@ -28,7 +28,7 @@ impl<'a> Rewriter<'a> {
     ///
     /// Each subterm is normalized once: what stands for a variable of a
     /// rule is normal already. A use costs by its place's length and the rule, and nothing for the
-    /// rest of the term. What stands for a variable is shared, and adds to the cost only where the
+    /// rest of the term. What stands for a variable is shared, and adds to the cost only if the
     /// variable occurs more than once on the left side: it is compared there.
     ///
     /// The stack grows with the length of the place and a right side's depth alone, so with the

@@ -1,4 +1,4 @@
--- What steps make by some goals they make where more goals may be used.
+-- What steps make by some goals they make if more goals may be used.
 use Rattle.std.proofs.Common.{◌≡◌, ℕ, suc, List, [], ◌∷◌, ◌++◌, inl, inr}
 use Rattle.std.specs.Prelude.{Ok, Err}
 use Rattle.term_core.specs.Tree.{Tree}

@@ -24,7 +24,7 @@ chosen_says says (c ∷ cs) move (inl p) = p.defined
 chosen_says says (c ∷ cs) move (inr p) = chosen_says says cs move p.1
 
 module _ (says : Table) (candidates : ℕ → List Node → Node → List Candidate) where
-  -- where each node has its step, there is none behind them
+  -- if each node has its step, there is none after them
   pub no_more :
       (nodes : List Node) (k : ℕ) (node : Node) →
       length nodes ≡ k → slice_get nodes k ≡ Some node → ⊥

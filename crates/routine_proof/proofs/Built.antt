@@ -107,7 +107,7 @@ module _ (above : Tree → Tree → Type 0) (spec : Spec) (lemmas : List ℕ) wh
       IsBuilt (goal ∷ []) 0 steps
   block_built candidates goal steps r = run_builds candidates (root goal ∷ []) 0 steps r
 
-  -- so it proves its goal exactly where this is within the limits and what is made is allowed
+  -- so it proves its goal if and only if this is within the limits and what is made is allowed
   pub proves_by_relations :
       OneRelation above → IsWellSorted spec → (goal : Clause) (steps : List Step)
       (b : IsBuilt (goal ∷ []) 0 steps) →

@@ -1,4 +1,4 @@
--- What holds of each candidate of the list: where it holds of single steps, of fitting lists and of
+-- What holds of each candidate of the list: if it holds of single steps, of fitting lists and of
 -- rewriting lists, it holds of all.
 use Rattle.std.proofs.Common.{◌≡◌, ℕ, List, [], ◌∷◌, ◌++◌, Bool, refl}
 use Rattle.std.specs.Prelude.{flat_map}

@@ -17,7 +17,7 @@ use Rattle.routine_proof.specs.Routine.{Start, no_split, split, candidates}
 use Rattle.routine_proof.proofs.CandidateLists.{AreAll, HoldsOfKinds, cover_all, entries_all}
 use Rattle.routine_proof.proofs.Choices.{HasOneAnswer, AreDetermined}
 
--- each variable of the question stands in its patterns
+-- each variable of the question occurs in its patterns
 abbrev HasAll : Candidate → Type 0
 HasAll c = IsDetermined c.question
 

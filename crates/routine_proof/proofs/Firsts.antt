@@ -1,4 +1,4 @@
--- The first item with a result is one, it is found where each item is decided, and items without a
+-- The first item with a result is one, it is found if each item is decided, and items without a
 -- result may be left out.
 use Rattle.std.proofs.Common.{◌≡◌, ◌⊎◌, List, [], ◌∷◌, ◌++◌, Bool, true, false, cond, inl, inr, refl, ap}
 use Rattle.std.specs.Prelude.{Option, Some, None}
@@ -115,7 +115,7 @@ module _ {A R : Type 0} (is : A → R → Type 0) where
   is_first_kept p h items None f = none_kept p h items f
   is_first_kept p h items (Some r) f = first_kept p h items r f
 
--- the first of the lists that items have, one behind the other
+-- the first of the lists that items have, one after the other
 module _ {A B R : Type 0} (is : B → R → Type 0) (f : A → List B) where
   pub first_here :
       (item : A) (rest : List A) (r : R) →

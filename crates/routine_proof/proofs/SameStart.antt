@@ -1,4 +1,4 @@
--- Where no split begins with the cover of a variable, the split at this variable has the same
+-- If no split begins with the cover of a variable, the split at this variable has the same
 -- blocks.
 use Rattle.std.proofs.Common.{◌≡◌, ℕ, suc, List, [], ◌∷◌, ◌++◌, Some, inl, inr, refl, ap, sym, ◌∙◌, subst}
 use Rattle.std.specs.Prelude.{slice_get, option_to_list}
@@ -38,7 +38,7 @@ at_root :
 at_root goal node e = cc
 
 module _ (says : Table) (spec : Spec) (goals : List Goal) where
-  -- behind node 0 the start doesn't matter
+  -- after node 0 the start doesn't matter
   pub later_split :
       (v : ℕ) (nodes : List Node) (k : ℕ) (steps : List Step) →
       Runs says (candidates spec goals no_split) nodes (suc k) steps →
@@ -79,7 +79,7 @@ module _
     abbrev pub here : Step → Children → Type 0
     here = makes above spec lemmas (goal ∷ []) goal
 
-    -- what the cover makes where no split begins with it
+    -- what the cover makes if no split begins with it
     its_cover : here move.step move.made
     its_cover =
         let list = candidates spec (lemma_goals spec lemmas) no_split in

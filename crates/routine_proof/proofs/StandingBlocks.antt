@@ -1,4 +1,4 @@
--- The steps of a routine block may stand in a report.
+-- The steps of a routine block may appear in a report.
 use Rattle.std.proofs.Common.{◌≡◌, ℕ, zero, suc, ◌^◌, ◌<◌, List, [], ◌∷◌, ◌++◌, Bool, Some, None, inl, inr, map, length, refl, sym, subst}
 use Rattle.std.specs.Prelude.{Contains, slice_get}
 use Rattle.std.specs.List.{AllByRecursion}
@@ -102,7 +102,7 @@ chosen_listed sig says (c ∷ cs) move h (inr p) = chosen_listed sig says cs mov
 abbrev AreNodes : Sig → List Node → Type 0
 AreNodes sig nodes = AllByRecursion (λ (n : Node). IsNode sig n.clause) nodes
 
--- the node whose clause stands at a place of the clauses
+-- the node whose clause is at a place of the clauses
 clause_of_node :
     (nodes : List Node) (j : ℕ) (d : Clause) → slice_get (clauses nodes) j ≡ Some d →
     (n : Node) × (slice_get nodes j ≡ Some n) × (n.clause ≡ d)

@@ -1,4 +1,4 @@
--- A step of the list that makes something of a node may stand in a report.
+-- A step of the list that makes something of a node may appear in a report.
 use Rattle.std.proofs.Common.{◌≡◌, ◌⊎◌, ℕ, ◌^◌, ◌<◌, ◌≤◌, List, [], ◌∷◌, ◌++◌, Bool, true, false, Some, inl, inr, length, refl, sym, subst, arith}
 use Rattle.std.specs.Prelude.{Result, Ok, Err, slice_get}
 use Rattle.std.specs.List.{AllByRecursion}
@@ -40,7 +40,7 @@ use Rattle.routine_proof.proofs.CandidateLists.{IsListed}
 use Rattle.routine_proof.proofs.ShallowTerms.{few_variables, terms_shallow}
 use Rattle.routine_proof.proofs.StandingTerms.{path_stands, terms_stand, test_set_stands}
 
--- where something is made, a condition is met
+-- if something is made, a condition is met
 pub is_met :
     {A B : Type 0} (m : Children) (why : Why) →
     A ⊎ (B × (◌≡◌ {A = Result Children Why} (Ok m) (Err why))) → A
@@ -48,7 +48,7 @@ is_met m why (inl p) = p
 is_met m why (inr (n, e)) =
     absurd (let q : ◌≡◌ {A = Result Children Why} (Ok m) (Err why) = e in cc)
 
--- where something is made there are few nodes
+-- if something is made there are few nodes
 pub few_nodes :
     (above : Tree → Tree → Type 0) (c : Clause) (nodes : List Clause) (row : Row) (m : Children) →
     Says above c nodes row (Ok m) → length nodes ≤ 10000

@@ -1,4 +1,4 @@
--- Sorted terms may stand in a report where the names of the symbols may, and so may test sets and
+-- Sorted terms may appear in a report if the names of the symbols may, and so may test sets and
 -- paths.
 use Rattle.std.proofs.Common.{◌≡◌, ℕ, zero, suc, ◌+◌, ◌<◌, ◌≤◌, List, [], ◌∷◌, Some, None, map, length, refl, ap, sym, ◌∙◌, subst, arith}
 use Rattle.std.specs.Prelude.{slice_get, option_map}

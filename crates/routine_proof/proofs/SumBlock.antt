@@ -163,7 +163,7 @@ no_first_rule nodes m p =
     subst (λ (r : Rule). IsInstance r there.0.term) (sym e) fits.0.0 in
     not_zero (instance i.terms (var 0)) (i.is ∙ same)
 
--- a candidate of one step has no result where the step isn't defined
+-- a candidate of one step has no result if the step isn't defined
 none_of :
     (here : Step → Children → Type 0) (step : Step) → ((m : Children) → here step m → ⊥) →
     HasNone (Gives here)
@@ -174,7 +174,7 @@ none_of :
     })
 none_of here step never r g = never r.made (subst (λ s. here s r.made) g.step g.defined)
 
--- what a candidate of one step gives where the table defines the step
+-- what a candidate of one step gives if the table defines the step
 its_move :
     (here : Step → Children → Type 0) (move : Move) → here move.step move.made →
     Gives here

@@ -34,7 +34,7 @@ conclusions c = range_with_len 1 (length c.conclusions)
 abbrev pub rules : Spec → List ℕ
 rules spec = range_with_len 1 (length spec.rules)
 
--- the clause of the node of this number
+-- the clause of the node with this number
 abbrev pub clause_at : List Node → ℕ → List Clause
 clause_at nodes j = map (λ (n : Node). n.clause) (option_to_list (slice_get nodes j))
 

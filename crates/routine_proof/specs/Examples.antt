@@ -42,7 +42,7 @@ by_rule = Rule (conclusion_side true []) 2
 abbrev pub listed : List Candidate → List Step
 listed cs = map (λ (c : Candidate). c.step []) cs
 
--- => ?0 = zero, behind the node plus(?0, zero) = ?0 and the step rule c1.l 2 there
+-- => ?0 = zero, after the node plus(?0, zero) = ?0 and the step rule c1.l 2 there
 abbrev pub behind_unit : Node
 behind_unit = record {
   clause = claims one (equals (var 0) zero_term);
@@ -62,7 +62,7 @@ abbrev pub no_rules : Spec
 no_rules = record naturals { rules = [] }
 
 pub record WorkedExamples : Type 0 where
-  -- plus(succ(zero), zero) = succ(zero) has this routine block, which is its first proof where
+  -- plus(succ(zero), zero) = succ(zero) has this routine block, which is its first proof if
   -- three nodes may be made; with two nodes it has none
   pub block : IsRoutine AboveInSums naturals [] (goal_clause sum_goal) no_split sum_steps
   pub first_proof : IsFirstProof AboveInSums naturals [] sum_goal 3 (Some sum_steps)
@@ -76,13 +76,13 @@ pub record WorkedExamples : Type 0 where
   pub behind_the_split :
       listed (candidates no_rules [] (split 0) 1 (with_premise ∷ []) with_premise)
       ≡ listed (entries no_rules [] (with_premise ∷ []) with_premise)
-  -- nodes behind which there are covers alone aren't among the ancestors
+  -- nodes after which there are covers alone aren't among the ancestors
   pub ancestors_to_a_rule :
       ancestors ((0, by_cases) ∷ (2, by_rule) ∷ (4, by_cases) ∷ []) ≡ 0 ∷ 2 ∷ []
   pub no_ancestors : ancestors ((0, by_cases) ∷ (1, by_cases) ∷ []) ≡ []
   -- goals are lemmas in the order of the specification, each once
   pub lemmas_in_order : lemma_goals naturals (1 ∷ 0 ∷ 1 ∷ []) ≡ naturals.goals
-  -- behind node 0 and with the goal unit as a lemma: each entry in its order, the places of the
+  -- after node 0 and with the goal unit as a lemma: each entry in its order, the places of the
   -- left side before those of the right one, and an equation as written before it is swapped
   pub list_behind_unit :
       listed

@@ -25,7 +25,7 @@ OneProof above =
     IsWellSorted spec → IsFirstProof above spec lemmas goal most a →
     IsFirstProof above spec lemmas goal most b → a ≡ b
 
--- steps that prove a clause by some lemmas prove it behind claims that prove these goals
+-- steps that prove a clause by some lemmas prove it after claims that prove these goals
 abbrev pub ProvesBehindClaims : (Tree → Tree → Type 0) → Type 0
 ProvesBehindClaims above =
     (spec : Spec) (lemmas : List ℕ) (before : List Claim) (start : Clause) (steps : List Step) →

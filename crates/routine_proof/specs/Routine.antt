@@ -33,7 +33,7 @@ candidates spec lemmas (split v) zero nodes node = cover spec node.clause v
 candidates spec lemmas (split v) (suc k) nodes node = entries spec lemmas nodes node
 candidates spec lemmas no_split k nodes node = entries spec lemmas nodes node
 
--- the claim that the steps prove the goal, as it stands in a report
+-- the claim that the steps prove the goal, as it appears in a report
 abbrev pub claim_bytes : Spec → Goal → List Step → List ℕ
 claim_bytes spec goal steps =
     claim_text spec.sig

@@ -1,4 +1,4 @@
--- The steps of routine blocks may stand in a report.
+-- The steps of routine blocks may appear in a report.
 use Rattle.std.specs.Prelude.{ℕ, ◌<◌, ◌^◌, List, length}
 use Rattle.std.specs.List.{AllByRecursion}
 use Rattle.term_core.specs.Tree.{Tree}
@@ -13,13 +13,13 @@ use Rattle.proof_script.specs.Names.{IsReportName}
 use Rattle.proof_script.specs.Standing.{StepStands}
 use Rattle.routine_proof.specs.Routine.{Start, IsRoutine}
 
--- the name of each symbol and of each goal may stand in a report
+-- the name of each symbol and of each goal may appear in a report
 pub record NamesStand (spec : Spec) : Type 0 where
   pub symbols : AllByRecursion IsReportName (names_of spec.sig)
   pub goals : AllByRecursion (λ (g : Goal). IsReportName g.name) spec.goals
 
--- where names may stand, the number of each rule is short and the goal's clause is within the
--- limits, each step of a routine block may stand
+-- if names may appear, the number of each rule is short and the goal's clause is within the
+-- limits, each step of a routine block may appear
 abbrev pub RoutineBlocksStand : (Tree → Tree → Type 0) → Type 0
 RoutineBlocksStand above =
     (spec : Spec) (lemmas : List ℕ) (goal : Goal) (start : Start) (steps : List Step) →

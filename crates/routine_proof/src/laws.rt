@@ -16,12 +16,12 @@ pub fn one_proof<O: TermOrder>()
     ensures { (o : O) → OneProof (O.above o) }
 {}
 
-/// What proves a clause by lemmas proves it behind claims that prove them.
+/// What proves a clause by lemmas proves it after claims that prove them.
 pub fn proves_behind_claims<O: TermOrder>(order: &O)
     ensures { ProvesBehindClaims (O.above order.now) }
 {}
 
-/// Each step of a routine block may stand in a report.
+/// Each step of a routine block may appear in a report.
 pub fn routine_blocks_stand<O: TermOrder>(order: &O)
     ensures { RoutineBlocksStand (O.above order.now) }
 {

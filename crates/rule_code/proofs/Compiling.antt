@@ -13,7 +13,7 @@ use Rattle.rule_code.proofs.Values.{all_built, built_parts, call_parts}
 use Rattle.rule_code.proofs.Slots.{AreSlots, slot_kept, slot_next, holds_kept}
 
 module _ (spec : Spec) (fine : IsWellSorted spec) (homes : List ℕ) (xs : List Tree) where
-  -- what stands behind the code of a term: the term gave a value, which stands in its slot, and the rest goes on
+  -- what comes after the code of a term: the term gave a value, which is in its slot, and the rest goes on
   pub record After (env : List Tree) (rest : List Step) (end : End) (w : Tree) (n : ℕ) (t : Tree) (s next : ℕ) : Type 0 where
     pub more : List Tree
     pub value : Tree
@@ -144,7 +144,7 @@ module _ (spec : Spec) (fine : IsWellSorted spec) (homes : List ℕ) (xs : List 
     is : vs ≡ some value values
     cost : m ≡ first + other
 
-  -- what stands before the code of a term that gives a value: where the rest goes on from its slots, the whole does
+  -- what comes before the code of a term that gives a value: if the rest goes on from its slots, the whole does
   pub record Before (env : List Tree) (steps rest : List Step) (end : End) (v : Tree) (m s next : ℕ) : Type 0 where
     pub more : List Tree
     pub count : length (env ++ more) ≡ next

@@ -15,14 +15,14 @@ pub not_is : (r : Bool) (P : Type 0) → r ≡ false → (IsTrue r ↔ P) → P 
 not_is true P e h p = cc
 not_is false P e h p = let t : IsTrue false = h.1 p in absurd (cc)
 
--- steps behind steps
+-- steps after steps
 pub doing_both : (xs ys : List Step) → doing (xs ++ ys) ≡ doing xs ++ doing ys
 doing_both xs ys = map-append (λ (s : Step). does s) xs ys
 
 pub emitted_var : (sig : Sig) (homes : List ℕ) (t : Tree) (n s next : ℕ) (old : List Instruction) → var n ≡ t → slice_get homes n ≡ Some s → IsEmitted sig homes t next old old s next
 emitted_var sig homes t n s next old e at = ([], sym (append-nil old), subst (λ z. Codes sig homes z next [] s next) e (refl, at, refl))
 
--- the step of an application is added behind those of its arguments
+-- the step of an application is added after those of its arguments
 app_added : (sig : Sig) (homes : List ℕ) (t : Tree) (f : ℕ) (ts : Trees) (next s : ℕ) (old mid new : List Instruction) (before slots : List ℕ) (step : Step) → app f ts ≡ t → IsStep sig f slots step → before ≡ [] → AreEmitted sig homes ts next old mid before slots s → new ≡ mid ++ does step ∷ [] → IsEmitted sig homes t next old new s (s + 1)
 app_added sig homes t f ts next s old mid new before slots step e is empty a push =
     let ss : slots ≡ a.1 = a.3 ∙ ap (λ z. z ++ a.1) empty in

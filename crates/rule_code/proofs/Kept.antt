@@ -1,4 +1,4 @@
--- Instructions keep their slots where further slots are added.
+-- Instructions keep their slots when further slots are added.
 use Rattle.std.proofs.Common.{◌≡◌, ℕ, ◌+◌, ◌≤◌, List, [], ◌∷◌, ◌++◌, Result, Ok, Err, refl, ap, ◌∙◌, arith, length, length-append, length-drop, take, drop}
 use Rattle.std.proofs.lemmas.List.{take-append-le, drop-append-le, map-append, take_all}
 use Rattle.std.specs.Prelude.{OnErr}

@@ -1,4 +1,4 @@
--- What stands at a place of a left side stands there in each call that it matches.
+-- What is at a place of a left side is there in each call that it matches.
 use Rattle.std.proofs.Common.{◌≡◌, ℕ, zero, suc, ◌≤◌, List, [], ◌∷◌, Option, Some, None, refl, ap, sym, ◌∙◌, subst, length, arith}
 use Rattle.std.specs.Prelude.{slice_get}
 use Rattle.term_core.proofs.Trees.{trees_of-list_of}
@@ -43,7 +43,7 @@ instance_at xs (p ∷ pats) (v ∷ env) (suc i) t e at =
     let rest : instances xs (trees_of pats) ≡ trees_of env = cc in
     instance_at xs pats env i t rest at
 
--- a symbol of the terms stands in their instances
+-- a symbol of the terms occurs in their instances
 pub seen : (xs : List Tree) (below : List ℕ) (i c : ℕ) (pats env : List Tree) → instances xs (trees_of pats) ≡ trees_of env → symbol_at i below pats ≡ Some c → symbol_at i below env ≡ Some c
 seen xs [] i c pats env e at = by (slice_get pats i) refl
   where

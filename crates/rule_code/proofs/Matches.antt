@@ -1,4 +1,4 @@
--- The tests of a left side pass exactly where it matches.
+-- The tests of a left side pass if and only if it matches.
 use Rattle.std.proofs.Common.{◌≡◌, inl, inr, ℕ, zero, suc, ◌+◌, ◌<◌, ◌≤◌, List, [], ◌∷◌, ◌++◌, Some, None, Option, refl, ap, sym, ◌∙◌, subst, arith, length, length-append, get_or, map}
 use Rattle.std.specs.Prelude.{slice_get}
 use Rattle.std.proofs.lemmas.List.{map-append, length-map}
@@ -75,7 +75,7 @@ module _ (xs pats : List Tree) (k f : ℕ) (us : List Tree) (at : slice_get pats
       let r : trees_of vs ≡ trees_of (made xs us) = cc in
       ap (λ z. made xs pats ++ z) (trees_same vs (made xs us) r) ∙ sym (made_append xs pats us)
 
--- where the slots are instances of their patterns, no test fails
+-- if the slots are instances of their patterns, no test fails
 pub match_passes : (xs : List Tree) {pats all : List Tree} {k : ℕ} {tests : List Test} → Opens pats k tests all → Fails (made xs pats) tests → ⊥
 match_passes xs (opened h) f = absurd f
 match_passes xs (passed n at o) f = match_passes xs o f
@@ -132,7 +132,7 @@ some_same o x y a b =
     let q : Some x ≡ Some y = sym a ∙ b in
     cc
 
--- where the tests pass, each pattern's instance under the values of the variables' slots is the value of its slot
+-- if the tests pass, each pattern's instance under the values of the variables' slots is the value of its slot
 module _ (homes : List ℕ) (grown : List Tree) where
   pub passed_match : {pats all : List Tree} {k : ℕ} {tests : List Test} (env : List Tree) → Opens pats k tests all → HaveHomes all homes grown → Unpacks env tests grown → length env ≡ length pats → (j : ℕ) (p v : Tree) → k ≤ j → slice_get pats j ≡ Some p → slice_get env j ≡ Some v → instance (entries grown homes) p ≡ v
   passed_match env (opened {pats} h) hs u n j p v le at has = absurd (omega (arith, h, le, slice_get_within pats j p at))

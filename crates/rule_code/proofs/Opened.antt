@@ -8,7 +8,7 @@ use Rattle.term_core.proofs.Items.{drop_here}
 use Rattle.rule_code.specs.Matching.{Opens, opened, passed, opens, test}
 use Rattle.rule_code.specs.declared.tests.Test.{Test}
 
--- how far the opening has come: what opens the patterns from slot k on, behind the tests so far, opens the first patterns
+-- how far the opening is: what opens the patterns from slot k on, after the tests so far, opens the first patterns
 abbrev pub IsOpening : List Tree → List Tree → ℕ → List Test → Type 0
 IsOpening pats now k tests = (rest : List Test) (all : List Tree) → Opens now k rest all → Opens pats 0 (tests ++ rest) all
 

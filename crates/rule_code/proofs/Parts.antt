@@ -159,7 +159,7 @@ module _ (rules : List Rule) (first : ℕ) (numbers : List ℕ) (path : Path) wh
         by k rule l at None e can = tt
         by k rule l at (Some c) e can = absurd (none k rule l at (e ∙ ap (λ z. Some z) can))
 
-    -- behind the last case
+    -- after the last case
     pub splitting_ends : (split : Split) → end ≤ s → split.path ≡ path → split.low ≡ low → split.cases.items ≡ cases → split.other ≡ first → AreParts rules first numbers split nodes
     splitting_ends split past p l cs o = record {
       leaves = h.leaves;
@@ -200,7 +200,7 @@ module _ (rules : List Rule) (first : ℕ) (numbers : List ℕ) (path : Path) wh
                 let le : low ≤ d = grind (arith, nat_tests) in
                 subst (λ z. LeadsInto rules first nodes numbers path d z) (sym (shown ∙ ap (λ b. cond b first (get_or cases (d - low) first)) e)) (within d le)
 
--- a node gets a split, and the nodes that follow stand behind all others
+-- a node gets a split, and the nodes that follow come after all others
 module _ (old new parts : List TreeNode) (at : ℕ) (split : Split) (put : IsPut (old ++ parts) new at split) where
   -- each node has its rules
   kept : (i : ℕ) (one : TreeNode) → slice_get (old ++ parts) i ≡ Some one → (two : TreeNode) × (slice_get new i ≡ Some two) × (two.rules ≡ one.rules)

@@ -1,4 +1,4 @@
--- Blocks of code stay where more code is added behind them.
+-- Blocks of code stay when more code is added after them.
 use Rattle.std.proofs.Common.{◌≡◌, ℕ, suc, ◌+◌, ◌<◌, List, [], ◌∷◌, ◌++◌, Some, inl, inr, refl, ap, sym, ◌∙◌, subst, arith, length, length-append, append_assoc}
 use Rattle.std.specs.Prelude.{slice_get}
 use Rattle.std.proofs.lemmas.List.{append-nil}
@@ -29,7 +29,7 @@ more_kept code more k (s ∷ steps) end h = (get_more code more k (does s) h.0, 
 pub code_kept : (old new : List Instruction) (k : ℕ) (steps : List Step) (end : End) → AddsCode old new → IsCodeAt old k steps end → IsCodeAt new k steps end
 code_kept old new k steps end adds h = subst (λ c. IsCodeAt c k steps end) (sym adds.1) (more_kept old adds.0 k steps end h)
 
--- a block stands where it was added
+-- a block is where it was added
 block_at : (code : List Instruction) (steps : List Step) (end : End) → IsCodeAt (code ++ block steps end) (length code) steps end
 block_at code [] end =
     let e : length code + 0 ≡ length code = omega arith in
@@ -75,6 +75,6 @@ module _ (sig : Sig) (number : ℕ) (rule : Rule) (left : LeftSide) where
   pub test_added : (old new : List Instruction) (begins after : List ℕ) (place n : ℕ) (g : Guard) → place ≡ length old → after ≡ begins ++ place ∷ [] → slice_get rule.guards n ≡ Some g → HaveFirst old begins n → AddsBlock old new (IsTestOf sig left g.test number n) → HaveFirst new after (n + 1)
   test_added old new begins after place n g at e listed h b = next_added old new begins after place n at e h (b.0, b.1, b.2, inr (g, b.3.0, b.3.1, listed, b.3.2, b.3.3))
 
-  -- and the right side behind all of them
+  -- and the right side after all of them
   pub right_added : (old new : List Instruction) (begins after : List ℕ) (place n : ℕ) → place ≡ length old → after ≡ begins ++ place ∷ [] → n ≡ length rule.guards → HaveFirst old begins n → AddsBlock old new (IsBody sig left.homes.items rule.right left.width) → HaveBlocks sig new number rule left after
   right_added old new begins after place n at e all h b k le = (next_added old new begins after place n at e h (b.0, b.1, b.2, inl (all, b.3))).each k (omega (arith, le, all))

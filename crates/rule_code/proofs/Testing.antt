@@ -98,7 +98,7 @@ pub record IsPassing (cells : List Cell) (base : ℕ) (places : List ℕ) (env :
   pub passes : (g : List Tree) → Unpacks grown rest g → Unpacks env tests g
   pub fails : Fails grown rest → Fails env tests
 
--- the same of all terms that may stand there, where the first i tests have passed
+-- the same of all terms that may be there, if the first i tests have passed
 abbrev pub ArePassing : List Cell → ℕ → List ℕ → List ℕ → List Test → ℕ → Type 0
 ArePassing cells base start places tests i = (env pats all : List Tree) → Opens pats 0 tests all → AreTerms cells (drop base start) (trees_of env) → length env ≡ length pats → IsPassing cells base places env tests (drop i tests) all
 
@@ -195,7 +195,7 @@ extends_nothing xs = ([], sym (append-nil xs))
 pub extends_length : (old new : List ℕ) → Extends old new → length old ≤ length new
 extends_length old new x = omega (arith, ap length x.1, length-append old x.0)
 
--- what is read at a slot's place, where it is a number
+-- what is read at a slot's place, if it is a number
 pub slot_term : {cells : List Cell} {places : List ℕ} {base k : ℕ} {v : Tree} → SlotPlace cells places base k v → IsTerm cells (get_or places (base + k) 0) v
 slot_term {cells} {places} {base} {k} {v} s = subst (λ z. IsTerm cells z v) (sym (read_is places (base + k) s.place 0 s.at)) s.is
 
@@ -204,7 +204,7 @@ module _ (cells : List Cell) (base : ℕ) (places : List ℕ) (grown : List Tree
   pub slot_there : (k : ℕ) → k < length grown → SlotPlace cells places base k (instance grown (var k))
   slot_there k lt = slot_place cells places base k grown (instance grown (var k)) terms (some_slot grown k lt)
 
-  -- as many slots as other terms that stand there have
+  -- as many slots as other terms that are there have
   pub same_count : (other : List Tree) → AreTerms cells (drop base places) (trees_of other) → length grown ≡ length other
   same_count other h = terms_count cells (drop base places) grown terms ∙ sym (terms_count cells (drop base places) other h)
 
@@ -216,7 +216,7 @@ module _ (rule : Rule) (left : LeftSide) (side : IsLeftSide rule left) (env grow
       let n = unpacked_count env grown side.opens count unpacks in
       (omega (arith, slice_get_within side.all r.first (var q.0) q.1, n), omega (arith, slice_get_within side.all r.again (var q.0) q.2, n))
 
-  -- where they have one value, each variable has one
+  -- if they have one value, each variable has one
   pub have_homes : AreSame grown left.repeats.items → HaveHomes side.all left.homes.items grown
   have_homes same s n at =
       let lt : n < length left.homes.items = omega (arith, side.variables s n at, side.homes.counted) in
@@ -228,7 +228,7 @@ module _ (rule : Rule) (left : LeftSide) (side : IsLeftSide rule left) (env grow
       by h (inl e) = ap (λ z. instance grown (var z)) e
       by h (inr p) = same p.0 (repeat h s) p.1
 
-  -- where the left side is the call under some entries, they have
+  -- if the left side is the call under some entries, they have
   pub match_same : (xs : List Tree) → instance xs rule.left ≡ app side.function (trees_of env) → AreSame grown left.repeats.items
   match_same xs is k r at =
       let q = side.repeats.right k r at in
@@ -242,7 +242,7 @@ pub repeats_fit : (cells : List Cell) (left : LeftSide) (base : ℕ) (new : List
 repeats_fit cells left base new rule side env true n (grown, (terms, unpacks)) same = (grown, (terms, unpacks), have_homes rule left side env grown n unpacks (same.0 refl))
 repeats_fit cells left base new rule side env false n (grown, (terms, unpacks)) same = λ xs is. let t : IsTrue false = same.1 (match_same rule left side env grown n unpacks xs is) in absurd (let q : false ≡ true = t in cc)
 
--- what was added is taken away where the left side doesn't match
+-- what was added is taken away if the left side doesn't match
 pub not_fits : (cells : List Cell) (left : LeftSide) (base : ℕ) (old new cut : List ℕ) (fit : Bool) → Fits cells left base old new fit → fit ≡ false → cut ≡ take (length old) new → Tells cells left base old cut fit
 not_fits cells left base old new cut fit h fails e =
     let f : Fits cells left base old new false = subst (λ b. Fits cells left base old new b) fails h in

@@ -14,7 +14,7 @@ module _ (sig : Sig) where
   IsStep f ss (build g us) = IsConstructor sig f × (g ≡ f) × (us ≡ ss)
   IsStep f ss (call g us) = ¬ (IsConstructor sig f) × (g ≡ f) × (us ≡ ss)
 
-  -- each variable n stands in the slot homes n. These steps put the term into a slot, where the slots up to `next` are
+  -- each variable n is in the slot homes n. These steps put the term into a slot, where the slots up to `next` are
   -- taken before and those up to `end` after them
   module _ (homes : List ℕ) where
     abbrev mutual
@@ -48,7 +48,7 @@ module _ (sig : Sig) where
     pub are : entries env homes ≡ xs
     pub below : AllByRecursion (λ (h : ℕ). h < length env) homes
 
-  -- the code that follows where the rule's first k guards hold: that of its test k, or of its right side where there is none
+  -- the code that follows if the rule's first k guards hold: that of its test k, or of its right side if there is none
   abbrev pub IsNext : List ℕ → ℕ → Rule → ℕ → ℕ → List Step → End → Type 0
   IsNext homes number rule k next steps end =
       ((k ≡ length rule.guards) × IsBody homes rule.right next steps end)

@@ -9,7 +9,7 @@ use Rattle.rule_code.specs.declared.splitting.Wanted.TheVariants.{One, Outside}
 use Rattle.rule_code.specs.DecisionTrees.{Lists, next_of, KeepsThose}
 use Rattle.rule_code.specs.Symbols.{symbol_in, CanBe}
 
--- nothing stands there, or a symbol outside of the numbers from `low` to below `end`
+-- nothing is there, or a symbol outside of the numbers from `low` to below `end`
 abbrev pub CanBeOutside : ℕ → ℕ → Option ℕ → Type 0
 CanBeOutside low end None = Unit {0}
 CanBeOutside low end (Some c) = (c < low) ⊎ (end ≤ c)
@@ -42,7 +42,7 @@ module _ (rules : List Rule) where
       (k : ℕ) (rule : Rule) → Lists numbers k → slice_get rules k ≡ Some rule
       → symbol_in path rule ≡ Some d → ⊥
 
-  -- the node of this number, where the first of these nodes has the number `first`, keeps the rules that can match
+  -- the node with this number, where the first of these nodes has the number `first`, keeps the rules that can match
   pub record LeadsInto (first : ℕ) (nodes : List TreeNode) (numbers : List ℕ) (path : Path)
       (d next : ℕ) : Type 0 where
     pub place : ℕ
@@ -65,7 +65,7 @@ pub record IsPut (old new : List TreeNode) (at : ℕ) (split : Split) : Type 0 w
       × (put.split ≡ Some split)
   pub others : (i : ℕ) → i ≢ at → slice_get new i ≡ slice_get old i
 
--- the nodes keep their rules, and there are at most so many further ones
+-- the nodes keep their rules, and there are at most this many further ones
 pub record Grow (old new : List TreeNode) (most : ℕ) : Type 0 where
   pub more : length old ≤ length new
   pub count : length new ≤ length old + most

@@ -14,7 +14,7 @@ pub record IsHome (all : List Tree) (n h : ℕ) : Type 0 where
   pub there : slice_get all h ≡ Some (var n)
   pub first : (j : ℕ) → j < h → slice_get all j ≡ Some (var n) → ⊥
 
--- the first slot of each of so many variables
+-- the first slot of each of this many variables
 pub record AreHomes (all : List Tree) (count : ℕ) (homes : List ℕ) : Type 0 where
   pub counted : length homes ≡ count
   pub each : (n h : ℕ) → slice_get homes n ≡ Some h → IsHome all n h
@@ -38,7 +38,7 @@ pub record IsLeftSide (rule : Rule) (left : LeftSide) : Type 0 where
   pub variables : (s n : ℕ) → slice_get all s ≡ Some (var n) → n < length rule.vars
   pub width : left.width ≡ length all
 
--- the variables of the rule of this number have these slots, and n slots are as many as its left side takes
+-- the variables of the rule with this number have these slots, and n slots are as many as its left side takes
 pub record AreOwnHomes (rules : List Rule) (number n : ℕ) (homes : List ℕ) : Type 0 where
   pub rule : Rule
   pub left : LeftSide

@@ -23,7 +23,7 @@ CodeIsWhole = (spec : Spec) (homes : List ℕ) (env xs : List Tree) (t : Tree) (
     → IsBody spec.sig homes t (length env) steps end → Holds spec.sig homes env xs
     → Gives spec (instance xs t) w n → Does spec env steps end w n
 
--- where the tests of a left side pass and the slots of each variable have one value, it is the call with the values,
+-- if the tests of a left side pass and the slots of each variable have one value, it is the call with the values,
 -- under the values of the variables' slots
 abbrev pub TestsMatch : Type 0
 TestsMatch = (f : ℕ) (pats all env grown : List Tree) (tests : List Test) (homes : List ℕ)
@@ -31,12 +31,12 @@ TestsMatch = (f : ℕ) (pats all env grown : List Tree) (tests : List Test) (hom
     → Unpacks env tests grown → instance (entries grown homes) (app f (trees_of pats))
     ≡ app f (trees_of env)
 
--- and where one of them fails, it is so under no entries
+-- and if one of them fails, it is so under no entries
 abbrev pub TestsDecide : Type 0
 TestsDecide = (f : ℕ) (pats all env xs : List Tree) (tests : List Test) → Opens pats 0 tests all
     → Fails env tests → instance xs (app f (trees_of pats)) ≡ app f (trees_of env) → ⊥
 
--- and where two slots of one variable differ, it is so under no entries
+-- and if two slots of one variable differ, it is so under no entries
 abbrev pub RepeatsDecide : Type 0
 RepeatsDecide = (f : ℕ) (pats all env grown xs : List Tree) (tests : List Test) (h s n : ℕ)
     → Opens pats 0 tests all → Unpacks env tests grown → slice_get all h ≡ Some (var n)

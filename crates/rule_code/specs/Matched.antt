@@ -14,7 +14,7 @@ abbrev pub AreSame : List Tree → List Repeat → Type 0
 AreSame grown repeats = (k : ℕ) (r : Repeat) → slice_get repeats k ≡ Some r
     → instance grown (var r.first) ≡ instance grown (var r.again)
 
--- places are added behind the old ones
+-- places are added after the old ones
 abbrev pub Extends : List ℕ → List ℕ → Type 0
 Extends old new = (more : List ℕ) × (new ≡ old ++ more)
 
@@ -35,7 +35,7 @@ module _ (cells : List Cell) where
         → AreTerms cells (drop base old) (trees_of env) → length env ≡ length pats
         → PassBy base env tests new yes
 
-  -- the left side is the call with the values, and its slots stand there; or no entries make it that call
+  -- the left side is the call with the values, and its slots are there; or no entries make it that call
   abbrev pub MatchBy : (left : LeftSide) (base : ℕ) (new : List ℕ) (rule : Rule)
       → IsLeftSide rule left → List Tree → Bool → Type 0
   MatchBy left base new rule side env true = (grown : List Tree)
@@ -53,7 +53,7 @@ module _ (cells : List Cell) where
   StaysBy old new true = Unit {0}
   StaysBy old new false = new ≡ old
 
-  -- the same, where nothing is added unless it matches
+  -- the same, if nothing is added unless it matches
   pub record Tells (left : LeftSide) (base : ℕ) (old new : List ℕ) (yes : Bool) : Type 0 where
     pub fits : Fits left base old new yes
     pub stays : StaysBy old new yes

@@ -3,7 +3,7 @@ use Rattle.std.specs.Prelude.{◌≡◌, ◌⊎◌, ℕ, suc, ◌≤◌, List, [
 use Rattle.rule_code.specs.declared.tests.Test.{Test}
 use Rattle.term_core.specs.Tree.{Tree, var, app, instance, trees_of}
 
--- whether the value of a slot is this symbol with so many arguments, which then become the next slots
+-- whether the value of a slot is this symbol with this many arguments, which then become the next slots
 abbrev pub test : ℕ → ℕ → ℕ → Test
 test s f n = record { slot = s; sym = f; count = n }
 

@@ -1,4 +1,4 @@
--- A specification's code, and code of terms behind it.
+-- A specification's code, and code of terms after it.
 use Rattle.std.specs.Prelude.{◌≡◌, ℕ, zero, suc, List, [], ◌∷◌, ◌++◌, Some, length, slice_get}
 use Rattle.term_core.specs.Tree.{Tree}
 use Rattle.spec_core.specs.declared.records.Rule.{Rule}
@@ -37,7 +37,7 @@ abbrev pub first_numbers : ℕ → List ℕ
 first_numbers zero = []
 first_numbers (suc n) = first_numbers n ++ n ∷ []
 
--- at this place begins the code of the term, whose variables, so many, stand in the first slots
+-- at this place begins the code of the term, whose variables, this many, are in the first slots
 abbrev pub IsSide : Program → ℕ → ℕ → Tree → Type 0
 IsSide p place count term = (steps : List Step) × (end : End) × IsCodeAt p.code place steps end
     × IsBody p.spec.sig (first_numbers count) term count steps end

@@ -24,7 +24,7 @@ symbol_at number (next ∷ below) terms =
 abbrev pub symbol_in : Path → Rule → Option ℕ
 symbol_in path rule = symbol_at path.argument path.below.items (arguments_of (Some rule.left))
 
--- nothing stands there, or this symbol
+-- nothing is there, or this symbol
 abbrev pub CanBe : Option ℕ → ℕ → Type 0
 CanBe None d = Unit {0}
 CanBe (Some c) d = c ≡ d

@@ -43,7 +43,7 @@ pub(crate) fn emit_blocks(
     Ok(begins)
 }
 
-/// Adds the code of a test, which is that of the rule with this number, behind so many others.
+/// Adds the code of a test, which is that of the rule with this number, after this many others.
 fn emit_test(
     alloc: Global,
     sig: &Signature,
@@ -63,7 +63,7 @@ fn emit_test(
     code.push(kind, &left.homes)
 }
 
-/// Adds the code of a term, whose variables stand in the slots `homes` of those below `next`.
+/// Adds the code of a term, whose variables are in the slots `homes` of those below `next`.
 pub fn emit_body(
     alloc: Global,
     sig: &Signature,

@@ -28,7 +28,7 @@ pub(crate) fn choose(
     Ok(best)
 }
 
-/// How many rules have a symbol at the place, or 0 where all have the same one.
+/// How many rules have a symbol at the place, or 0 if all have the same one.
 fn count_apart(rules: &[Rule], numbers: &[usize], path: &Path) -> usize {
     let mut count: usize = 0;
     let mut apart = false;
@@ -47,7 +47,7 @@ fn count_apart(rules: &[Rule], numbers: &[usize], path: &Path) -> usize {
     if apart { count } else { 0 }
 }
 
-/// The places of a left side at which symbols stand, each one before those below it.
+/// The places of a left side at which there are symbols, each one before those below it.
 fn paths_of(alloc: Global, rule: &Rule) -> Result<Vec<Path>, OutOfMemory> {
     let mut paths = Vec::new(alloc);
     let mut way = Vec::new(alloc);

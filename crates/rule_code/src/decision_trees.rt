@@ -8,7 +8,7 @@ use crate::symbols::Path;
 use value_bank::Bank;
 
 /// A decision tree of a function's rules (Maranget, 2008). The first node is the root, and each node
-/// stands before those that follow it.
+/// comes before those that follow it.
 #[derive(Drop)]
 pub struct DecisionTree {
     pub(crate) nodes: Vec<TreeNode>,

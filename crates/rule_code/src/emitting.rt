@@ -11,7 +11,7 @@ use std::alloc::Global;
 use term_core::{Node, OutOfMemory, Term, front};
 
 /// Adds the steps that put the term into a slot, where the slots below `next` are taken, and gives
-/// that slot, and the number of slots that are taken then. Variables stand in the slots `homes`.
+/// that slot, and the number of slots that are taken then. Variables are in the slots `homes`.
 #[cycle(emit)]
 pub(crate) fn emit(
     alloc: Global,

@@ -9,7 +9,7 @@ use spec_core::{Guard, Rule};
 use std::alloc::Global;
 use term_core::{OutOfMemory, front};
 
-/// The rules that go on where a rule's test is true, and where it is false.
+/// The rules that go on if a rule's test is true, and if it is false.
 #[derive(Clone, Copy)]
 pub struct Branch {
     pub(crate) if_true: Option<usize>,
@@ -17,7 +17,7 @@ pub struct Branch {
 }
 
 impl Branch {
-    /// The rule that goes on where the answer has this symbol and so many arguments.
+    /// The rule that goes on if the answer has this symbol and this many arguments.
     #[inline(always)]
     pub fn answered(&self, sym: u32, count: usize) -> Option<usize>
         ensures { (rules : List SpecRule) (rule : SpecRule) (k : ℕ) (args : List Tree)

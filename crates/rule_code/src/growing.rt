@@ -9,7 +9,7 @@ use spec_core::{Rule, RuleTable, Spec};
 use std::alloc::Global;
 use term_core::{OutOfMemory, SymId};
 
-/// A tree takes room for so many numbers for each rule beside those at the root. Where there is no
+/// A tree takes room for this many numbers for each rule beside those at the root. If there is no
 /// more of it a node keeps what is left.
 const ROOM_PER_RULE: usize = 16;
 
@@ -50,7 +50,7 @@ impl DecisionTree {
     }
 }
 
-/// Splits the node at this number, where a place leaves out more and there is room, and gives how
+/// Splits the node at this number, if a place leaves out more and there is room, and gives how
 /// much room it takes.
 fn grow(
     alloc: Global,

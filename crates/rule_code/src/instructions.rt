@@ -18,7 +18,7 @@ pub enum Kind {
     },
 }
 
-/// An instruction, and where the numbers of its slots stand.
+/// An instruction, and where the numbers of its slots are.
 #[derive(Clone, Copy)]
 pub(crate) struct Op {
     pub(crate) kind: Kind,

@@ -10,18 +10,18 @@ pub fn code_is_whole()
     ensures { CodeIsWhole }
 {}
 
-/// Where the tests of a left side pass and the slots of each variable have one value, it is the call
+/// If the tests of a left side pass and the slots of each variable have one value, it is the call
 /// with the values.
 pub fn tests_match()
     ensures { TestsMatch }
 {}
 
-/// Where one of them fails, it is so under no entries.
+/// If one of them fails, it is so under no entries.
 pub fn tests_decide()
     ensures { TestsDecide }
 {}
 
-/// Where two slots of one variable differ, it is so under no entries.
+/// If two slots of one variable differ, it is so under no entries.
 pub fn repeats_decide()
     ensures { RepeatsDecide }
 {}

@@ -42,7 +42,7 @@ impl LeftSide {
     }
 }
 
-/// The first slot of each of so many variables.
+/// The first slot of each of this many variables.
 fn find_homes(alloc: Global, patterns: &Patterns, count: usize) -> Result<Vec<usize>, OutOfMemory>
     requires { (n : ℕ) → n < count → (s : ℕ) × (slice_get patterns.now s ≡ Some (variable n)) }
     ensures { IfOk result (λ homes. AreHomes patterns.now count homes.items) }
@@ -77,7 +77,7 @@ fn is_variable(pattern: &Term, number: usize) -> bool
     }
 }
 
-/// The slots of variables behind their first ones.
+/// The slots of variables after their first ones.
 fn find_repeats(
     alloc: Global,
     patterns: &Patterns,

@@ -14,8 +14,8 @@ use term_core::OutOfMemory;
 use value_bank::{Bank, ValueId};
 
 impl LeftSide {
-    /// Whether the left side matches the call whose arguments stand from `base` on. If it does, all
-    /// its slots stand there, and else the places are as they were.
+    /// Whether the left side matches the call whose arguments begin at `base`. If it does, all
+    /// its slots are there, and else the places are as they were.
     pub fn matches(
         &self,
         bank: &Bank,

@@ -18,7 +18,7 @@ use term_core::OutOfMemory;
 #[derive(Drop)]
 pub struct RuleCode {
     pub left: LeftSide,
-    /// Where the code begins that follows where the first so many guards hold.
+    /// At k, where the code begins that follows if the first k guards hold.
     pub begins: Vec<usize>,
     /// For each guard the rules that go on with the answers of its test.
     pub branches: Vec<Branch>,
@@ -54,7 +54,7 @@ impl RuleCode {
     }
 }
 
-/// Adds the code of each rule, one behind the other.
+/// Adds the code of each rule, one after the other.
 pub fn compile_rules(
     alloc: Global,
     spec: &Spec,

@@ -74,7 +74,7 @@ pub(crate) fn leaf(rules: Vec<usize>) -> TreeNode
     TreeNode { rules, split: None }
 }
 
-/// From which number on and below which one the symbols are that stand at the place.
+/// From which number on and below which one the symbols are that are at the place.
 fn span(rules: &[Rule], numbers: &[usize], path: &Path) -> (u32, u32) {
     let mut low = u32::MAX;
     let mut end = 0;
@@ -120,7 +120,7 @@ fn stands(rules: &[Rule], numbers: &[usize], path: &Path, sym: u32) -> bool
     false
 }
 
-/// Whether this symbol stands there.
+/// Whether this symbol is there.
 fn is_symbol(there: Option<u32>, sym: u32) -> bool
     ensures { IsTrue result ↔ (there ≡ Some sym) }
 {

@@ -1,4 +1,4 @@
-/// Whether the value of a slot is this symbol with so many arguments, which then become the next
+/// Whether the value of a slot is this symbol with this many arguments, which then become the next
 /// slots.
 #[derive(Clone, Copy)]
 pub(crate) struct Test {
@@ -7,7 +7,7 @@ pub(crate) struct Test {
     pub(crate) count: usize,
 }
 
-/// Whether two slots have one value, where a variable stands twice on a left side.
+/// Whether two slots have one value, for a variable that occurs twice on a left side.
 #[derive(Clone, Copy)]
 pub(crate) struct Repeat {
     pub(crate) first: usize,

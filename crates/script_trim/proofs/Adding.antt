@@ -25,7 +25,7 @@ pub taken_at : {X : Type 0} (xs : List X) (k : ℕ) (x : X) → slice_get xs k �
     take (k + 1) xs ≡ take k xs ++ x ∷ []
 taken_at xs k x at = taken_next xs k x (slice_get_within xs k x at) (sym (get_or_from_slice_get xs k x x at))
 
--- the step of the equation of this number
+-- the step of the equation with this number
 pub step_at : (f : ℕ → Step) (count place number : ℕ) → place < count → number ≡ place + 1 →
     slice_get (map f (range_with_len 1 count)) place ≡ Some (f number)
 step_at f count place number lt is =

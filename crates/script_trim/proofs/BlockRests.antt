@@ -1,4 +1,4 @@
--- What is left of a kept block where a closing step that is defined at a node closes it, and why
+-- What is left of a kept block if a closing step that is defined at a node closes it, and why
 -- nothing is.
 use Rattle.std.proofs.Common.{◌≡◌, ◌↔◌, ℕ, suc, ◌<◌, ◌≤◌, List, [], ◌∷◌, Bool, true, Some, take, ltb, refl}
 use Rattle.std.proofs.Common.{sym, ◌∙◌}
@@ -204,7 +204,7 @@ module _
       refs = closed_refers;
     }
 
-    -- where the step closes the node, it makes what is kept of it, and not a reference to the node itself
+    -- if the step closes the node, it makes what is kept of it, and not a reference to the node itself
     module _ (rest : List Step) (c : Closes above spec whole number i fit.step rest) where
       quick : CanClose above spec whole number i fit.step rest
       quick = necessary above one spec fine whole kept.accepted number i fit.step rest c
@@ -329,7 +329,7 @@ module _
             subst (λ ss. length (claim_text spec.sig (proves kept.name ss)) ≤ 300000) must_be
             (subst (λ x. length (claim_text spec.sig (proves x rest)) ≤ 300000) n can.short)
 
-      -- and what is left where it can
+      -- and what is left if it can
       module _ (refer : AllByRecursion (RefersToStaying stays) left_steps) where
         pub cut : IsCut kept.claim.steps made i fit.step others
         cut = record {

@@ -90,7 +90,7 @@ module _ (above : Tree → Tree → Type 0) (spec : Spec) (usable : ℕ → Type
           few = few;
         }
 
-    -- no step is refused where all are defined
+    -- no step is refused if all are defined
     pub not_refused :
         OneRelation above → IsWellSorted spec → (made : List Children) →
         StepsMake above spec usable (start ∷ []) 0 steps made → (new : TakenSteps) (why : Why) →

@@ -135,7 +135,7 @@ module _ (above : Tree → Tree → Type 0) (spec : Spec) (usable : ℕ → Type
     descends_later i j (child r h) = child_later i j r h
     descends_later i j (further k r d h) = omega (arith, descends_later i k d, child_later k j r h)
 
-    -- and behind the first child
+    -- and after the first child
     pub descends_from : (i j : ℕ) → Descends made i j → first_child made i ≤ j
     descends_from i j (child r h) = omega (arith, h.6)
     descends_from i j (further k r d h) = omega (arith, h.6, later_first made i k (descends_later i k d))

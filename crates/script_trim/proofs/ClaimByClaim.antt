@@ -33,7 +33,7 @@ set_again [] n x y = refl
 set_again (z ∷ zs) zero x y = refl
 set_again (z ∷ zs) (suc n) x y = ap (λ ws. z ∷ ws) (set_again zs n x y)
 
--- the goals that may be used where the claims before are these
+-- the goals that may be used if the claims before are these
 abbrev pub SameUsable : Spec → List Claim → List Claim → Type 1
 SameUsable spec claims others = ◌≡◌ {A = ℕ → Type 0} (ProvedBefore spec claims) (ProvedBefore spec others)
 
@@ -53,7 +53,7 @@ module _ (above : Tree → Tree → Type 0) (one : OneRelation above) (spec : Sp
       )
 
   module _ (number : ℕ) where
-    -- two accepted reports with one claim of this number, before which they prove the same goals
+    -- two accepted reports with one claim with this number, before which they prove the same goals
     module _ (old other : Report) (a : IsAccepted above spec old) (b : IsAccepted above spec other)
         (same : slice_get old.claims number ≡ slice_get other.claims number)
         (usable : SameUsable spec (take number old.claims) (take number other.claims)) where
@@ -126,7 +126,7 @@ module _ (above : Tree → Tree → Type 0) (one : OneRelation above) (spec : Sp
         is = refl;
       }
 
-    -- where first cuts within the claim end at this claim, so do first cuts of the report with it
+    -- if first cuts within the claim end at this claim, so do first cuts of the report with it
     pub record LeadsOn (report : Report) (claim : Claim) : Type 0 where
       pub leads :
           (last : Report) → LeadsTo above spec (with_claim report number claim) last → LeadsTo above spec report last

@@ -1,4 +1,4 @@
--- A block that is cut stays allowed where the closing step refers to nothing that isn't Less.
+-- A block that is cut stays allowed if the closing step refers to nothing that isn't Less.
 use Rattle.std.proofs.Common.{◌≡◌, ◌≢◌, ◌⊎◌, ◌↔◌, ℕ, ◌+◌, ◌<◌, List, [], ◌∷◌, Bool, true, Some, None, inl}
 use Rattle.std.proofs.Common.{inr, refl, sym, ◌∙◌, ap, subst, arith, length}
 use Rattle.std.specs.Prelude.{slice_get, slice_set, IsTrue}

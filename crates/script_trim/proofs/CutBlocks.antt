@@ -42,7 +42,7 @@ module _
   within_made : i < length made
   within_made = omega (arith, within, as_many above spec usable (start ∷ []) 0 steps made makes)
 
-  -- where the closing step makes this at node i, over the nodes that the steps before it make, the steps
+  -- if the closing step makes this at node i, over the nodes that the steps before it make, the steps
   -- that are left make what stays
   pub cut_makes :
       StepMakes above spec usable (nodes_of start (take i made)) i step closed →

@@ -108,7 +108,7 @@ module _ (stays : ℕ → Bool) (above : Tree → Tree → Type 0) (spec : Spec)
         (sym (staying_no stays k m made e)) next)
 
   module _ (i : ℕ) where
-    -- behind the node that is closed
+    -- after the node that is closed
     pub go_after :
         (nodes : List Clause) (k n : ℕ) (steps : List Step) (made : List Children) → n ≡ length nodes → i < k →
         StepsMake above spec usable nodes k steps made → AreLocal stays i k n made → Refer k steps →
@@ -127,7 +127,7 @@ module _ (stays : ℕ → Bool) (above : Tree → Tree → Type 0) (spec : Spec)
         p.1 h.1 r)
         refer
 
-    -- from the front, where the closing step makes this at node i, and nothing behind it
+    -- from the front, if the closing step makes this at node i, and nothing after it
     pub go_before :
         (d : ℕ) (nodes : List Clause) (k n : ℕ) (steps : List Step) (made : List Children) → n ≡ length nodes →
         k + d ≡ i → d < length steps → StepsMake above spec usable nodes k steps made → AreLocal stays i k n made →

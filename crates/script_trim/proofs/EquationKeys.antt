@@ -30,7 +30,7 @@ first_among : (es ds : List Equation) → AllByRecursion (λ (e : Equation). Amo
 first_among [] ds h = tt
 first_among (e ∷ es) ds h = among_keys e ds h.0
 
--- where each conclusion of a clause is among those here, the keys agree
+-- if each conclusion of a clause is among those here, the keys agree
 pub keys_agree : (d c : Clause) → AllByRecursion (λ (e : Equation). Among e c.conclusions) d.conclusions →
     MayClose (map equation_key c.conclusions) (key_of d)
 keys_agree d c h = first_among d.conclusions c.conclusions h

@@ -1,4 +1,4 @@
--- Where no closing step is defined at a node but by the node itself, none is at this node of the block
+-- If no closing step is defined at a node but by the node itself, none is at this node of the block
 -- that a cut leaves.
 use Rattle.std.proofs.Common.{◌≡◌, ℕ, zero, suc, ◌+◌, ◌≤◌, List, [], ◌∷◌, ◌++◌, Bool, true, Some, None, Ok}
 use Rattle.std.proofs.Common.{Err, take, inl, inr, refl, sym, ◌∙◌, ap, subst, arith, length, map}
@@ -32,7 +32,7 @@ module _ (anew : ℕ → ℕ) where
   abbrev IsReferenceAnew : Reference → Reference → Type 0
   IsReferenceAnew r s = (r.node ≡ anew s.node) × (r.relation ≡ s.relation)
 
-  -- where the first row is met, so is the second one; neither makes children, and both refer to the
+  -- if the first row is met, so is the second one; neither makes children, and both refer to the
   -- same clauses
   abbrev Back : Row → Row → Type 0
   Back (needs P why rest) (needs Q other next) = (p : P) → (q : Q) × Back (rest p) (next q)
@@ -238,7 +238,7 @@ module _ (above : Tree → Tree → Type 0) (spec : Spec) (usable : ℕ → Type
         (clause_back f.0 s)) v)
         ))
 
-    -- no closing step but by the node itself fits it after the cut where none fits it before
+    -- no closing step but by the node itself fits it after the cut if none fits it before
     pub none_left :
         (c : Clause) → AllByRecursion (ByItself olds k) (closing_steps spec nodes c) →
         AllByRecursion (ByItself news (new_number stays k)) (closing_steps spec (staying stays 0 nodes) c)

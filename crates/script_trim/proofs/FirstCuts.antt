@@ -44,7 +44,7 @@ sum_set f (z ∷ xs) zero x y at l =
 sum_set f (z ∷ xs) (suc n) x y at l =
     omega (arith, sum_set f xs n x y at l, sum_cons f z (slice_set xs n y), sum_cons f z xs)
 
--- where the first item of which something holds is parted off, it is one
+-- if the first item of which something holds is parted off, it is one
 first_one :
     {A : Type 0} (P : A → Type 0) (xs after ys behind : List A) (x y : A) → xs ++ x ∷ after ≡ ys ++ y ∷ behind →
     AllByRecursion (λ z. P z → ⊥) xs → AllByRecursion (λ z. P z → ⊥) ys → P x → P y → x ≡ y

@@ -33,7 +33,7 @@ use Rattle.script_trim.specs.OneClaim.{IsFirstStep}
 use Rattle.script_trim.proofs.KeptClaims.{closing_there, node_there, steps_same}
 use Rattle.script_trim.proofs.OnlyItself.{itself_isnt_closing}
 
--- what is said of an option where it is known
+-- what is said of an option if it is known
 pub match_some :
     {A : Type 0} (o : Option A) (x : A) (P : Type 0) (Q : A → Type 0) → o ≡ Some x → MatchOption o P Q → Q x
 match_some o x P Q is h = subst (λ p. MatchOption p P Q) is h
@@ -49,7 +49,7 @@ yielded_parts all seen fit far lt is =
     sym (parted_at all (length seen) fit lt is) ∙ ap (λ fs. fs ++ fit ∷ drop (suc (length seen)) all)
     (sym far ∙ map-id seen)
 
--- where two words say the same of which goals may be used, the same steps are defined
+-- if two words say the same of which goals may be used, the same steps are defined
 module _ (above : Tree → Tree → Type 0) (spec : Spec) (usable other : ℕ → Type 0)
     (same : (k : ℕ) → usable k ↔ other k) where
   step_there :
@@ -81,7 +81,7 @@ module _ (above : Tree → Tree → Type 0) (spec : Spec) (usable other : ℕ �
 
 module _ (above : Tree → Tree → Type 0) (spec : Spec) (usable : ℕ → Type 0) (nodes : List Clause) (i : ℕ)
     (P : Step → Type 0) (by_itself : (step : Step) → IsByItself above spec usable nodes i step → P step) where
-  -- the steps up to one that is defined, where this holds of those that are left out
+  -- the steps up to one that is defined, if this holds of those that are left out
   pub record Parts (steps : List Step) (fit : Fit) : Type 0 where
     pub before : List Step
     pub after : List Step
@@ -129,7 +129,7 @@ module _ (above : Tree → Tree → Type 0) (spec : Spec) (usable : ℕ → Type
         makes = r.makes;
       }
 
-  -- where it holds of each step that is defined, it holds of all
+  -- if it holds of each step that is defined, it holds of all
   pub all_steps :
       (steps : List Step) (fits : List Fit) → AreDefined above spec usable nodes i steps fits →
       AllByRecursion (λ (f : Fit). P f.step) fits → AllByRecursion P steps
@@ -173,7 +173,7 @@ module _ (above : Tree → Tree → Type 0) (one : OneRelation above) (spec : Sp
       (subst (λ xs. AreFitting above spec (Contains numbers) steps (clauses_in xs) before i fits) e h) in
       defined_there above spec (Contains numbers) usable proved _ i _ fits (moved c at)
 
-  -- none of these steps closes the node where no fit does
+  -- none of these steps closes the node if no fit does
   pub none_of :
       (steps : Spec → List Clause → Clause → List Step) (fits : List Fit) →
       AreFitting above spec usable steps nodes (first_child k.claim.made i) i fits →
@@ -182,7 +182,7 @@ module _ (above : Tree → Tree → Type 0) (one : OneRelation above) (spec : Sp
   none_of steps fits fitting h c at =
       all_steps above spec usable before_nodes i Not not_by (steps spec nodes c) fits (fitting c at) h
 
-  -- and where no closing step does, none closes it
+  -- and if no closing step does, none closes it
   pub none_closes :
       ((c : Clause) → slice_get nodes i ≡ Some c → AllByRecursion Not (closing_steps spec nodes c)) →
       (step : Step) (rest : List Step) → ClosesAt above spec report number block k i step rest → ⊥

@@ -49,7 +49,7 @@ made_there above spot spec numbers nodes before i step m spec_is proved_is nodes
 
 module _ (above : Tree → Tree → Type 0) (spec : Spec) (report : Report) (number : ℕ) (block : KeptBlock)
     (k : IsKept above spec report number block) where
-  -- the report is the given one where the block has the steps that are in it
+  -- the report is the given one if the block has the steps that are in it
   pub same_report :
       (name : List ℕ) (steps : List Step) → slice_get report.claims number ≡ Some (proves name steps) →
       block.steps.items ≡ steps → kept_report above spec report number k.name block ≡ report
@@ -99,7 +99,7 @@ module _
           (take (first_child k.claim.made i) nodes) i (step ∷ []) (m.0 ∷ []) (m.1, tt)).0 in
           not m.0 (subst (λ n. StepMakes above spec (Contains numbers) (take n nodes) i step m.0) (sym first) p)
 
-      -- where it is, with what it makes, it fits
+      -- if it is, with what it makes, it fits
       pub given_fits :
           Contains (closing_steps spec nodes here) step → (fit : Fit) → fit.step ≡ step →
           StepMakes above spec (Contains numbers) (take before nodes) i step fit.made →

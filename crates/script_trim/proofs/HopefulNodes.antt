@@ -49,7 +49,7 @@ last_or_before (z ∷ xs) x y (suc j) at = more (last_or_before xs x y j at)
 
 module _ (above : Tree → Tree → Type 0) (spec : Spec) (numbers : List ℕ) (nodes : List Node)
     (links : List Children) where
-  -- the flags of the first nodes are told
+  -- what the flags of the first nodes say
   pub record TellHopeless (i before : ℕ) (flags : List Bool) : Type 0 where
     pub before_is : before ≡ first_child links i
     pub long : length flags ≡ i
@@ -100,7 +100,7 @@ module _ (above : Tree → Tree → Type 0) (spec : Spec) (numbers : List ℕ) (
             subst (λ x. OnlyItselfFits above spec (Contains numbers) (clauses_of nodes) (first_child links x) x) n
             (subst (λ x. OnlyItselfFits above spec (Contains numbers) (clauses_of nodes) x i) t.before_is (none off))
 
-  -- where the list of fits is empty, no step is defined but by the node itself
+  -- if the list of fits is empty, no step is defined but by the node itself
   all_left_out :
       (steps : List Step) (cs : List Clause) (i : ℕ) (fits : List Fit) → fits ≡ [] →
       AreDefined above spec (Contains numbers) cs i steps fits →

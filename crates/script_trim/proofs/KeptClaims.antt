@@ -33,7 +33,7 @@ use Rattle.script_trim.proofs.Places.{take_set}
 use Rattle.script_trim.proofs.QuickTests.{necessary}
 use Rattle.script_trim.proofs.StayingChildren.{there as item_there}
 
--- a node has children by its links where it has some
+-- a node has children by its links if it has some
 map_none : {A B : Type 0} (f : A → B) (xs : List A) → map f xs ≡ [] → xs ≡ []
 map_none f [] e = refl
 map_none f (x ∷ xs) e = absurd (let q : f x ∷ map f xs ≡ [] = e in cc)
@@ -72,7 +72,7 @@ module _ (above : Tree → Tree → Type 0) (one : OneRelation above) (spec : Sp
       Contains (closing_steps spec nodes c.node) step
   closing_there i step rest c = subst (λ ss. Contains ss step) (steps_same c.claim c.node) c.closing
 
-  -- where a closing step closes a node it makes something there
+  -- if a closing step closes a node it makes something there
   pub closing_makes :
       (i : ℕ) (step : Step) (rest : List Step) → ClosesAt above spec report number block k i step rest →
       (m : Children) × StepMakes above spec usable (take (first_child k.claim.made i) nodes) i step m
@@ -91,7 +91,7 @@ module _ (above : Tree → Tree → Type 0) (one : OneRelation above) (spec : Sp
       (take_set report.claims number (proves k.name block.steps.items)) d.closes in
       (d.closed, subst (λ ns. StepMakes above spec usable ns i step d.closed) e here)
 
-  -- a node has children where it has some by its links
+  -- a node has children if it has some by its links
   pub has_children :
       (i : ℕ) (links : Children) → slice_get block.links.items i ≡ Some links → links.clauses ≢ [] →
       HasChildren above spec kept number i

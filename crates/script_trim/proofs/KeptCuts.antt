@@ -58,7 +58,7 @@ set_twice [] i x y = refl
 set_twice (z ∷ zs) zero x y = refl
 set_twice (z ∷ zs) (suc i) x y = ap (λ ws. z ∷ ws) (set_twice zs i x y)
 
--- the lists that are left, where there is memory for them
+-- the lists that are left, if there is memory for them
 pub left_lists :
     {E : Type 0} (block : KeptBlock) (i : ℕ) (closed : Children) (rest : List Step) (flags : List Bool) →
     (bytes : ℕ) → TellStaying block.links.items i flags → (links : List Children) →
@@ -206,7 +206,7 @@ module _
       let g : length new.steps.items ≡ length others = ap (λ ss. length ss) steps_are in
       omega (arith, a, b, d, e, g)
 
-  -- where a flag says that no closing step fits a node that stays but by the node itself, none does
+  -- if a flag says that no closing step fits a node that stays but by the node itself, none does
   -- after the cut
   module _ (j : ℕ) (at : slice_get new.hopeful.items j ≡ Some false) where
     from :

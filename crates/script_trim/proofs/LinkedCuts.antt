@@ -129,7 +129,7 @@ reference_next stays refs i r at copies news n e is more =
     ∙ ap (λ rs. map (reference_renumbered stays) rs) (sym (taken_more refs i r at))
     ∙ ap (λ k. map (reference_renumbered stays) (take k refs)) (sym (add-one i))
 
--- where one entry is exchanged, references are still to nodes
+-- if one entry is exchanged, references are still to nodes
 pub refers_set :
     (n : ℕ) (made : List Children) (i : ℕ) (closed : Children) →
     ((k : ℕ) (m : Children) → slice_get made k ≡ Some m → RefersWithin n m) → RefersWithin n closed →

@@ -1,4 +1,4 @@
--- Where the steps of a cut block make something, the closing step does so in the block itself.
+-- If the steps of a cut block make something, the closing step does so in the block itself.
 use Rattle.std.proofs.Common.{◌≡◌, ◌⊎◌, ℕ, suc, ◌+◌, ◌-◌, ◌≤◌, ◌<◌, List, [], ◌∷◌, ◌++◌, Bool, true, Some}
 use Rattle.std.proofs.Common.{inl, inr, take, refl, sym, ◌∙◌, ap, subst, arith, length, length-append, map}
 use Rattle.std.specs.Prelude.{slice_get, slice_set}

@@ -33,7 +33,7 @@ module _ (above : Tree → Tree → Type 0) where
   says_within c nodes (makes cs refs) m (made, kids, rs, inr (n, e)) =
       absurd (let q : Ok m ≡ Err Limit = e in cc)
 
-  -- so where the first nodes are, all nodes are
+  -- so if the first nodes are, all nodes are
   pub nodes_within :
       (spec : Spec) (usable : ℕ → Type 0) (nodes : List Clause) (k : ℕ) (steps : List Step)
       (made : List Children) → StepsMake above spec usable nodes k steps made →

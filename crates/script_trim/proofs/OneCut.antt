@@ -34,7 +34,7 @@ anew_bound stays (suc n) = by_case (stays n) (anew_bound stays n)
     by_case true l = omega (arith, l)
     by_case false l = omega (arith, l)
 
--- and behind a node that doesn't stay each is smaller
+-- and after a node that doesn't stay each is smaller
 anew_fewer : (stays : ℕ → Bool) (c d : ℕ) → stays c ≡ false → new_number stays (suc c + d) < suc c + d
 anew_fewer stays c zero e =
     let z : suc c + 0 ≡ suc c = omega arith in

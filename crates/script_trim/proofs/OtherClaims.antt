@@ -18,7 +18,7 @@ use Rattle.script_trim.specs.Trimmed.{proves, with_steps, ProvedClaim, Closes}
 use Rattle.script_trim.proofs.Places.{set_other}
 use Rattle.script_trim.proofs.QuickTests.{sufficient, necessary}
 
--- the claims before a place prove the same goals, where a proved claim has other steps
+-- the claims before a place prove the same goals, if a proved claim has other steps
 proved_taken :
     (name : List ℕ) (s t : List Step) (g : List ℕ) (claims : List Claim) (m n : ℕ) →
     slice_get claims n ≡ Some (proves name s) → IsProvedBy g (take m claims) ≡ IsProvedBy g

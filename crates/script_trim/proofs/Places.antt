@@ -1,4 +1,4 @@
--- Items of a list with another item at one place, and what stands before a place.
+-- Items of a list with another item at one place, and what comes before a place.
 use Rattle.std.proofs.Common.{◌≡◌, ◌≢◌, ℕ, zero, suc, ◌+◌, ◌≤◌, ◌<◌, List, [], ◌∷◌, ◌++◌, Bool, Some, None, take}
 use Rattle.std.proofs.Common.{drop, refl, sym, ◌∙◌, ap, arith, length}
 use Rattle.std.specs.Prelude.{slice_get, slice_set}

@@ -1,4 +1,4 @@
--- The first steps of a block, and the one behind them.
+-- The first steps of a block, and the one after them.
 use Rattle.std.proofs.Common.{◌≡◌, ◌⊎◌, ℕ, zero, suc, ◌+◌, ◌<◌, List, [], ◌∷◌, ◌++◌, Some, None, Ok, Err, inl, inr}
 use Rattle.std.proofs.Common.{take, refl, sym, subst, arith, length, append_assoc}
 use Rattle.std.specs.Prelude.{flat_map, slice_get, Result}
@@ -21,7 +21,7 @@ RefersBelow n (Subsume k terms) = k < n
 RefersBelow n (Hyp k terms place left) = k < n
 RefersBelow n step = Unit {0}
 
--- where something is made the condition is met
+-- if something is made the condition is met
 pub met : {P : Type 0} {S : P → Type 0} (m : Children) (why : Why) → ((p : P) × S p) ⊎
     ((P → ⊥) × (◌≡◌ {A = Result Children Why} (Ok m) (Err why))) → P
 met m why (inl h) = h.0

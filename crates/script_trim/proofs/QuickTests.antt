@@ -1,4 +1,4 @@
--- A closing step could close a node exactly where the tests at that node alone say so.
+-- A closing step could close a node if and only if the tests at that node alone say so.
 use Rattle.std.proofs.Common.{◌≡◌, ℕ, ◌≤◌, ◌<◌, List, [], ◌∷◌, true, Some, take, ◌∙◌, subst, arith, length}
 use Rattle.std.specs.Prelude.{slice_get, slice_set}
 use Rattle.std.proofs.lemmas.Option.{slice_get_within}
@@ -121,7 +121,7 @@ module _
             };
           })
 
-      -- and what is known where the report with them is accepted
+      -- and what is known if the report with them is accepted
       module _ (again : IsAccepted above spec (with_steps report number claim.goal.name rest)) where
         new :
             ClaimIsAccepted above spec report.steps (take number

@@ -1,4 +1,4 @@
--- A report stays accepted where a proved claim gets other steps that prove its goal.
+-- A report stays accepted if a proved claim gets other steps that prove its goal.
 use Rattle.std.proofs.Common.{◌≡◌, ℕ, zero, suc, List, [], ◌∷◌, ◌++◌, Some, None, take, refl, sym, subst, append_assoc}
 use Rattle.std.specs.Prelude.{slice_get, slice_set, ◌⊎◌}
 use Rattle.std.proofs.lemmas.List.{append-nil}
@@ -89,7 +89,7 @@ module _ (name : List ℕ) (s t : List Step) where
     )
 
 module _ (above : Tree → Tree → Type 0) (spec : Spec) (budget : ℕ) where
-  -- each claim is accepted, behind those before it
+  -- each claim is accepted, after those before it
   pub accepted_at :
       (before claims : List Claim) → ClaimsAreAccepted above spec budget before claims → (n : ℕ) (claim : Claim) →
       slice_get claims n ≡ Some claim → ClaimIsAccepted above spec budget (before ++ take n claims) claim

@@ -1,4 +1,4 @@
--- A report to which an accepted one leads has a text, where the accepted one has.
+-- A report to which an accepted one leads has a text, if the accepted one has.
 use Rattle.std.proofs.Common.{◌≡◌, ℕ, ◌+◌, ◌-◌, ◌*◌, ◌≤◌, ◌<◌, List, [], ◌∷◌, ◌++◌, Bool, Some, refl, sym}
 use Rattle.std.proofs.Common.{◌∙◌, ap}
 use Rattle.std.proofs.Common.{subst, take, arith, length, length-append, length-take, map}

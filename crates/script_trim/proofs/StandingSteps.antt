@@ -1,4 +1,4 @@
--- The steps that a cut leaves may stand in a report: a closing step has variables for terms, as few as
+-- The steps that a cut leaves may appear in a report: a closing step has variables for terms, as few as
 -- its line has room for, and the numbers of nodes only get smaller.
 use Rattle.std.proofs.Common.{◌≡◌, ℕ, zero, suc, ◌+◌, ◌≤◌, List, [], ◌∷◌, ◌++◌, Bool, refl, arith, length}
 use Rattle.std.proofs.Common.{length-append, map}
@@ -34,7 +34,7 @@ own_terms (Subsume k list) = list
 own_terms (ByLemma goal list) = list
 own_terms step = []
 
--- they stay the same where the step gets the new number of its node
+-- they stay the same if the step gets the new number of its node
 pub same_terms :
     (stays : ℕ → Bool) (step : Step) → own_terms (renumbered stays step) ≡ own_terms step
 same_terms stays (Subsume k list) = refl
@@ -97,7 +97,7 @@ module _ (sig : Sig) where
       let many = length-map-range_with_len (λ n. var n) 0 (length d.ctx) in
       variables_stand 0 (length d.ctx) (omega (arith, l, many))
 
-  -- the step under the new number of its node may stand
+  -- the step under the new number of its node may appear
   renumbered_stands :
       (stays : ℕ → Bool) (step : Step) → StepStands sig step →
       StepStands sig (renumbered stays step)
@@ -105,7 +105,7 @@ module _ (sig : Sig) where
   renumbered_stands stays (Hyp k list p left) h = (omega (arith, h.0, anew_bound stays k), h.1)
   renumbered_stands stays step h = h
 
-  -- so may the steps that are left, where the closing step may
+  -- so may the steps that are left, if the closing step may
   pub left_stand :
       (stays : ℕ → Bool) (steps : List Step) (i : ℕ) (step : Step) →
       AllByRecursion (StepStands sig) steps → StepStands sig step →
@@ -119,7 +119,7 @@ module _ (sig : Sig) where
       (all_each (StepStands sig) (λ s. StepStands sig (renumbered stays s))
       (staying stays 0 replaced) (renumbered_stands stays) kept)
 
--- a closing step may stand at a node within the limits where there are few nodes and it has few terms
+-- a closing step may appear at a node within the limits if there are few nodes and it has few terms
 abbrev pub StandsWithFew : Sig → Step → Type 0
 StandsWithFew sig step = length (own_terms step) ≤ 300000 → StepStands sig step
 

@@ -77,7 +77,7 @@ module _ (stays : ℕ → Bool) where
         by_case true l = omega (arith, l)
         by_case false l = omega (arith, l)
 
-    -- one item more before those of which it is known where each stands
+    -- one item more before those of which it is known where each is
     one_before :
         (k j d : ℕ) (y : A) (ys : List A) (x : A) → ((c : ℕ) →
         c + new_number stays (suc k) ≡ new_number stays (suc k + j) →
@@ -108,7 +108,7 @@ module _ (stays : ℕ → Bool) where
         let s : staying stays k (y ∷ ys) ≡ staying stays (suc k) ys = staying_no k y ys h in
         ap (λ zs. slice_get zs d) s ∙ rest d (omega (arith, n, m, e))
 
-    -- what stands at a place that stays is at its new place
+    -- what is at a place that stays is at its new place
     staying_from :
         (k j d : ℕ) (xs : List A) (x : A) → slice_get xs j ≡ Some x → stays (k + j) ≡ true →
         d + new_number stays k ≡ new_number stays (k + j) → slice_get (staying stays k xs) d ≡ Some x
@@ -171,7 +171,7 @@ module _ (stays : ℕ → Bool) where
         let w : new_number stays (0 + length xs) ≡ new_number stays (length xs) = ap (λ n. new_number stays n) z in
         omega (arith, length_from 0 xs, w)
 
-    -- what stands at a place of what stays stood at a place that stays
+    -- what is at a place of what stays was at a place that stays
     pub from_staying :
         (k d : ℕ) (xs : List A) (x : A) → slice_get (staying stays k xs) d ≡ Some x → (j : ℕ) ×
         (slice_get xs j ≡ Some x) × (stays (k + j) ≡ true) × (d + new_number stays k ≡ new_number stays (k + j))

@@ -1,4 +1,4 @@
--- Where a node stays, so do its children, but for those of the node that is closed.
+-- If a node stays, so do its children, but for those of the node that is closed.
 use Rattle.std.proofs.Common.{◌≡◌, ◌≢◌, ◌⊎◌, ◌↔◌, ℕ, zero, suc, ◌+◌, ◌≤◌, ◌<◌, List, [], ◌∷◌, Bool, true, false, Some}
 use Rattle.std.proofs.Common.{take, inl, inr, refl, sym, ◌∙◌, subst, arith, length}
 use Rattle.std.specs.Prelude.{slice_get, IsTrue}

@@ -18,7 +18,7 @@ use Rattle.script_trim.proofs.CutLinks.{next_first}
 use Rattle.script_trim.proofs.StayingChildren.{descends_by, there}
 
 module _ (made : List Children) (i : ℕ) where
-  -- the flags of the nodes before the children of node n are told
+  -- what the flags of the nodes before the children of node n say
   pub record TellFirst (n : ℕ) (flags : List Bool) : Type 0 where
     pub long : length flags ≡ first_child made n
     pub tells : (j : ℕ) → j < length flags → IsTrue (flag_of flags j) ↔ (¬ (Descends made i j))

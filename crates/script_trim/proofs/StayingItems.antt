@@ -48,7 +48,7 @@ module _ (stays : ℕ → Bool) where
         AllByRecursion P (staying stays 0 (take (k + 1) xs))
     all_left_next P e all = subst (AllByRecursion P) (sym (left_next e)) all
 
-    -- where it holds of all that stay, it holds of this one
+    -- if it holds of all that stay, it holds of this one
     pub all_kept_at : (P : A → Type 0) → stays k ≡ true → AllByRecursion P (staying stays 0 xs) → P x
     all_kept_at P e all = all_at P (staying stays 0 xs) all (new_number stays k) x (staying_at stays k xs x at e)
 

@@ -52,7 +52,7 @@ module _ (above : Tree → Tree → Type 0) (spec : Spec) (report : Report) (num
       (l : IsKept above spec report number other) → k.name ≡ l.name
   one_block_name block other k l = one_name report.claims number k.name l.name k.old l.old k.there l.there
 
-  -- where no node could be closed, the cuts are at their end
+  -- if no node could be closed, the cuts are at their end
   pub no_more_cuts :
       (first block : KeptBlock) (k : IsKept above spec report number first)
       (l : IsKept above spec report number block) → ((i : ℕ) →

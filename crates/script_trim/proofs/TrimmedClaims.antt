@@ -93,7 +93,7 @@ abbrev pub joined : Report → List Claim → Report
 joined report trimmed = record { steps = report.steps; claims = trimmed ++ drop (length trimmed) report.claims }
 
 module _ (above : Tree → Tree → Type 0) (spec : Spec) where
-  -- a claim keeps its kind where it is trimmed
+  -- a claim keeps its kind if it is trimmed
   kind_within :
       (number : ℕ) (old last : Report) → LeadsWithin above spec number old last → (c d : Claim) →
       slice_get old.claims number ≡ Some c → slice_get last.claims number ≡ Some d → kind d ≡ kind c
@@ -123,7 +123,7 @@ module _ (above : Tree → Tree → Type 0) (spec : Spec) where
     closed = λ n j l c. omega (arith, l);
   }
 
-  -- where all are trimmed, no node could be closed
+  -- if all are trimmed, no node could be closed
   pub all_trimmed : (report : Report) (trimmed : List Claim) → length trimmed ≡ length report.claims →
       AreTrimmed report trimmed → LeadsTo above spec report (record { steps = report.steps; claims = trimmed })
   all_trimmed report trimmed long t =
@@ -186,7 +186,7 @@ module _ (above : Tree → Tree → Type 0) (spec : Spec) where
               on.closed m j (omega (arith, l, more)) k;
         }
 
-    -- the same by the number of the claim, where it is put after the others
+    -- the same by the number of the claim, if it is put after the others
     pub trimmed_next :
         (report : Report) (number : ℕ) (trimmed news : List Claim) (c d : Claim) → IsAccepted above spec report →
         length trimmed ≡ number → AreTrimmed report trimmed → slice_get report.claims number ≡ Some c →
@@ -207,7 +207,7 @@ none_proved spec numbers none k = (λ h. absurd (empty (subst (λ ns. Contains n
     empty : Contains {X = ℕ} [] k → ⊥
     empty (j, lt, e) = omega (arith, lt)
 
--- and by one claim more those of it, where it proves its goal
+-- and by one claim more those of it, if it proves its goal
 module _ (spec : Spec) (fine : IsWellSorted spec) (claims : List Claim) (i : ℕ) (claim : Claim)
     (lt : i < length claims) (is : claim ≡ get_or claims i claim) (number : ℕ)
     (named : IsNumberOf spec claim.goal number) (numbers : List ℕ)

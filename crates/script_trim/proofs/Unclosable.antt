@@ -31,7 +31,7 @@ use Rattle.script_trim.proofs.QuickTests.{finished, necessary}
 use Rattle.script_trim.proofs.Staying.{staying_at}
 use Rattle.script_trim.proofs.StayingChildren.{stays_before}
 
--- a node isn't closed by itself: where the reference to it is Same it isn't allowed
+-- a node isn't closed by itself: if the reference to it is Same it isn't allowed
 module _ (stays : ℕ → Bool) (made : List Children) (i : ℕ) (closed : Children) (kept : stays i ≡ true)
     (within : i < length made) where
   abbrev cut_block : List Children
@@ -91,7 +91,7 @@ module _ (above : Tree → Tree → Type 0) (one : OneRelation above) (spec : Sp
       StepMakes above spec usable (nodes_of (goal_clause claim.goal) (take i claim.made)) i step closed →
       AllAreAllowed (cut_made stays claim.made i closed) → ⊥
 
-  -- a node is not closed where no closing step could
+  -- a node is not closed if no closing step could
   pub not_closed :
       (i : ℕ) (node : Clause) → slice_get (nodes_of (goal_clause claim.goal) claim.made) i ≡ Some node →
       AllByRecursion (CanNotClose i) (closing_steps spec (nodes_of (goal_clause claim.goal) claim.made) node) →

@@ -163,7 +163,7 @@ module _ (above : Tree → Tree → Type 0) (spot : Spot) where
       subst (λ ss. Adds above spot ss old new) (sym whole) (adds_then above spot (subsume_each 0 nodes)
       (subsume_each (length nodes) later) old new new p (none_later later new))
 
--- the step of the node of this number
+-- the step of the node with this number
 pub node_step : (nodes : List Clause) (k : ℕ) (c : Clause) → slice_get nodes k ≡ Some c →
     slice_get (subsume_each 0 nodes) k ≡ Some (Subsume k (own_variables c))
 node_step nodes k c at = from 0 nodes k at ∙ ap (λ n. Some (Subsume n (own_variables c)))

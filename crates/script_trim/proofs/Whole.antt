@@ -12,7 +12,7 @@ use Rattle.clause_core.specs.declared.clauses.Clause.{Clause}
 use Rattle.inference_rules.specs.declared.nodes.Node.{Node}
 use Rattle.inference_rules.specs.Answers.{clauses_of}
 
--- what follows where a call succeeds
+-- what follows if a call succeeds
 pub on_ok_map : {T E : Type 0} (r : Result T E) (P Q : Type 0) → (P → Q) → OnOk r P → OnOk r Q
 on_ok_map (Ok x) P Q f h = f h
 on_ok_map (Err e) P Q f h = tt

@@ -7,7 +7,7 @@ use Rattle.clause_core.specs.declared.steps.Step.{Step}
 use Rattle.clause_core.specs.declared.steps.Step.TheVariants.{Subsume, Hyp}
 use Rattle.acceptance.specs.Strict.{HasChild}
 
--- node j descends from node i, where the steps of a block make this
+-- node j descends from node i, if the steps of a block make this
 module _ (made : List Children) (i : ℕ) where
   pub data Descends : ℕ → Type 0 where
     child : {j : ℕ} (r : Relation) → HasChild made i j r → Descends j

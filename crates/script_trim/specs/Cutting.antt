@@ -1,4 +1,4 @@
--- What is asked of a closing step where it cuts a block, and what that leaves.
+-- What is asked of a closing step if it cuts a block, and what that leaves.
 use Rattle.std.specs.Prelude.{◌≡◌, ◌⊎◌, ℕ, ◌<◌, Bool, true, false, List, Some, Contains, length, map}
 use Rattle.std.specs.Prelude.{slice_get, take}
 use Rattle.term_core.specs.Tree.{Tree}
@@ -35,7 +35,7 @@ pub record IsCuttable (block : KeptBlock) (i : ℕ) (closed : Children) : Type 0
   pub within : i < length block.links.items
   pub refs : RefersWithin (length block.links.items) closed
 
--- the block that is left where node i is closed, and what closes it makes this: of each of its lists
+-- the block that is left if node i is closed, and what closes it makes this: of each of its lists
 -- what stays, with the references of links under their new numbers; and this many bytes
 pub record IsLeft
     (block : KeptBlock) (i : ℕ) (closed : Children) (rest : List Step) (bytes : ℕ) (new : KeptBlock) : Type 0 where
@@ -49,8 +49,8 @@ pub record IsLeft
   pub hopeful : new.hopeful.items ≡ staying (flag_of flags) 0 block.hopeful.items
   pub bytes_are : new.bytes ≡ bytes
 
--- the answer whether everything is allowed where node i is closed, and what closes it makes this, by
--- the links of the block: it is in any case where each reference is Less
+-- the answer whether everything is allowed if node i is closed, and what closes it makes this, by
+-- the links of the block: it is in any case if each reference is Less
 abbrev pub TellsAllowed : (ℕ → Bool) → List Children → ℕ → Children → Bool → Type 0
 TellsAllowed stays links i closed true =
     ((a : ℕ) (r : Reference) → slice_get closed.refs a ≡ Some r → r.relation ≡ Less)

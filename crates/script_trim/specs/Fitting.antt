@@ -32,7 +32,7 @@ RefersToItself i refs =
     (a : ℕ) × (r : Reference) × (slice_get refs a ≡ Some r) × (r.node ≡ i) × (r.relation ≡ Same)
 
 module _ (above : Tree → Tree → Type 0) (spec : Spec) (usable : ℕ → Type 0) where
-  -- where the step is defined at node i over these nodes, it refers to the node itself
+  -- if the step is defined at node i over these nodes, it refers to the node itself
   abbrev pub IsByItself : List Clause → ℕ → Step → Type 0
   IsByItself nodes i step =
       (made : Children) → StepMakes above spec usable nodes i step made → RefersToItself i made.refs

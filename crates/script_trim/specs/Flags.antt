@@ -6,7 +6,7 @@ use Rattle.clause_core.specs.declared.answers.Reference.{Reference}
 use Rattle.acceptance.specs.Strict.{first_child}
 use Rattle.script_trim.specs.Cut.{new_number, Descends}
 
--- the flag of a number, which is false where there is none
+-- the flag of a number, which is false if there is none
 abbrev pub flag_of : List Bool → ℕ → Bool
 flag_of flags k = slice_index_or flags k false
 

@@ -23,7 +23,7 @@ module _ (above : Tree → Tree → Type 0) (spec : Spec) (report : Report) (num
   kept_report name block = with_steps report number name block.steps.items
 
   -- The block has the steps of a claim that is proved, the clauses of its nodes with their keys, and
-  -- the links between them. The report with these steps in the claim is accepted. Where the flag of a
+  -- the links between them. The report with these steps in the claim is accepted. If the flag of a
   -- node is false, no closing step is defined there, apart from steps by the node itself. The text of
   -- the claim has at most that many bytes.
   pub record IsKept (block : KeptBlock) : Type 0 where

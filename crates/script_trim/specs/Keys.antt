@@ -32,7 +32,7 @@ abbrev pub first_key : List Equation → Option ℕ
 first_key [] = None
 first_key (e ∷ es) = Some (equation_key e)
 
--- the key of the first conclusion, where there is one
+-- the key of the first conclusion, if there is one
 abbrev pub key_of : Clause → Option ℕ
 key_of c = first_key c.conclusions
 

@@ -11,6 +11,6 @@ reference_renumbered stays r = record { node = new_number stays r.node; relation
 abbrev pub made_renumbered : (ℕ → Bool) → Children → Children
 made_renumbered stays m = record { clauses = m.clauses; refs = map (reference_renumbered stays) m.refs }
 
--- what stays, where the step at node i makes this
+-- what stays, if the step at node i makes this
 abbrev pub cut_made : (ℕ → Bool) → List Children → ℕ → Children → List Children
 cut_made stays made i closed = map (made_renumbered stays) (staying stays 0 (slice_set made i closed))

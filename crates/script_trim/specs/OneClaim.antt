@@ -11,7 +11,7 @@ use Rattle.acceptance.specs.Blocks.{nodes_of}
 use Rattle.script_trim.specs.Closing.{closing_steps}
 use Rattle.script_trim.specs.Trimmed.{with_steps, Closes, HasChildren, CouldBeClosed}
 
--- the report with this claim in place of that of this number
+-- the report with this claim in place of the claim with this number
 abbrev pub with_claim : Report → ℕ → Claim → Report
 with_claim report number claim =
     record { steps = report.steps; claims = slice_set report.claims number claim }

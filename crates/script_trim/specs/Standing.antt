@@ -25,7 +25,7 @@ pub record HasText (sig : Sig) (report : Report) : Type 0 where
       ≤ length (lines_text sig (header_lines report.steps)) + 300000 * length report.claims
       + length (lines_text sig (last_line ∷ []))
 
--- where the names of goals may stand in a report, an accepted report that has a text leads to one that
+-- if the names of goals may appear in a report, an accepted report that has a text leads to one that
 -- has a text
 abbrev pub TrimmedReportsStand : (Tree → Tree → Type 0) → Type 0
 TrimmedReportsStand above =

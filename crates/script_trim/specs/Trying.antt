@@ -29,7 +29,7 @@ lemma_clause goal = record { clause = goal_clause goal; key = key_of (goal_claus
 abbrev pub AreLemmas : Spec → Lemmas → Type 0
 AreLemmas spec lemmas = lemmas.clauses.items ≡ map lemma_clause spec.goals
 
--- the clause is that of the node of this number, among nodes of a well sorted specification; where it is
+-- the clause is that of the node with this number, among nodes of a well sorted specification; if it is
 -- said to be alone it is
 pub record IsSpot (spot : Spot) : Type 0 where
   pub fine : IsWellSorted spot.spec.now
@@ -47,7 +47,7 @@ module _ (above : Tree → Tree → Type 0) (spot : Spot) where
       StepMakes above spot.spec.now (Contains spot.proved.now) (clauses_of spot.nodes.now)
       spot.number
 
-  -- what is made, or none where the step isn't defined
+  -- what is made, or none if the step isn't defined
   abbrev pub IsTried : Step → Option Children → Type 0
   IsTried step None = (made : Children) → MakesThere step made → ⊥
   IsTried step (Some made) = MakesThere step made

@@ -45,14 +45,14 @@ fn are_numbers(clause: &Clause, conclusion: u16, premise: u16) -> bool
     is_number(conclusion, clause.conclusions.len()) && is_number(premise, clause.premises.len())
 }
 
-/// Whether this many equations have one of this number, which counts from 1.
+/// Whether this many equations have one with this number, which counts from 1.
 fn is_number(number: u16, count: usize) -> bool
     ensures { IsTrue result ↔ ((1 ≤ number) × (number ≤ count)) }
 {
     number >= 1 && usize::from(number) <= count
 }
 
-/// Whether the terms are the variables of the node of this number.
+/// Whether the terms are the variables of the node with this number.
 fn is_whole_node(nodes: &[Node], number: u32, terms: &[Term]) -> bool
     ensures { IsTrue result ↔ ((c : ClauseOf)
         × (slice_get (clauses_of nodes.now) number ≡ Some c) × (terms.now ≡ variables_of_own c)) }
@@ -115,7 +115,7 @@ pub(crate) fn own_variables(alloc: Global, clause: &Clause) -> Result<Seq<Term>,
     Ok(Seq::from_vec(made))
 }
 
-/// Whether the term is the variable of this number.
+/// Whether the term is the variable with this number.
 fn is_variable(term: &Term, number: usize) -> bool
     ensures { IsTrue result ↔ (term.now ≡ variable number) }
 {

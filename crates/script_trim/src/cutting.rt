@@ -30,8 +30,8 @@ use std::alloc::Global;
 use term_core::{Name, OutOfMemory, Seq};
 use term_order::TermOrder;
 
-/// What is left of the block of a claim where the closing step, which is defined at the node,
-/// closes it, or none where it can't: a step that stays refers to what is taken out, something
+/// What is left of the block of a claim if the closing step, which is defined at the node,
+/// closes it, or none if it can't: a step that stays refers to what is taken out, something
 /// isn't allowed by the links that are left, or the text is too long. No step is taken again.
 pub(crate) fn rest_of<O: TermOrder>(
     alloc: Global,
@@ -77,7 +77,7 @@ pub(crate) fn rest_of<O: TermOrder>(
     if_short(alloc, &admitted.spec.sig, name, rest, bytes)
 }
 
-/// The name of the goal that the claim of this number is on.
+/// The name of the goal that the claim with this number is on.
 fn name_at(report: &Report, number: usize) -> &Name
     requires { number < length report.now.claims }
     ensures { (c : ClaimOf) → slice_get report.now.claims number ≡ Some c → result.now ≡ c.goal }
@@ -88,7 +88,7 @@ fn name_at(report: &Report, number: usize) -> &Name
     }
 }
 
-/// Whether the steps that stay refer to nodes that stay, where another step closes the node.
+/// Whether the steps that stay refer to nodes that stay, if another step closes the node.
 fn all_refer_to_staying(steps: &[Step], node: usize, closing: &Step, stays: &[bool]) -> bool
     requires { length steps.now ≡ length stays.now }
     ensures { IsTrue result ↔ AllByRecursion (RefersToStaying (flag_of stays.now))
@@ -106,7 +106,7 @@ fn all_refer_to_staying(steps: &[Step], node: usize, closing: &Step, stays: &[bo
     true
 }
 
-/// The steps that stay, with the nodes that they refer to under their new numbers, where another
+/// The steps that stay, with the nodes that they refer to under their new numbers, if another
 /// step closes the node.
 fn rest_steps(
     alloc: Global,
@@ -134,8 +134,8 @@ fn rest_steps(
     Ok(rest)
 }
 
-/// The steps, where the claim that they prove this goal isn't too long for a report. Its text has
-/// at most this many bytes; only where these are too many it is printed.
+/// The steps, if the claim that they prove this goal isn't too long for a report. Its text has
+/// at most this many bytes; it is printed only if these are too many.
 fn if_short(
     alloc: Global,
     sig: &Signature,

@@ -40,7 +40,7 @@ pub(crate) fn first_cut<O: TermOrder>(
     Ok(None)
 }
 
-/// The cut at this node, where it has children and could be closed. The steps before it make
+/// The cut at this node, if it has children and could be closed. The steps before it make
 /// `before` nodes.
 fn cut_below<O: TermOrder>(
     alloc: Global,
@@ -72,7 +72,7 @@ fn cut_below<O: TermOrder>(
 }
 
 /// The cut at this node by the first closing step that could close it. The steps before it make
-/// `before` nodes. No other clause is looked at where one of the node's own equations closes it.
+/// `before` nodes. No other clause is looked at if one of the node's own equations closes it.
 fn cut_at<O: TermOrder>(
     alloc: Global,
     admitted: &Admitted<O>,

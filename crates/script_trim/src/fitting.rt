@@ -42,12 +42,12 @@ pub(crate) struct Spot<'a> {
     pub nodes: &'a [Node],
     pub number: u32,
     pub here: &'a Clause,
-    /// Set only where no other node has a key by which it may close this one.
+    /// Set only if no other node has a key by which it may close this one.
     pub alone: bool,
 }
 
 impl<'a> Spot<'a> {
-    /// The node of this number, over these nodes.
+    /// The node with this number, over these nodes.
     fn new(
         spec: &'a Spec,
         proved: &'a [u32],
@@ -113,7 +113,7 @@ pub(crate) fn own_fits<O: TermOrder>(
 
 /// The closing steps by another clause that are defined at a node of the block with these nodes, in
 /// their order, with what they make. No such step is made unless the clause says no less than the
-/// node's, which is asked only where keys agree.
+/// node's, which is asked only if keys agree.
 pub(crate) fn other_fits<O: TermOrder>(
     alloc: Global,
     admitted: &Admitted<O>,
@@ -150,7 +150,7 @@ pub(crate) fn other_fits<O: TermOrder>(
     try_clauses(alloc, order, &spot, &lemmas.clauses, &keys[..at.before])
 }
 
-/// The step with what it makes at the node of the block with these nodes, or None where it isn't
+/// The step with what it makes at the node of the block with these nodes, or None if it isn't
 /// defined.
 pub(crate) fn fit_of<O: TermOrder>(
     alloc: Global,
@@ -261,7 +261,7 @@ fn try_matches<O: TermOrder>(
     Ok(())
 }
 
-/// The conclusion of this number with each premise.
+/// The conclusion with this number with each premise.
 fn try_matches_of<O: TermOrder>(
     alloc: Global,
     order: &O,
@@ -296,8 +296,8 @@ fn try_absurds<O: TermOrder>(
     Ok(())
 }
 
-/// The nodes so far, each as it is. Nothing is walked where the key of one tells that it can't
-/// close the node, and no key is looked at where the node is alone.
+/// The nodes so far, each as it is. Nothing is walked if the key of one tells that it can't
+/// close the node, and no key is looked at if the node is alone.
 fn try_nodes<O: TermOrder>(
     alloc: Global,
     order: &O,
@@ -325,7 +325,7 @@ fn try_nodes<O: TermOrder>(
     Ok(())
 }
 
-/// The node of this number as it is, unless it is the spot's: a node can't be closed by itself.
+/// The node with this number as it is, unless it is the spot's: a node can't be closed by itself.
 fn try_node<O: TermOrder>(
     alloc: Global,
     order: &O,
@@ -352,7 +352,7 @@ fn try_node<O: TermOrder>(
     try_step(alloc, order, spot, Step::Subsume(number, terms), fits)
 }
 
-/// The goals, each as it is. Nothing is walked where the key of one tells that it can't close the
+/// The goals, each as it is. Nothing is walked if the key of one tells that it can't close the
 /// node.
 fn try_lemmas<O: TermOrder>(
     alloc: Global,
@@ -377,7 +377,7 @@ fn try_lemmas<O: TermOrder>(
     Ok(())
 }
 
-/// The goal of this number as it is, by its clause.
+/// The goal with this number as it is, by its clause.
 fn try_lemma<O: TermOrder>(
     alloc: Global,
     order: &O,
@@ -425,7 +425,7 @@ fn try_step<O: TermOrder>(
     }
 }
 
-/// What the step makes, or None where it isn't defined.
+/// What the step makes, or None if it isn't defined.
 fn made_by<O: TermOrder>(
     alloc: Global,
     order: &O,

@@ -79,7 +79,7 @@ pub(crate) fn new_numbers(alloc: Global, stays: &[bool]) -> Result<Vec<u32>, Out
     Ok(numbers)
 }
 
-/// The item of this number, after the other one has replaced the item at the place.
+/// The item with this number, after the other one has replaced the item at the place.
 pub(crate) fn with_other<'a, T>(items: &'a [T], place: usize, other: &'a T, number: usize) -> &'a T
     requires { number < length items.now }
     ensures { slice_get (slice_set items.now place other.now) number ≡ Some result.now }
@@ -102,7 +102,7 @@ pub(crate) fn refers_to_staying(step: &Step, stays: &[bool]) -> bool
     }
 }
 
-/// Whether there is a flag of this number, and it is set.
+/// Whether there is a flag with this number, and it is set.
 fn is_set(flags: &[bool], number: u32) -> bool
     ensures { result ≡ flag_of flags.now number }
 {

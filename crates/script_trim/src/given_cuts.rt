@@ -47,7 +47,7 @@ pub(crate) fn lemmas_before<O: TermOrder>(
     Ok(lemmas)
 }
 
-/// What is left of the block where the step closes the node, or none where it isn't a closing step
+/// What is left of the block if the step closes the node, or none if it isn't a closing step
 /// or can't close it.
 pub(crate) fn rest_by<O: TermOrder>(
     alloc: Global,

@@ -156,7 +156,7 @@ fn hopeful_nodes<O: TermOrder>(
 }
 
 /// Whether a closing step may be defined at this node that isn't by the node itself. Nothing is
-/// tried at a node without children, since nothing is to be cut there, nor where `trivial` is
+/// tried at a node without children, since nothing is to be cut there, nor if `trivial` is
 /// defined in plain sight.
 fn is_hopeful<O: TermOrder>(
     alloc: Global,

@@ -14,7 +14,7 @@ const FACTOR: u64 = 0x9e37_79b9_7f4a_7c15;
 /// Tells the number of a symbol from that of a variable.
 const SYMBOLS: u64 = 0x1_0000_0000;
 
-/// The key of the clause's first conclusion, where it has one. It is found in one walk.
+/// The key of the clause's first conclusion, if it has one. It is found in one walk.
 pub(crate) fn key(clause: &Clause) -> Option<u32>
     ensures { result ≡ key_of clause.now }
 {

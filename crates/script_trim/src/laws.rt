@@ -33,7 +33,7 @@ pub fn claims_are_apart<O: TermOrder>(order: &O)
     clause_core::one_relation(order);
 }
 
-/// A report to which an accepted one leads has a text where the accepted one has.
+/// A report to which an accepted one leads has a text if the accepted one has.
 pub fn trimmed_reports_stand<O: TermOrder>(order: &O)
     ensures { TrimmedReportsStand (O.above order.now) }
 {

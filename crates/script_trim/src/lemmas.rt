@@ -41,7 +41,7 @@ impl Lemmas {
         })
     }
 
-    /// The goal of this number is proved too.
+    /// The goal with this number is proved too.
     pub fn add(&mut self, number: u32) -> Result<(), OutOfMemory>
         ensures numbers { OnOk result
             (self.new.numbers.items ≡ self.old.numbers.items ++ number ∷ []) }

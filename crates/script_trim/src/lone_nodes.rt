@@ -12,7 +12,7 @@ use std::alloc::Global;
 use std::collections::HashSet;
 use term_core::OutOfMemory;
 
-/// Tells for each node whether no other one has a key by which it may close the node. Where a node
+/// Tells for each node whether no other one has a key by which it may close the node. If a node
 /// has no key, no node is.
 pub(crate) fn lone_nodes(
     alloc: Global,
@@ -35,7 +35,7 @@ pub(crate) fn lone_nodes(
     Ok(flags)
 }
 
-/// The keys that more than one node has, or None where a node has no key.
+/// The keys that more than one node has, or None if a node has no key.
 fn shared_keys(alloc: Global, keys: &[Option<u32>]) -> Result<Option<HashSet<u32>>, OutOfMemory>
     ensures { IfOk result (λ found. IfSome found (AreShared keys.now)) }
 {

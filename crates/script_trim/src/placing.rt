@@ -14,6 +14,6 @@ pub(crate) struct ClaimAt<'a> {
 pub(crate) struct NodeAt {
     pub number: usize,
     pub before: usize,
-    /// Set only where no other node has a key by which it may close this one.
+    /// Set only if no other node has a key by which it may close this one.
     pub alone: bool,
 }

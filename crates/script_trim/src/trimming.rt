@@ -13,7 +13,7 @@ use std::alloc::Global;
 use term_core::{OutOfMemory, Seq};
 use term_order::TermOrder;
 
-/// The steps that are left of a proved claim where the closing step closes the node, or none where
+/// The steps that are left of a proved claim if the closing step closes the node, or none if
 /// the step isn't a closing step or could not close the node.
 pub fn cut<O: TermOrder>(
     alloc: Global,

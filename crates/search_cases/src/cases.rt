@@ -1,4 +1,4 @@
-//! Evaluations and verdicts where values stand at places of a bank, as they were worked by hand.
+//! Evaluations and verdicts where values are at places of a bank, as they were worked by hand.
 ghost use Rattle.std.specs.Prelude.{◌≡◌, ◌<◌, ℕ, Some, IfOk, length, slice_get};
 ghost use Rattle.spec_core.specs.WellSorted.{IsWellSorted, sorts_of};
 ghost use Rattle.spec_core.specs.Truth.{AreValuesOf};

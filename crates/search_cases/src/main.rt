@@ -1,7 +1,7 @@
 //! Compares searches with plain programs that do what the definitions of the searches say, and
 //! prints where they differ.
 //!
-//! It stands on spec_syntax, sort_check, value_bank, ground_eval and refuter, and promises nothing
+//! It uses spec_syntax, sort_check, value_bank, ground_eval and refuter, and promises nothing
 //! beyond being safe and ending. Its `stdin` has specifications, each up to a line `end`. For each
 //! goal the search for a counterexample is compared with a walk of the list of substitutions
 //! (`searches.rt`), at each depth up to 5, with up to 40 tries. A line that begins with `case` is no
@@ -66,7 +66,7 @@ fn compared<R: BufRead + Drop>(
     Ok(counts)
 }
 
-/// How many goals the specification of the text has. Where a search differs, and where a case comes
+/// How many goals the specification of the text has. If a search differs, and if a case comes
 /// out otherwise, a line is added.
 fn compared_goals(
     alloc: Global,

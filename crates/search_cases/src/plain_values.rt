@@ -63,7 +63,7 @@ impl PlainValues {
     }
 
     /// Adds the applications of the constructor to values of these sorts, without those of too many
-    /// symbols. These may not stand where a list was cut: what stands behind them would be missing.
+    /// symbols. These may not appear if a list was cut: what comes after them would be missing.
     fn push_applications(
         &self,
         alloc: Global,

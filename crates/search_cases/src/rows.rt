@@ -6,7 +6,7 @@ use term_core::{Term, Terms};
 /// No list is made longer.
 pub const MANY: usize = 41;
 
-/// The first [`MANY`] rows. Where each list has all members, or the first [`MANY`], so have the
+/// The first [`MANY`] rows. If each list has all members, or the first [`MANY`], so have the
 /// rows.
 pub fn product(alloc: Global, lists: &[&[Term]]) -> Result<Vec<Terms>> {
     let mut rows = Vec::new(alloc);
@@ -17,7 +17,7 @@ pub fn product(alloc: Global, lists: &[&[Term]]) -> Result<Vec<Terms>> {
     Ok(rows)
 }
 
-/// Each row with each member of the list behind it, the first [`MANY`] of them.
+/// Each row with each member of the list after it, the first [`MANY`] of them.
 fn longer_rows(alloc: Global, rows: &[Terms], list: &[Term]) -> Result<Vec<Terms>> {
     let mut made = Vec::new(alloc);
     for row in rows {

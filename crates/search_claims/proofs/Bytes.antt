@@ -22,7 +22,7 @@ pub number_bytes : (n : ℕ) → IsShort n → length (decimal n) ≤ 9
 number_bytes n h = length-decimal-le 9 n (omega arith) h (omega arith)
 
 module _ (sig : Sig) where
-  -- the words of a line, each behind a blank
+  -- the words of a line, each after a blank
   abbrev pub words_length : List Word → ℕ
   words_length [] = 0
   words_length (w ∷ ws) = 1 + length (word_text sig w) + words_length ws
@@ -65,7 +65,7 @@ module _ (sig : Sig) where
   values_bytes [] h few = omega arith
   values_bytes (v ∷ vs) h few = omega (arith, value_bytes v h.0 few.0, values_bytes vs h.1 few.1, length-append (line_text sig (value_line v)) (lines_text sig (map value_line vs)))
 
-  -- a refuted claim, where the values have at most 255 symbols
+  -- a refuted claim, if the values have at most 255 symbols
   pub refuted_bytes : (goal : List ℕ) (index : ℕ) (vs : List (List ℕ × Tree)) → IsReportName goal → OutcomeStands sig (Refuted index vs) → AllByRecursion (λ v. tree_size v.1 ≤ 255) vs → length (lines_text sig (first_line goal (Refuted index vs) ∷ other_lines (Refuted index vs))) ≤ 300000
   refuted_bytes goal index vs name h few =
       let first = first_line goal (Refuted index vs) in

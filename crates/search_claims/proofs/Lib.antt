@@ -1,7 +1,7 @@
 -- Lists of claims, and values with their names.
 pub mod FirstClaims
 pub mod NamedValues
--- What holds of a refuted or an open claim, whoever makes it: it can be printed, its words may stand
+-- What holds of a refuted or an open claim, whoever makes it: it can be printed, its words may appear
 -- in a report, its text has few bytes, and it is accepted.
 pub mod InRange
 pub mod Depths

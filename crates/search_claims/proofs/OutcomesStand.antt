@@ -1,4 +1,4 @@
--- What a search answers on a goal may stand in a report, and has few bytes there.
+-- What a search answers on a goal may appear in a report, and has few bytes there.
 use Rattle.std.proofs.Common.{◌≡◌, ℕ, ◌≤◌, List, [], ◌∷◌, inl, inr, Bool, arith, length, take, sym, subst}
 use Rattle.std.specs.List.{AllByRecursion}
 use Rattle.std.proofs.lemmas.List.{length-take}
@@ -35,7 +35,7 @@ named_small [] values a = tt
 named_small (v ∷ vars) [] a = tt
 named_small (v ∷ vars) (t ∷ values) a = (a.0, named_small vars values a.1)
 
--- a claim of this outcome on a goal of this name may stand in a report, and has few bytes there
+-- a claim of this outcome on a goal of this name may appear in a report, and has few bytes there
 pub record MayStand (spec : Spec) (name : List ℕ) (outcome : Outcome) : Type 0 where
   pub stands : OutcomeStands spec.sig outcome
   pub small : length (lines_text spec.sig (first_line name outcome ∷ other_lines outcome)) ≤ 300000

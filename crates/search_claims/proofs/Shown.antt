@@ -1,4 +1,4 @@
--- Claims on all goals in their order are accepted, where each one is shown behind those before it.
+-- Claims on all goals in their order are accepted, if each one is shown after those before it.
 use Rattle.std.proofs.Common.{◌≡◌, ℕ, zero, suc, ◌<◌, List, [], ◌∷◌, ◌++◌, Some, None, inl, inr, refl, ap, sym, ◌∙◌, subst, arith, length, map, append_assoc}
 use Rattle.std.proofs.lemmas.List.{map-append}
 use Rattle.std.specs.Prelude.{slice_get}
@@ -80,7 +80,7 @@ module _ (above : Tree → Tree → Type 0) (spec : Spec) (steps : ℕ) where
     next_is seen goals goal all =
         subst (λ gs. slice_get gs (length seen) ≡ Some goal) all (item_behind seen goals goal)
 
-    -- behind claims on the goals before it a goal isn't claimed yet
+    -- after claims on the goals before it a goal isn't claimed yet
     pub next_unclaimed :
         (seen goals : List Goal) (goal : Goal) (before : List Claim) →
         seen ++ goal ∷ goals ≡ spec.goals → claimed_names before ≡ goal_names seen →
@@ -109,7 +109,7 @@ module _ (above : Tree → Tree → Type 0) (spec : Spec) (steps : ℕ) where
       shown = s;
     }
 
-    -- behind claims on the goals seen before, and before others
+    -- after claims on the goals seen before, and before others
     pub claims_accepted :
         (seen goals others : List Goal) (before claims : List Claim) →
         seen ++ (goals ++ others) ≡ spec.goals → claimed_names before ≡ goal_names seen →

@@ -1,4 +1,4 @@
--- Values of a goal's variables may stand in a report, where the names of their symbols may.
+-- Values of a goal's variables may appear in a report, if the names of their symbols may.
 use Rattle.std.proofs.Common.{◌≡◌, ℕ, zero, suc, ◌≤◌, List, [], ◌∷◌, Some, None, refl, ap, length}
 use Rattle.std.specs.Prelude.{slice_get, option_map, map}
 use Rattle.std.specs.List.{AllByRecursion}

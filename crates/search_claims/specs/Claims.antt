@@ -49,16 +49,16 @@ module _ (bounds : SearchBounds) (spec : Spec) where
     pub exact :
         Finds spec goal bounds.steps bounds.tries (substitutions spec goal bounds.depth) search
 
--- by what a claim on a goal is, behind the claims on the goals before it
+-- by what a claim on a goal is, after the claims on the goals before it
 module _ (IsOn : List Claim → Goal → Claim → Type 0) where
-  -- behind these claims there are claims on the first goals, one for each and in their order
+  -- after these claims there are claims on the first goals, one for each and in their order
   abbrev pub AreFirstClaims : List Claim → List Goal → List Claim → Type 0
   AreFirstClaims before goals [] = Unit {0}
   AreFirstClaims before [] (claim ∷ claims) = ⊥
   AreFirstClaims before (goal ∷ goals) (claim ∷ claims) =
       IsOn before goal claim × AreFirstClaims (before ++ claim ∷ []) goals claims
 
-  -- behind these claims there are claims on all goals, one for each and in their order
+  -- after these claims there are claims on all goals, one for each and in their order
   abbrev pub AreClaims : List Claim → List Goal → List Claim → Type 0
   AreClaims before [] [] = Unit {0}
   AreClaims before (goal ∷ goals) [] = ⊥
@@ -66,6 +66,6 @@ module _ (IsOn : List Claim → Goal → Claim → Type 0) where
   AreClaims before (goal ∷ goals) (claim ∷ claims) =
       IsOn before goal claim × AreClaims (before ++ claim ∷ []) goals claims
 
--- the report of these claims, where a side's evaluation may cost this many rule uses
+-- the report of these claims, if a side's evaluation may cost this many rule uses
 abbrev pub report_of : ℕ → List Claim → Report
 report_of steps claims = record { steps = steps; claims = claims }

@@ -1,4 +1,4 @@
--- The names of a specification that may stand in a report.
+-- The names of a specification that may appear in a report.
 use Rattle.std.specs.List.{AllByRecursion}
 use Rattle.spec_core.specs.declared.records.Goal.{Goal}
 use Rattle.spec_core.specs.declared.records.Spec.{Spec}

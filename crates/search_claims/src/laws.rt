@@ -3,7 +3,7 @@ ghost use Rattle.search_claims.specs.Laws.{SearchReportsAreAccepted, SearchRepor
 use term_order::TermOrder;
 
 /// The claims of searches for all goals of a well sorted specification make a report that has a
-/// text, where the specification's names may stand in one.
+/// text, if the specification's names may appear in one.
 pub fn search_reports_stand()
     ensures { SearchReportsStand }
 {}

@@ -55,7 +55,7 @@ module _ (P : List ℕ → Type 0) where
   abbrev AreLines : List (List ℕ) → Type 0
   AreLines lines = AllByRecursion (λ line. IsOneLine line × P line) lines
 
-  -- where fewer lines are taken, the next one stands first in the rest
+  -- if fewer lines are taken, the next one is the first of the rest
   record Next (r : List ℕ) : Type 0 where
     line : List ℕ
     after : List ℕ

@@ -204,7 +204,7 @@ module _ (above : Tree → Tree → Type 0) (spec : Spec) (fine : IsWellSorted s
     pub links_after : kept.links ++ links_of m ∷ [] ≡ map links_of after.made
     links_after = ap (λ ls. ls ++ links_of m ∷ []) o.keeps.links ∙ sym (map-append links_of work.made (m ∷ []))
 
-    -- where each node has a step, the links are those of a whole block
+    -- if each node has a step, the links are those of a whole block
     counts : (nodes : ℕ) → nodes ≡ length kept.nodes + length (clauses_of m) → (nodes ≡ length (nodes_at after)) ×
         (length (kept.links ++ links_of m ∷ []) ≡ length after.steps)
     counts nodes e =

@@ -84,7 +84,7 @@ module _ (above : Tree → Tree → Type 0) (spec : Spec) (fine : IsWellSorted s
       AreProved spec claims (map (λ (k : Kept). k.number) kept)
   numbers_proved claims kept k = numbers_by [] claims kept [] k none_proved
 
-  -- a goal is claimed exactly where its number is among them
+  -- a goal is claimed if and only if its number is among them
   pub claimed_number : (claims : List Claim) (kept : List Kept) → AreKept above spec [] claims kept →
       (number : ℕ) (goal : Goal) → slice_get spec.goals number ≡ Some goal → IsClaimed goal.name claims →
       Contains (map (λ (k : Kept). k.number) kept) number
@@ -223,7 +223,7 @@ module _ (above : Tree → Tree → Type 0) (spec : Spec) (fine : IsWellSorted s
         h.is all) in
         omega (arith, last, h.unfinished)
 
-    -- where the last goal has a node without a step it is under work
+    -- if the last goal has a node without a step it is under work
     pub open_by : (state : State) (goals : List Kept) → KeepsSound above spec state goals → HasOpenLast goals →
         OpenAt state goals
     open_by state goals k h = elim (open_or_not state goals k) [

@@ -25,7 +25,7 @@ module _ (sig : Sig) where
   abbrev IsSome : List ℕ → Type 0
   IsSome line = IsOneLine line × SpellsSome sig line
 
-  -- lines that spell these commands stand before the rest
+  -- lines that spell these commands come before the rest
   pub record HasRead (bytes rest : List ℕ) (commands : List Command) : Type 0 where
     pub lines : List (List ℕ)
     pub whole : bytes ≡ whole_lines lines ++ rest

@@ -139,7 +139,7 @@ module _ {commands : List Command} {goals : List Kept} (b : BeginWithClaims comm
             (flat_map claim_commands next_claim.others ++ b.others);
       }
 
--- where no goal is left, all claims are made
+-- if no goal is left, all claims are made
 pub all_made : {commands : List Command} {goals : List Kept} (b : BeginWithClaims commands goals) (made : List Claim)
     (left : List Kept) (rest : List Command) → AreLeft b made left rest → left ≡ [] → made ≡ b.claims
 all_made b made left rest a e = by a.others refl (subst (λ ks. AreWritten a.others ks) e a.written)

@@ -49,7 +49,7 @@ module _ (above : Tree → Tree → Type 0) (spec : Spec) where
 
   module _ (fine : IsWellSorted spec) (one : OneRelation above) (state : State) (goals : List Kept) (k : KeepsSound
       above spec state goals) where
-    -- where the last goal has no node without a step, none is under work
+    -- if the last goal has no node without a step, none is under work
     pub none_told : (HasOpenLast goals → ⊥) → state.work ≡ None
     none_told h = elim (open_or_not above spec fine one state goals k) [
       | inl o ↦ absurd (h (open_seen above spec fine one state goals o))

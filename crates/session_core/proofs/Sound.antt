@@ -84,7 +84,7 @@ module _ (above : Tree → Tree → Type 0) (spec : Spec) where
     settled_last zero p e = refl
     settled_last (suc n) p e = absurd (omega (arith, p, e))
 
-    -- where nothing is pending the goal is the last claim
+    -- if nothing is pending the goal is the last claim
     pub last_claim : pending new ≡ 0 → new.claims ≡ old.claims ++ proves t.work.goal (t.work.steps ++ step ∷ []) ∷ []
     last_claim p =
         let q : pending (settled old.claims then_work) ≡ 0 = ap pending (sym t.is) ∙ p in

@@ -1,4 +1,4 @@
--- Where commands may stand in a text, the claims that they lead to may, and the report has a text.
+-- If commands may appear in a text, the claims that they lead to may, and the report has a text.
 use Rattle.std.proofs.Common.{◌≡◌, ℕ, zero, suc, ◌-◌, ◌≤◌, List, [], ◌∷◌, ◌++◌, Some, None, refl, sym, subst, arith}
 use Rattle.std.proofs.Common.{length, map}
 use Rattle.std.proofs.Common.{length-take}

@@ -80,7 +80,7 @@ module _ (above : Tree → Tree → Type 0) (spec : Spec) (fine : IsWellSorted s
   there : count ≡ length added.links.items → count ≡ length (kept.links ++ links_of m ∷ [])
   there e = e ∙ ap (λ ls. length ls) links
 
-  -- where each node has a step, the links are those of a whole block
+  -- if each node has a step, the links are those of a whole block
   pub whole_added : count ≡ length added.links.items → IsWholeBlock added.links.items
   whole_added e = subst IsWholeBlock (sym links) (whole_after above spec fine one claims work kept o step m next count
       counted (there e))

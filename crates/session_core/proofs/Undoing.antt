@@ -189,7 +189,7 @@ module _ (above : Tree → Tree → Type 0) (spec : Spec) where
           lengths_after spec.sig 0 t.work.steps;
     }
 
-    -- what is kept of the last goal, where the step is taken back
+    -- what is kept of the last goal, when the step is taken back
     pub record Undone (goals : List Kept) : Type 0 where
       pub front : List Kept
       pub k : Kept
@@ -268,7 +268,7 @@ module _ (above : Tree → Tree → Type 0) (spec : Spec) where
     pub step_undone : (goals : List Kept) → Keeps above spec new goals → Undone goals
     step_undone goals k = settled_undone (without_step after) goals (subst (λ x. Keeps above spec x goals) t.is k)
 
-    -- and it gets them where the step is taken
+    -- and it gets them when the step is taken
     settled_kept : (n : ℕ) (front : List Kept) (k : Kept) → AreKept above spec [] old.claims front →
         IsKept above spec old.claims after k → Keeps above spec (settled_by n old.claims after) (front ++ k ∷ [])
     settled_kept zero front k others h = record {

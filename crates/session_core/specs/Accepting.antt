@@ -46,12 +46,12 @@ abbrev pub text_length : Sig → Work → ℕ
 text_length sig work = length (lines_text sig (lines_so_far work))
 
 module _ (above : Tree → Tree → Type 0) (spec : Spec) where
-  -- the step of the first node without one makes this, where the proved goals are the lemmas
+  -- the step of the first node without one makes this, if the proved goals are the lemmas
   abbrev pub NextMakes : List Claim → Work → Step → Children → Type 0
   NextMakes claims work step made =
       StepMakes above spec (ProvedBefore spec claims) (nodes_at work) (length work.steps) step made
 
-  -- no goal is under work; the goal of this name, which isn't proved, is now
+  -- before the command no goal is under work, and after it the goal of this name is; that goal isn't proved
   pub record TakesGoal (old : State) (name : List ℕ) (new : State) : Type 0 where
     pub idle : old.work ≡ None
     pub goal : Goal
@@ -60,7 +60,7 @@ module _ (above : Tree → Tree → Type 0) (spec : Spec) where
     pub within : IsWithin (goal_clause goal)
     pub is : new ≡ begun old.claims goal
 
-  -- the step of the first node without one makes what isn't Neither; where it is the last one,
+  -- the step of the first node without one makes what isn't Neither; if it is the last one,
   -- everything in the block is allowed
   pub record TakesStep (old : State) (step : Step) (new : State) : Type 0 where
     pub work : Work

@@ -39,7 +39,7 @@ module _ (sig : Sig) where
         → (SpellsSome line → ⊥) → IsStuck before rest
     too_many : rest ≢ [] → length before ≡ most_commands → IsStuck before rest
 
-  -- the line of this number, which counts from 1, is the first that isn't a command or isn't ended,
+  -- the line with this number, which counts from 1, is the first that isn't a command or isn't ended,
   -- or is one too many
   pub record IsFaultyCommand (bytes : List ℕ) (number : ℕ) : Type 0 where
     pub before : List (List ℕ)

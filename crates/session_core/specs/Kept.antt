@@ -21,7 +21,7 @@ pub record Kept : Type 0 where
   pub lengths : List ℕ
 
 module _ (above : Tree → Tree → Type 0) (spec : Spec) where
-  -- these are the goal's number, its nodes, its links and the lengths of its lines, where its steps
+  -- these are the goal's number, its nodes, its links and the lengths of its lines, if its steps
   -- make this after these claims
   pub record IsKept (before : List Claim) (work : Work) (kept : Kept) : Type 0 where
     pub number : slice_get spec.goals kept.number ≡ Some work.goal

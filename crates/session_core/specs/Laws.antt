@@ -67,7 +67,7 @@ pub record OneAnswer (above : Tree → Tree → Type 0) : Type 0 where
       IsRefusedFor above spec old command why → IsRefusedFor above spec old command reason →
       why ≡ reason
 
--- the claims of each state make an accepted report; where a step leaves nothing pending, its goal is
+-- the claims of each state make an accepted report; if a step leaves nothing pending, its goal is
 -- the last of them
 pub record StatesAreSound (above : Tree → Tree → Type 0) : Type 0 where
   pub sound :
@@ -81,7 +81,7 @@ pub record StatesAreSound (above : Tree → Tree → Type 0) : Type 0 where
       pending new ≡ 0 →
       new.claims ≡ old.claims ++ proves t.work.goal (t.work.steps ++ step ∷ []) ∷ []
 
--- where a step leaves nothing pending, all that is asked of its children and references is that
+-- if a step leaves nothing pending, all that is asked of its children and references is that
 -- everything in the block is allowed; and the block is one of which this can be tested
 pub record LastTest (above : Tree → Tree → Type 0) : Type 0 where
   pub related :
@@ -152,13 +152,13 @@ pub record KeepsBothWays (above : Tree → Tree → Type 0) : Type 0 where
         lengths = lengths_after spec.sig 0 t.work.steps;
       } ∷ [])
 
--- a command that may stand in a text: a goal of a report's name, or a step that may stand
+-- a command that may appear in a text: a goal of a report's name, or a step that may appear
 abbrev pub CommandStands : Sig → Command → Type 0
 CommandStands sig (of_goal name) = IsReportName name
 CommandStands sig (of_step step) = StepStands sig step
 CommandStands sig Undo = Unit {0}
 
--- where the accepted commands may stand in a text, the report of the state has a text
+-- if the accepted commands may appear in a text, the report of the state has a text
 abbrev pub ReportsStand : (Tree → Tree → Type 0) → Type 0
 ReportsStand above =
     (spec : Spec) (commands : List Command) (state : State) (steps : ℕ) →

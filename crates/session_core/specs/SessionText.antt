@@ -40,7 +40,7 @@ is_open None = false
 is_open (Some work) = true
 
 module _ (above : Tree → Tree → Type 0) (spec : Spec) where
-  -- the line that a command gets, where these are the accepted commands that aren't taken back, and
+  -- the line that a command gets, if these are the accepted commands that aren't taken back, and
   -- those after it
   pub data Replies (history : List Command) : Command → List ℕ → List Command → Type 0 where
     accepted : {command : Command} (old new : State)
@@ -62,7 +62,7 @@ module _ (above : Tree → Tree → Type 0) (spec : Spec) where
         → Replies history command line after → RepliesAll after commands text left
         → RepliesAll history (command ∷ commands) (line ++ text) left
 
-  -- the whole text of a session: the lines of its commands, and the report of the last state, where
+  -- the whole text of a session: the lines of its commands, and the report of the last state, if
   -- the evaluation of a side may cost a thousand rule uses
   pub record IsSessionText (commands : List Command) (text : List ℕ) (open_at_end : Bool) : Type 0
     where

@@ -31,7 +31,7 @@ nodes_at work = nodes_of (goal_clause work.goal) work.made
 abbrev pub without_step : Work → ℕ
 without_step work = length (nodes_at work) - length work.steps
 
--- the same of a state, and 0 where no goal is under work
+-- the same of a state, and 0 if no goal is under work
 abbrev pub pending_of : Option Work → ℕ
 pending_of None = 0
 pending_of (Some work) = without_step work
@@ -46,7 +46,7 @@ proves_named name steps = record { goal = name; outcome = Proved (record { steps
 abbrev pub proves : Goal → List Step → Claim
 proves goal steps = proves_named goal.name steps
 
--- with a goal under work, where no step is taken
+-- with a goal under work, for which no step is taken
 abbrev pub begun : List Claim → Goal → State
 begun claims goal =
     record { claims = claims; work = Some (record { goal = goal; steps = []; made = [] }) }
@@ -56,7 +56,7 @@ abbrev pub with_step : Work → Step → Children → Work
 with_step work step made =
     record { goal = work.goal; steps = work.steps ++ step ∷ []; made = work.made ++ made ∷ [] }
 
--- the goal stays under work where some nodes have no step, and where none is left its claim is
+-- the goal stays under work if some nodes have no step, and if none is left its claim is
 -- the last one
 abbrev pub settled_by : ℕ → List Claim → Work → State
 settled_by zero claims work =

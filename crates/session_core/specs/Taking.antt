@@ -37,14 +37,14 @@ IsOpenAt goals number clause =
     (h : HasOpenLast goals) × (number ≡ length h.last.links)
     × (slice_get h.last.nodes number ≡ Some clause)
 
--- where each of the nodes has links all is allowed, or it isn't
+-- if each of the nodes has links all is allowed, or it isn't
 abbrev pub TestsAllowed : ℕ → List Children → Result Unit SessionError → Type 0
 TestsAllowed nodes links (Ok done) = nodes ≡ length links → AllAreAllowed links
 TestsAllowed nodes links (Err NotSmaller) = (nodes ≡ length links) × ¬ (AllAreAllowed links)
 TestsAllowed nodes links (Err OutOfMemory) = Unit {0}
 TestsAllowed nodes links (Err _) = ⊥
 
--- where each of the nodes has links all is allowed, and a claim of this name with steps of this
+-- if each of the nodes has links all is allowed, and a claim of this name with steps of this
 -- length isn't too long; or the first of both that isn't so
 abbrev pub TestsLast : ℕ → List Children → List ℕ → ℕ → Result Unit SessionError → Type 0
 TestsLast nodes links name total (Ok done) =
@@ -59,7 +59,7 @@ TestsLast nodes links name total (Err OutOfMemory) = Unit {0}
 TestsLast nodes links name total (Err _) = ⊥
 
 module _ (above : Tree → Tree → Type 0) (spec : Spec) where
-  -- what the step of node k makes, where nothing in it is Neither; or why it makes nothing
+  -- what the step of node k makes, if nothing in it is Neither; or why it makes nothing
   abbrev pub MakesRelated :
       (ℕ → Type 0) → List Clause → ℕ → Step → Result Children SessionError → Type 0
   MakesRelated usable nodes k step (Ok made) =
@@ -111,7 +111,7 @@ module _ (above : Tree → Tree → Type 0) (spec : Spec) where
     IsStopped OutOfMemory = Unit {0}
     IsStopped _ = ⊥
 
-    -- one of both, and what is kept stays where the step isn't taken
+    -- one of both, and what is kept stays if the step isn't taken
     abbrev pub TakesKept : Kept → Kept → Result Unit SessionError → Type 0
     TakesKept old new (Ok done) = IsTaken old new
     TakesKept old new (Err error) = (new ≡ old) × IsStopped error

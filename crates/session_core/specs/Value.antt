@@ -32,7 +32,7 @@ kept_of goal = record {
 abbrev pub number_of : KeptGoal → ℕ
 number_of goal = goal.number
 
--- the last of these goals has a link and a length, and the nodes of the children stand last
+-- the last of these goals has a link and a length, and the nodes of the children come last
 pub record LastStep (goals : List Kept) : Type 0 where
   pub front : List Kept
   pub last : Kept

@@ -8,7 +8,7 @@ use clause_core::Clause;
 use std::alloc::Global;
 use term_core::OutOfMemory;
 
-/// What is kept of a goal, which is proved or under work. Its steps stand among the commands.
+/// What is kept of a goal, which is proved or under work. Its steps are among the commands.
 #[derive(Drop)]
 pub struct KeptGoal {
     pub number: u32,
@@ -40,7 +40,7 @@ pub(crate) fn finished(goals: &[KeptGoal]) -> &[KeptGoal]
     }
 }
 
-/// Where the last goal has a node without a step, the number of the first one and its clause.
+/// If the last goal has a node without a step, the number of the first one and its clause.
 pub(crate) fn first_open(goals: &[KeptGoal]) -> Option<(usize, &Clause)>
     ensures { MatchOption result (HasOpenLast (map kept_of goals.now) → ⊥)
         (λ p. IsOpenAt (map kept_of goals.now) p.0 p.1.now) }

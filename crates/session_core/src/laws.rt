@@ -42,7 +42,7 @@ pub fn keeps_both_ways<O: TermOrder>(order: &O)
     clause_core::one_relation(order);
 }
 
-/// The report of a state has a text, where its commands may stand in one.
+/// The report of a state has a text, if its commands may appear in one.
 pub fn reports_stand<O: TermOrder>(order: &O)
     ensures { ReportsStand (O.above order.now) }
 {}

@@ -53,8 +53,8 @@ impl Session {
         }
     }
 
-    /// Carries out a goal or a step, and answers how many nodes have no step then. Where it isn't carried
-    /// out, the session stays as it is.
+    /// Carries out a goal or a step, and answers how many nodes have no step then. If it isn't
+    /// carried out, the session stays as it is.
     pub fn apply<O: TermOrder>(
         &mut self,
         alloc: Global,
@@ -102,7 +102,7 @@ impl Session {
         })
     }
 
-    /// Where a goal is under work, the number of the node that the next step belongs to, and its clause.
+    /// The number and the clause of the node that the next step is for, if a goal is under work.
     pub fn open_node<O: TermOrder>(&self, admitted: &Admitted<O>) -> Option<(usize, &Clause)>
         requires { IsSession (O.above admitted.now.order) admitted.now.spec self.now }
         ensures { (state : StateOf) →

@@ -25,8 +25,8 @@ use term_core::{Name, OutOfMemory};
 use term_order::TermOrder;
 
 impl KeptGoal {
-    /// Takes the step of the first node without one, where the goals of these numbers are proved. What
-    /// is kept stays where the step isn't taken.
+    /// Takes the step of the first node without one, with the goals of these numbers proved. What
+    /// is kept stays if the step isn't taken.
     pub(crate) fn take<O: TermOrder>(
         &mut self,
         alloc: Global,
@@ -63,7 +63,7 @@ impl KeptGoal {
     }
 }
 
-/// What the step of the first node without one makes, where nothing in it is Neither.
+/// What the step of the first node without one makes, if nothing in it is Neither.
 fn made_by<O: TermOrder>(
     alloc: Global,
     admitted: &Admitted<O>,
@@ -121,7 +121,7 @@ fn has_neither_reference(made: &Children) -> bool
     false
 }
 
-/// Tests the last step that is taken: where each node has a step all must be allowed, and the claim's
+/// Tests the last step that is taken: if each node has a step all must be allowed, and the claim's
 /// lines mustn't be too long. `total` counts the bytes of the lines of all steps.
 fn test_last(
     alloc: Global,
@@ -140,7 +140,7 @@ fn test_last(
     Ok(())
 }
 
-/// Tests that all is allowed where each node has a step.
+/// Tests that all is allowed if each node has a step.
 fn test_allowed(alloc: Global, taken: &TakenSteps) -> Result<(), SessionError>
     requires { length taken.now.nodes.items ≡ length taken.now.links.items →
         IsWholeBlock taken.now.links.items }

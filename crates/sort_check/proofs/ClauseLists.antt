@@ -14,7 +14,7 @@ use Rattle.sort_check.proofs.Growth.{KeepsNames, extends_self, extends_both}
 use Rattle.sort_check.proofs.Sides.{after_extends, equations_more}
 use Rattle.sort_check.proofs.Turns.{turn_both, left_both}
 
--- pairs of two lists, one behind the other
+-- pairs of two lists, one after the other
 pub pairs_append : {X Y : Type 0} (R : X → Y → Type 0) (xs us : List X) (ys vs : List Y) → AllZip R xs ys → AllZip R us vs → AllZip R (xs ++ us) (ys ++ vs)
 pairs_append R [] us [] vs p q = q
 pairs_append R (x ∷ xs) us (y ∷ ys) vs p q = (p.0, pairs_append R xs us ys vs p.1 q)

@@ -15,7 +15,7 @@ both_ways true false = refl
 both_ways false true = refl
 both_ways false false = refl
 
--- each number from 1 to m is there once where it is counted once
+-- each number from 1 to m is there once if it is counted once
 pub once-counts :
     (m : ℕ) (ps : List ℕ) →
     list_all (λ n. n == 1) (map (λ n. times n ps) (range_with_len 1 m)) ≡ has_once m ps
@@ -45,7 +45,7 @@ times-few n (p ∷ ps) =
       | inr d ↦ omega (arith, times-other n p ps d, times-few n ps)
     ]
 
--- one more number p, where each of those before it is counted; k is a place among the counts
+-- one more number p, if each of those before it is counted; k is a place among the counts
 module _
     (numbers counts : List ℕ) (i p : ℕ) (lt : i < length numbers) (is : p ≡ get_or numbers i 0)
     (each : (k : ℕ) → k < length numbers → get_or counts k 0 ≡ times (suc k) (take i numbers))

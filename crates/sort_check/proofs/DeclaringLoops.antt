@@ -42,7 +42,7 @@ module _ {A B : Type 0} (piece : A → List B) (whole : List A → List B) (end 
   whole_more [] x = on x [] ∙ ap (λ g. piece x ++ g) end ∙ append-nil (piece x) ∙ ap (λ g. g ++ piece x) (sym end)
   whole_more (y ∷ ys) x = on y (ys ++ x ∷ []) ∙ ap (λ g. piece y ++ g) (whole_more ys x) ∙ sym (append_assoc (piece y) (whole ys) (piece x)) ∙ ap (λ g. g ++ piece x) (sym (on y ys))
 
-  -- what a loop has put behind a list
+  -- what a loop has put after a list
   pub behind_next : (xs : List A) (i : ℕ) (x : A) (old now new : List B) → i < length xs → x ≡ get_or xs i x → now ≡ old ++ whole (take i xs) → new ≡ now ++ piece x → new ≡ old ++ whole (take (i + 1) xs)
   behind_next xs i x old now new lt is before made =
       made ∙ ap (λ g. g ++ piece x) before ∙ append_assoc old (whole (take i xs)) (piece x) ∙ ap (λ g. old ++ g) (sym (whole_more (take i xs) x)) ∙ ap (λ ys. old ++ whole ys) (sym (taken_next xs i x lt is))

@@ -43,7 +43,7 @@ module _ (sig : Sig) where
       c.0 (λ h. without (subst (λ j. HasSmallValue sig (sort_of_number j)) (sym e) h))
   small_at n (s ∷ ss) (suc k) m lt number c without = small_at (suc n) ss k m (omega arith) (omega arith) c.1 without
 
--- the symbols keep their numbers where others come behind them
+-- the symbols keep their numbers when others come after them
 info_behind : (xs ys : List (List ℕ × SymInfo)) (f : ℕ) (i : SymInfo) → option_map (λ (e : List ℕ × SymInfo). e.1) (slice_get (xs ++ []) f) ≡ Some i → option_map (λ (e : List ℕ × SymInfo). e.1) (slice_get (xs ++ ys) f) ≡ Some i
 info_behind [] ys f i h = absurd (let q : None ≡ Some i = h in cc)
 info_behind (x ∷ xs) ys zero i h = h
@@ -88,7 +88,7 @@ module _ (sorts : List (List ℕ)) (cs fs : List (List ℕ × SymInfo)) where
   pub bool_small : HasSmallValue whole (sort_of_number 0)
   bool_small = (app 0 none, ((bool_symbol, refl, refl, tt), (omega arith, tt)), omega arith)
 
-  -- where no test finds a sort without small values no sort is one
+  -- if no test finds a sort without small values no sort is one
   pub no_first_without : (ss : List RawSort) (s : SortId) → length sorts ≡ length ss → Clean (small_tests alone 1 ss) → IsFirstWithout whole s → ⊥
   no_first_without ss s as_many c w = by s.0 w.in_range w.has_none
     where

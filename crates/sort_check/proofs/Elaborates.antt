@@ -62,7 +62,7 @@ module _ {T : Type 0} (s : Search SortFault) (P : T → Type 0) (r : Result T So
       by (Err (Sort n k)) b e = inl (e ∙ ap (λ x. Err x) (one_first s (Sort n k) (Sort at kind) b f))
       by (Err OutOfMemory) b e = inr e
 
-  -- where nothing is found and one thing at most can be made, it is made
+  -- if nothing is found and one thing at most can be made, it is made
   pub answer_made : (x : T) → Clean s → ((y : T) → P y → y ≡ x) → IsUnlessNoMemory r (Ok x)
   answer_made x clean one = by r a refl
     where

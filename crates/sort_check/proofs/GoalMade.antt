@@ -1,4 +1,4 @@
--- The goal that the parts make, where nothing is found.
+-- The goal that the parts make, if nothing is found.
 use Rattle.std.proofs.Common.{◌≡◌, ◌≤◌, ℕ, List, [], ◌∷◌, ◌++◌, Option, Some, None, inl, inr, refl, ap, sym, ◌∙◌, subst, arith, length, map}
 use Rattle.std.specs.List.{AllByRecursion, AllZip}
 use Rattle.std.specs.Prelude.{slice_get, unwrap_or, option_map}
@@ -43,7 +43,7 @@ use Rattle.sort_check.proofs.GoalNames.{bind_entry_names, walked_names, opposed_
 use Rattle.term_core.proofs.Items.{all_at}
 use Rattle.term_core.proofs.Members.{In, contained_in}
 
--- pairs of two lists, one behind the other, taken apart
+-- pairs of two lists, one after the other, taken apart
 pairs_split : {X Y : Type 0} (R : X → Y → Type 0) (xs us : List X) (ys vs : List Y) → length ys ≡ length xs → AllZip R (xs ++ us) (ys ++ vs) → AllZip R xs ys × AllZip R us vs
 pairs_split R [] us [] vs l p = (tt, p)
 pairs_split R (x ∷ xs) us [] vs l p = absurd (omega arith)

@@ -1,4 +1,4 @@
--- Both sides of each equation of a goal have one sort where nothing is found.
+-- Both sides of each equation of a goal have one sort if nothing is found.
 use Rattle.std.proofs.Common.{◌≡◌, ◌<◌, ℕ, List, [], ◌∷◌, Option, Some, None, option_map, inl, inr, refl, ap, sym, ◌∙◌, subst, arith, length}
 use Rattle.std.specs.List.{AllByRecursion, AllZip}
 use Rattle.std.specs.Prelude.{unwrap_or}
@@ -40,7 +40,7 @@ module _ (sig : Sig) (es : List Entry) where
   var_of (word name at args) (var m) h o = (m, refl, h.2, ap (λ x. unwrap_or x 0) h.2)
   var_of (word name at args) (app f ts) h o = absurd (let z : Some (info_at sig f).result ≡ None = ap (λ x. option_map (λ g. (info_at sig g).result) x) (sym h.0) ∙ o in cc)
 
-  -- where equations stand for others, their variables are found
+  -- if equations stand for others, their variables are found
   pub all_found : (eqs : List RawEq) (ts : List Equation) → AllZip (IsEquationOver sig es) eqs ts → AllByRecursion (AreFound sig es) eqs
   all_found [] [] p = tt
   all_found (e ∷ eqs) [] p = absurd p

@@ -1,4 +1,4 @@
--- A walk over a term keeps the variables that are known, with their sorts, and puts others behind them.
+-- A walk over a term keeps the variables that are known, with their sorts, and puts others after them.
 use Rattle.std.proofs.Common.{◌≡◌, ℕ, zero, suc, List, [], ◌∷◌, ◌++◌, Option, Some, None, inl, inr, refl, ap, sym, ◌∙◌, position, append_assoc, set, get_or-set_other}
 use Rattle.std.specs.Str.{bytes_eq}
 use Rattle.std.proofs.lemmas.List.{append-nil, map-append, map-set}
@@ -15,7 +15,7 @@ use Rattle.sort_check.specs.declared.entries.Entry.{Entry}
 use Rattle.sort_check.proofs.Places.{position_stays}
 use Rattle.term_core.proofs.Numbers.{same_or_not}
 
--- the names of the second are those of the first and others behind them
+-- the names of the second are those of the first and others after them
 abbrev pub KeepsNames : List Entry → List Entry → Type 0
 KeepsNames es fs = (more : List (List ℕ)) × (entry_names fs ≡ entry_names es ++ more)
 

@@ -13,11 +13,11 @@ use Rattle.sort_check.specs.declared.faults.SortKind.TheVariants.{RepeatedName, 
 use Rattle.sort_check.proofs.Names.{new_not, place_is, no_place, new_in_both, new_in_first}
 
 module _ {A : Type 0} (name : List ℕ) (f : A → List ℕ) (xs : List A) where
-  -- where one is found the name isn't new
+  -- if one is found the name isn't new
   pub found_old : (n : ℕ) → position (λ x. bytes_eq name (f x)) xs ≡ Some n → IsNewName name (map f xs) → ⊥
   found_old n e new = new_not name (map f xs) n new (place_is name (map f xs) n (position-map (bytes_eq name) f xs ∙ e))
 
-  -- where none is found it is
+  -- if none is found it is
   pub unfound_new : position (λ x. bytes_eq name (f x)) xs ≡ None → IsNewName name (map f xs)
   unfound_new e = no_place name (map f xs) (position-map (bytes_eq name) f xs ∙ e)
 

@@ -35,7 +35,7 @@ take_next : (xs : List (List ℕ)) (k : ℕ) (x : List ℕ) → slice_get xs k �
 take_next xs k x at = sym (take_more xs k x (slice_get_within xs k x at) ∙ ap (λ y. take k xs ++ y ∷ []) (get_or_from_slice_get xs k x x at))
 
 module _ (sig : Sig) where
-  -- the names grow behind
+  -- the names grow at the end
   grows_name : (seen : List (List ℕ)) (name : List ℕ) (o : Option ℕ) → (more : List (List ℕ)) × (with_name seen name o ≡ seen ++ more)
   grows_name seen name (Some i) = ([], sym (append-nil seen))
   grows_name seen name None = (name ∷ [], refl)
@@ -78,7 +78,7 @@ module _ (sig : Sig) where
     distinct_after_all seen no_raws all = all
     distinct_after_all seen (more_raws raw raws) all = distinct_after_all (names_after sig seen raw) raws (distinct_after seen raw all)
 
-  -- what a word adds, where it is a symbol and where it is none
+  -- what a word adds, if it is a symbol and if it is none
   symbol_word : (seen : List (List ℕ)) (name : List ℕ) (after : List (List ℕ)) (f : ℕ) → slice_get (names_of sig) f ≡ Some name → after_word seen name after (position (bytes_eq name) (names_of sig)) ≡ after
   symbol_word seen name after f found = elim (placed name (names_of sig)) [
     | inl h ↦ ap (λ o. after_word seen name after o) h.1

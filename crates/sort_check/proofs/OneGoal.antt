@@ -41,7 +41,7 @@ partner R (z ∷ xs) [] x h p = absurd p
 partner R (z ∷ xs) (y ∷ ys) x (inl e) p = (y, subst (λ a. R a y) (sym e) p.0)
 partner R (z ∷ xs) (y ∷ ys) x (inr h) p = partner R xs ys x h p.1
 
--- a binding's variable stands among the first ones
+-- a binding's variable is among the first ones
 bound_at : (sig : Sig) (binds : List RawBind) (vars : List VarInfo) (b : RawBind) → In b binds → AllZip (VariableStands sig) binds (take (length binds) vars) → (n : ℕ) × (s : SortId) × (slice_get (variable_names vars) n ≡ Some b.name.name) × (slice_get (sorts_of vars) n ≡ Some s) × SortStands sig.sorts b.sort s
 bound_at sig [] vars b h p = absurd h
 bound_at sig (a ∷ binds) [] b h p = absurd p
@@ -92,7 +92,7 @@ module _ (sig : Sig) (distinct : AreNewNames [] (names_of sig)) (names : List (L
     any_taken_has x s (more_raws r rs) (some t ts) (u ∷ us) (inr (inl h)) p is = taken_has x s u r t h p.0 is.0
     any_taken_has x s (more_raws r rs) (some t ts) (u ∷ us) (inr (inr h)) p is = any_taken_has x s rs ts us h p.1 is.1
 
--- an equation that stands and whose sides have one sort
+-- an equation that a raw one stands for, and whose sides have one sort
 abbrev IsSortedAs : Sig → List (List ℕ) → List SortId → RawEq → Equation → Type 0
 IsSortedAs sig names ctx raw e = EquationStands sig names raw e × ((s : SortId) × Sorted sig ctx e.left s × Sorted sig ctx e.right s)
 

@@ -32,7 +32,7 @@ module _ {X Y : Type 0} (R : X → Y → Type 0) where
     pub pairs_none : (x : X) (ys : List Y) → i < length xs → x ≡ get_or xs i x → ((y : Y) → R x y → ⊥) → AllZip R xs ys → ⊥
     pairs_none x ys lt is alone all = let here = pairs_at xs ys i x all lt is in alone here.0 here.1
 
-  -- pairs are determined by the first list, where each element has one partner
+  -- pairs are determined by the first list, if each element has one partner
   pub pairs_one : ((x : X) (y z : Y) → R x y → R x z → y ≡ z) → (xs : List X) (ys zs : List Y) → AllZip R xs ys → AllZip R xs zs → ys ≡ zs
   pairs_one one [] [] [] p q = refl
   pairs_one one (x ∷ xs) (y ∷ ys) (z ∷ zs) p q =

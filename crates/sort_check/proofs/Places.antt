@@ -46,7 +46,7 @@ lasts o q true n g h = absurd (let z : Some 0 ≡ None = h in cc)
 lasts None q false n g h = ap (λ x. option_map (λ k. suc k) x) (g refl)
 lasts (Some m) q false n g h = absurd (let z : Some (suc m) ≡ None = h in cc)
 
--- what wasn't found is found behind the others
+-- what wasn't found is found after the others
 pub position_last : {X : Type 0} (p : X → Bool) (xs : List X) (y : X) → position p xs ≡ None → p y ≡ true → position p (xs ++ y ∷ []) ≡ Some (length xs)
 position_last p [] y e h = position_step p y [] ∙ rw h refl
 position_last p (x ∷ xs) y e h = position_step p x (xs ++ y ∷ []) ∙ lasts (position p xs) (position p (xs ++ y ∷ [])) (p x) (length xs) (λ q. position_last p xs y q h) (sym (position_step p x xs) ∙ e)

@@ -1,4 +1,4 @@
--- Where no test of the lines finds a fault, they make an order. Their levels and statuses make a precedence: the level
+-- If no test of the lines finds a fault, they make an order. Their levels and statuses make a precedence: the level
 -- of a symbol is the number of a symbol that has as many arguments.
 use Rattle.std.proofs.Common.{◌≡◌, ◌≢◌, ℕ, ◌<◌, ◌⊎◌, inl, inr, Bool, true, false, Option, Some, None, List, [], ◌∷◌, ◌++◌, length, map, get_or, refl, ap, sym, ◌∙◌, subst, arith}
 use Rattle.std.specs.Prelude.{◌==◌, ◌||◌, if◌then◌else◌, IsTrue, unwrap_or, slice_index}
@@ -42,7 +42,7 @@ all-map P g all [] = tt
 all-map P g all (n ∷ ns) = (all n, all-map P g all ns)
 
 module _ (sig : Sig) where
-  -- how many arguments the symbol of this number has
+  -- how many arguments the symbol with this number has
   abbrev arity_at : ℕ → ℕ
   arity_at f = slice_index (arities sig) f
 
@@ -56,7 +56,7 @@ module _ (sig : Sig) where
           omega (arith, p.0, length-map sig.table (λ (e : List ℕ × _). e.0))
       by None e = absurd (known e)
 
-  -- a symbol with so many arguments
+  -- a symbol with this many arguments
   abbrev HasArity : ℕ → ℕ → Type 0
   HasArity a f = (f < length sig.table) × (arity_at f ≡ a)
 

@@ -93,7 +93,7 @@ shared_same ks p None (Some s) ea eb w d e = absurd (omega (arith, nones_set ks 
 shared_same ks p (Some s) (Some u) ea eb w d e = ap (λ x. Some x) (same_sort s u d)
 shared_same ks p None None ea eb w d e = refl
 
--- where a round finds and changes nothing, both sides of each equation have one sort
+-- if a round finds and changes nothing, both sides of each equation have one sort
 pub sides_same : (ks : List (Option SortId)) (ps : List Pair) → AllByRecursion (IsWithin ks) ps → Clean (round_tests ks ps) → after_round ks ps ≡ ks → (p : Pair) → In p ps → sort_at ks p.left ≡ sort_at ks p.right
 sides_same ks [] w c e p i = absurd i
 sides_same ks (q ∷ ps) w c e p (inl is) =

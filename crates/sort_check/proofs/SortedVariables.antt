@@ -50,7 +50,7 @@ variables_after (f ∷ es) (o ∷ os) (suc i) e s lt n is k = ap (λ vs. variabl
 pub variables_next : (es : List Entry) (known : List (Option SortId)) (i : ℕ) (e : Entry) (s : SortId) (old new : List VarInfo) → i < length es → length known ≡ length es → e ≡ get_or es i e → sort_at known i ≡ Some s → old ≡ variables_of (take i es) (take i known) → new ≡ old ++ record { name = e.name; sort = s } ∷ [] → new ≡ variables_of (take (i + 1) es) (take (i + 1) known)
 variables_next es known i e s old new lt n is k made more = more ∙ ap (λ vs. vs ++ record { name = e.name; sort = s } ∷ []) made ∙ sym (variables_after es known i e s lt n is k) ∙ ap (λ m. variables_of (take m es) (take m known)) (plus_one i)
 
--- where each variable has a sort, none is found without one
+-- if each variable has a sort, none is found without one
 pub sorted_clean : (es : List Entry) (known : List (Option SortId)) → ((n : ℕ) → n < length es → (s : SortId) × (sort_at known n ≡ Some s)) → Clean (inferred_tests es known)
 sorted_clean [] known h = tt
 sorted_clean (e ∷ es) [] h = tt

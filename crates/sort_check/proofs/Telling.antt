@@ -7,7 +7,7 @@ use Rattle.sort_check.specs.declared.faults.SortFault.{SortFault}
 use Rattle.sort_check.specs.declared.faults.SortFault.TheVariants.{Sort, OutOfMemory}
 use Rattle.sort_check.specs.Answers.{Tells, Answers}
 
--- a fault of the first part, and of the second where the first finds nothing
+-- a fault of the first part, and of the second if the first finds nothing
 pub tells_first : (s t : Search SortFault) (e : SortFault) → Tells s e → Tells (then s t) e
 tells_first s t (Sort at kind) f = inl f
 tells_first s t OutOfMemory f = tt
@@ -19,7 +19,7 @@ tells_then s t OutOfMemory c f = tt
 pub answer_err : {T : Type 0} (s : Search SortFault) (P : T → Type 0) (r : Result T SortFault) (e : SortFault) → r ≡ Err e → Tells s e → Answers s P r
 answer_err s P r e q f = subst (λ x. Answers s P x) (sym q) f
 
--- a fault at one of a list, where nothing is found before
+-- a fault at one of a list, if nothing is found before
 module _ {A : Type 0} (f : A → Search SortFault) (xs : List A) (i : ℕ) where
   pub each_tells : (x : A) (e : SortFault) → i < length xs → x ≡ get_or xs i x → Clean (each f (take i xs)) → Tells (f x) e → Tells (each f xs) e
   each_tells x (Sort at kind) lt is c h = each_stops f xs i x (Sort at kind) lt is c h

@@ -42,7 +42,7 @@ module _ {A : Type 0} (tests : List Entry → A → Search SortFault) (after : L
   pub turn_tells : (es : List Entry) (xs : List A) (i : ℕ) (x : A) (e : SortFault) (fs : List Entry) → i < length xs → x ≡ get_or xs i x → fs ≡ left_by after es (take i xs) → Clean (in_turn tests after es (take i xs)) → Tells (tests fs x) e → Tells (in_turn tests after es xs) e
   turn_tells es xs i x e fs lt is q c h = turn_fault es xs i x e lt is c (subst (λ gs. Tells (tests gs x) e) q h)
 
-  -- two lists, one behind the other
+  -- two lists, one after the other
   pub left_both : (es : List Entry) (xs ys : List A) → left_by after es (xs ++ ys) ≡ left_by after (left_by after es xs) ys
   left_both es [] ys = refl
   left_both es (x ∷ xs) ys = left_both (after es x) xs ys

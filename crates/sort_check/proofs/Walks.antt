@@ -71,7 +71,7 @@ module _ (part : Part) (es fs : List Entry) (wrong : SortKind) (name : List ℕ)
       subst (λ o. Clean (variable_tests part es wrong at place o) × ((fs ≡ with_variable es name at place o) × (entry_named fs name ≡ Some n))) (sym k) (c, (made, found))
 
 module _ (sig : Sig) (part : Part) where
-  -- one more term behind the others
+  -- one more term after the others
   pub walk_more : (v0 v1 v2 : List Entry) (raws rs : List RawTree) (sorts ss : List SortId) (r : RawTree) (s : SortId) (t : Tree) (m0 m1 m2 : List Tree) (res : Result (Unit {0}) SortFault) → raws ≡ r ∷ rs → sorts ≡ s ∷ ss → Clean (term_tests sig part v0 WrongSort r (Some s)) × ((v1 ≡ entries_after sig v0 r (Some s)) × IsOver sig v1 r t) → m1 ≡ m0 ++ t ∷ [] → Answers (terms_tests sig part v1 (raw_trees rs) ss) (λ _. (v2 ≡ entries_after_all sig v1 (raw_trees rs) ss) × AreOverBehind sig v2 (raw_trees rs) m1 m2) res → Answers (terms_tests sig part v0 (raw_trees raws) sorts) (λ _. (v2 ≡ entries_after_all sig v0 (raw_trees raws) sorts) × AreOverBehind sig v2 (raw_trees raws) m0 m2) res
   walk_more v0 v1 v2 raws rs sorts ss r s t m0 m1 m2 res er es h em a =
       subst (λ xs. Answers (terms_tests sig part v0 (raw_trees xs) sorts) (λ _. (v2 ≡ entries_after_all sig v0 (raw_trees xs) sorts) × AreOverBehind sig v2 (raw_trees xs) m0 m2) res) (sym er) (subst (λ ys. Answers (terms_tests sig part v0 (raw_trees (r ∷ rs)) ys) (λ _. (v2 ≡ entries_after_all sig v0 (raw_trees (r ∷ rs)) ys) × AreOverBehind sig v2 (raw_trees (r ∷ rs)) m0 m2) res) (sym es) (by res a))

@@ -1,4 +1,4 @@
--- Where no test of an order line finds a fault, its weights are weights: each one is 1 to 1000.
+-- If no test of an order line finds a fault, its weights are weights: each one is 1 to 1000.
 use Rattle.std.proofs.Common.{ℕ, ◌≤◌, ◌<◌, ◌⊎◌, inl, inr, Bool, true, false, List, [], ◌∷◌, ◌++◌, arith}
 use Rattle.std.specs.Prelude.{◌==◌, if◌then◌else◌, map}
 use Rattle.std.specs.List.{AllByRecursion}

@@ -9,7 +9,7 @@ abbrev pub Tells : Search SortFault → SortFault → Type 0
 Tells s (Sort at kind) = First s (Sort at kind)
 Tells s OutOfMemory = Unit {0}
 
--- nothing is found and this holds of what is made, or the first fault is told
+-- nothing is found and this holds of what is made, or the first fault is reported
 abbrev pub Answers : {T : Type 0} → Search SortFault → (T → Type 0) → Result T SortFault → Type 0
 Answers s P (Ok x) = Clean s × P x
 Answers s P (Err e) = Tells s e

@@ -56,7 +56,7 @@ small_tests sig n [] = nothing
 small_tests sig n (s ∷ ss) = then (test (Sort s.head.at NoSmallValue)
     (¬ (HasSmallValue sig (sort_of_number n)))) (small_tests sig (suc n) ss)
 
--- The signature that declarations give. Where a sort isn't declared its number is that of `Bool`, which matters nowhere,
+-- The signature that declarations give. If a sort isn't declared its number is that of `Bool`, which matters nowhere,
 -- since the test of its name finds it.
 module _ (sorts : List (List ℕ)) where
   abbrev pub sort_number : RawName → SortId

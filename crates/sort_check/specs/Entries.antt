@@ -12,7 +12,7 @@ entry_named es name = position (λ (e : Entry). bytes_eq name e.name) es
 abbrev pub entry_names : List Entry → List (List ℕ)
 entry_names es = map (λ (e : Entry). e.name) es
 
--- the sorts of the variables, where they have one
+-- the sorts of the variables, if they have one
 abbrev pub known_sorts : List Entry → List (Option SortId)
 known_sorts es = map (λ (e : Entry). e.sort) es
 
@@ -32,7 +32,7 @@ Differ None o = ⊥
 abbrev pub entry_at : List Entry → ℕ → Entry
 entry_at es n = slice_index_or es n (record { name = []; at = 0; sort = None })
 
--- a variable at a place of a sort takes it where it has none so far; a place may have none to give
+-- a variable at a place of a sort takes it if it has none so far; a place may have none to give
 abbrev pub given : List Entry → ℕ → Option SortId → Option SortId → List Entry
 given es n place (Some s) = es
 given es n None None = es

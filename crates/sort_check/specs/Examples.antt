@@ -22,7 +22,7 @@ use Rattle.sort_check.specs.StandsFor.{StandsFor}
 use Rattle.sort_check.specs.FirstFault.{HasFirstFault, HasNoFault}
 use Rattle.sort_check.specs.declared.faults.SortKind.TheVariants.{UnknownName, RepeatedName, WrongNumberOfArguments, NotOnTheLeft, SortNotInferred, NotAFunction, EqualTwice, StatusTwice, NoOrderOfArguments, EqualOrStatusWithKbo, WrongWeight}
 
--- a name at a place, 0 where the place doesn't matter
+-- a name at a place, 0 if the place doesn't matter
 abbrev pub name_at : List ℕ → ℕ → RawName
 name_at name at = record { name = name; at = at }
 
@@ -109,7 +109,7 @@ loose_rule = plus_zero_gives (x_at 5)
 abbrev pub free_goal : RawGoal
 free_goal = concludes (codes "free") [] (record { left = x_at 3; right = y_at 4 })
 
--- naturals with that rule, and behind it a sort that is named Nat once more
+-- naturals with that rule, and after it a sort that is named Nat once more
 abbrev pub nat_twice : RawSpec
 nat_twice =
     let again : RawSort = record { head = name_at (codes "Nat") 9; constructors = [] } in
@@ -189,7 +189,7 @@ pub record WorkedExamples : Type 0 where
   pub loose : HasFirstFault (naturals_with (loose_rule ∷ []) []) 5 NotOnTheLeft
   -- nothing gives a sort to the variables of x = y, of which x comes first
   pub free : HasFirstFault (naturals_with [] (free_goal ∷ [])) 3 SortNotInferred
-  -- a repeated sort comes before the fault of a rule, although it stands later in the text
+  -- a repeated sort comes before the fault of a rule, although it comes later in the text
   pub repeated : HasFirstFault nat_twice 9 RepeatedName
   -- by equal times, plus both have the number of times as their level, and double has its own
   pub levels : map (level_in (sig_of ordered_naturals) ordered_naturals.equals) (4 ∷ 5 ∷ 6 ∷ [])
@@ -209,7 +209,7 @@ pub record WorkedExamples : Type 0 where
   -- equal plus, plus
   pub same_line : HasFirstFault (ordered_with (equal (plus_at 0 ∷ plus_at 5 ∷ []) ∷ []) [] [])
       5 EqualTwice
-  -- equal double, half and equal plus, half: half stands in the first line, and it has not as many arguments as plus
+  -- equal double, half and equal plus, half: half is in the first line, and it has not as many arguments as plus
   pub other_line : HasFirstFault
       (ordered_with (equal (double_at 0 ∷ half_at 0 ∷ []) ∷ equal (plus_at 0 ∷ half_at 5 ∷ []) ∷ [])
       [] [])

@@ -37,7 +37,7 @@ inferred_tests (e ∷ es) [] = nothing
 inferred_tests (e ∷ es) (o ∷ os) =
     then (test (Sort e.at SortNotInferred) (o ≡ None)) (inferred_tests es os)
 
--- where both sides have sorts of their own, the right one has to have the left one's
+-- if both sides have sorts of their own, the right one has to have the left one's
 abbrev pub wanted : Option SortId → Option SortId → Option SortId
 wanted (Some s) (Some u) = Some s
 wanted (Some s) None = None
@@ -173,7 +173,7 @@ module _ (sig : Sig) where
   abbrev pub equations_tests : List Entry → List RawEq → Search SortFault
   equations_tests es eqs = then (all_sides_tests es eqs) (sorts_tests (after_all_sides es eqs) eqs)
 
-  -- a goal behind its name
+  -- a goal after its name
   abbrev pub clause_tests : RawGoal → Search SortFault
   clause_tests g = then (binds_tests g.binds) (equations_tests (map bound g.binds) (equations_of g))
 

@@ -25,11 +25,11 @@ module _ (sig : Sig) where
   HasResult (word name at args) s = (i : SymInfo) × IsSymbol name i × (i.result ≡ s)
 
   abbrev mutual
-    -- in the term the variable stands as an argument, at a place of this sort
+    -- in the term the variable occurs as an argument, at a place of this sort
     pub IsTaken : List ℕ → SortId → RawTree → Type 0
     IsTaken x s (word name at args) = (i : SymInfo) × IsSymbol name i × IsAnyTaken x s args i.args
 
-    -- it is one of these terms at places of these sorts, at one of this sort, or stands so in one of them
+    -- it is one of these terms at places of these sorts, at one of this sort, or occurs so in one of them
     pub IsAnyTaken : List ℕ → SortId → RawTrees → List SortId → Type 0
     IsAnyTaken x s (more_raws t ts) (u ∷ us) =
         (IsBareVariable x t × (u ≡ s)) ⊎ (IsTaken x s t ⊎ IsAnyTaken x s ts us)

@@ -26,7 +26,7 @@ pub record FaultyStandsForNone : Type 0 where
   pub term : (sig : Sig) (raw : RawTree) (at : ℕ) (kind : SortKind)
       → TermHasFirstFault sig raw at kind → (t : Tree) → ¬ (TermStandsFor sig raw t)
 
--- a raw specification has one first fault at most, and none where no test finds one
+-- a raw specification has one first fault at most, and none if no test finds one
 pub record OneFirstFault : Type 0 where
   pub one : (raw : RawSpec) (at other : ℕ) (kind another : SortKind) → HasFirstFault raw at kind
       → HasFirstFault raw other another → (at ≡ other) × (kind ≡ another)
@@ -38,7 +38,7 @@ abbrev pub KeepsSizes : Type 0
 KeepsSizes = (sig : Sig) (names : List (List ℕ)) (raw : RawTree) (t : Tree)
     → TermStands sig names raw t → tree_size t ≡ words raw
 
--- where no raw term has more than n words, no term of a rule has more than n symbols and variables
+-- if no raw term has more than n words, no term of a rule has more than n symbols and variables
 abbrev pub NumberingKeepsSizes : Type 0
 NumberingKeepsSizes = (n : ℕ) (raw : RawSpec) (spec : Spec) → HasFewWords n raw
     → IsNumbered raw spec → RulesAreWithin n spec

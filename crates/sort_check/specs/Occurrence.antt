@@ -10,13 +10,13 @@ abbrev pub with_name : List (List ℕ) → List ℕ → Option ℕ → List (Lis
 with_name seen name (Some n) = seen
 with_name seen name None = seen ++ name ∷ []
 
--- the names after a word: those after its terms where it is a symbol
+-- the names after a word: those after its terms if it is a symbol
 abbrev pub after_word : List (List ℕ) → List ℕ → List (List ℕ) → Option ℕ → List (List ℕ)
 after_word seen name after (Some f) = after
 after_word seen name after None = with_name seen name (position (bytes_eq name) seen)
 
 module _ (sig : Sig) where
-  -- the names after a term, each word that is no symbol behind those before it
+  -- the names after a term, each word that is no symbol after those before it
   abbrev mutual
     pub names_after : List (List ℕ) → RawTree → List (List ℕ)
     names_after seen (word name at raws) =

@@ -44,7 +44,7 @@ module _ (sig : Sig) where
       (then (test (Sort n.at NotAFunction) (IsConstructor sig (symbol_number sig n)))
       (test (Sort n.at twice) (IsTrue (is_among (symbol_number sig n) seen))))
 
-  -- another number of arguments than the first of a line, where there is one
+  -- another number of arguments than the first of a line, if there is one
   abbrev pub IsUnlikeFirst : List RawName → RawName → Type 0
   IsUnlikeFirst [] n = ⊥
   IsUnlikeFirst (first ∷ others) n = arity n ≢ arity first
@@ -79,7 +79,7 @@ module _ (sig : Sig) where
       (IsTrue (is_among (symbol_number sig w.name) (symbol_numbers sig (weighed_names before)))))
       (test (Sort w.name.at WrongWeight) (¬ ((1 ≤ w.weight) × (w.weight ≤ 1000)))))
 
-  -- an order line, where the lines for the path ordering are these
+  -- an order line, if the lines for the path ordering are these
   abbrev pub line_tests : List RawEqual → List RawStatus → RawOrder → Search SortFault
   line_tests equals statuses line =
       then (test (Sort line.name.at UnknownName) (line.name.name ≢ codes "kbo"))

@@ -23,7 +23,7 @@ greatest [] = 0
 greatest (n ∷ ns) = max n (greatest ns)
 
 module _ (sig : Sig) where
-  -- the number of the symbol with this name; where there is none, one past those of all symbols
+  -- the number of the symbol with this name; if there is none, one past those of all symbols
   abbrev pub symbol_number : RawName → ℕ
   symbol_number n = unwrap_or (position (bytes_eq n.name) (names_of sig)) (length sig.table)
 
@@ -53,7 +53,7 @@ module _ (sig : Sig) where
   abbrev pub all_numbers : List ℕ
   all_numbers = range_with_len 0 (length sig.table)
 
--- each symbol has its level and its status where there is no order line, and else its weight
+-- each symbol has its level and its status if there is no order line, and else its weight
 abbrev pub OrderStands : RawSpec → Sig → OrderInfo → Type 0
 OrderStands raw sig (Path levels statuses) =
     (raw.order ≡ None)

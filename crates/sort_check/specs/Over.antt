@@ -28,7 +28,7 @@ module _ (sig : Sig) (es : List Entry) where
     AreOver no_raws (some t ts) = ⊥
     AreOver (more_raws r rs) none = ⊥
 
-  -- the terms are put behind others
+  -- the terms are put after others
   abbrev pub AreOverBehind : RawTrees → List Tree → List Tree → Type 0
   AreOverBehind raws old new = (ts : List Tree) × (new ≡ old ++ ts) × AreOver raws (trees_of ts)
 

@@ -42,7 +42,7 @@ AreCounts sig rules counts = (name : List ℕ) (f : ℕ) → symbol_named sig na
     → slice_index counts f ≡ rules_of name rules
 
 module _ (sig : Sig) where
-  -- the tests of a left side's root, where a function may have so many rules, and so many of each stand before
+  -- the tests of a left side's root, if a function may have this many rules, and this many of each come before
   abbrev pub counted_tests : ℕ → List ℕ → RawTree → Search SortFault
   counted_tests most counts (word name at args) =
       root_tests sig most at (words (word name at args)) (counted counts (symbol_named sig name)) args

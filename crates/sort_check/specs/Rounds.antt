@@ -9,7 +9,7 @@ use Rattle.sort_check.specs.declared.faults.SortFault.{SortFault}
 use Rattle.sort_check.specs.declared.faults.SortFault.TheVariants.{Sort}
 use Rattle.sort_check.specs.declared.faults.SortKind.TheVariants.{WrongSort}
 
--- an equation gives the sort of one side to the other where that has none
+-- an equation gives the sort of one side to the other if that has none
 abbrev pub shared : List (Option SortId) → Pair → Option SortId → Option SortId
     → List (Option SortId)
 shared known p (Some s) None = slice_set known p.right (Some s)
@@ -31,7 +31,7 @@ abbrev pub after_round : List (Option SortId) → List Pair → List (Option Sor
 after_round known [] = known
 after_round known (p ∷ ps) = after_round (after_pair known p) ps
 
--- so many rounds: after one that changes nothing, no further one finds or changes anything
+-- this many rounds: after one that changes nothing, no further one finds or changes anything
 abbrev pub rounds_tests : ℕ → List (Option SortId) → List Pair → Search SortFault
 rounds_tests zero known ps = nothing
 rounds_tests (suc n) known ps = then (round_tests known ps)

@@ -39,9 +39,9 @@ module _ (sig : Sig) where
       (body_tests (entries_after_all sig [] args (info_at sig f).args) rule (info_at sig f).result)
   inner_tests args rule None = nothing
 
-  -- where a function may have so many rules
+  -- if a function may have this many rules
   module _ (most : ℕ) where
-    -- the root of a left side of so many words, where so many rules before are of this function
+    -- the root of a left side of this many words, if this many rules before are of this function
     abbrev pub root_tests : ℕ → ℕ → ℕ → RawTrees → Option ℕ → Search SortFault
     root_tests at size before args (Some f) =
         then (test (Sort at NoFunction) (IsConstructor sig f))

@@ -20,7 +20,7 @@ module _ (sorts : List (List ℕ)) where
   abbrev pub SortStands : RawName → SortId → Type 0
   SortStands raw s = slice_get sorts s.0 ≡ Some raw.name
 
-  -- a constructor of the sort of this number
+  -- a constructor of the sort with this number
   abbrev pub ConstructorStands : ℕ → RawNames → List ℕ × SymInfo → Type 0
   ConstructorStands sort raw e =
       (e.0 ≡ raw.name) × AllZip SortStands raw.args e.1.args × (e.1.result.0 ≡ sort)

@@ -20,7 +20,7 @@ abbrev pub count : RawTrees → ℕ
 count no_raws = 0
 count (more_raws t ts) = 1 + count ts
 
--- a word that is a variable of this number, or none so far; `wrong` is the kind of another sort than its place's
+-- a word that is a variable with this number, or none so far; `wrong` is the kind of another sort than its place's
 abbrev pub variable_tests : Part → List Entry → SortKind → ℕ → Option SortId → Option ℕ
     → Search SortFault
 variable_tests part es wrong at place (Some n) =
@@ -30,7 +30,7 @@ variable_tests Goal es wrong at place None = test (Sort at TooManyVariables) (16
 variable_tests Right es wrong at place None = test (Sort at NotOnTheLeft) (Unit {0})
 variable_tests Ground es wrong at place None = test (Sort at UnknownName) (Unit {0})
 
--- a word that is no symbol: a variable where it stands alone
+-- a word that is no symbol: a variable if it stands alone
 abbrev pub other_tests : Part → List Entry → SortKind → List ℕ → ℕ → RawTrees → Option SortId
     → Search SortFault
 other_tests part es wrong name at no_raws place =
@@ -44,7 +44,7 @@ module _ (sig : Sig) where
   abbrev pub info_at : ℕ → SymInfo
   info_at f = unwrap_or (info_of sig f) bool_symbol
 
-  -- the variables after a word: those after its arguments where it is a symbol
+  -- the variables after a word: those after its arguments if it is a symbol
   abbrev pub after_word : List Entry → List ℕ → ℕ → Option SortId → (ℕ → List Entry) → Option ℕ
       → List Entry
   after_word es name at place after (Some f) = after f
@@ -75,7 +75,7 @@ module _ (sig : Sig) where
   place_test wrong at f None = nothing
   place_test wrong at f (Some s) = test (Sort at wrong) ((info_at f).result ≢ s)
 
-  -- a symbol before so many arguments
+  -- a symbol before this many arguments
   abbrev pub symbol_tests : Part → SortKind → ℕ → ℕ → ℕ → Option SortId → Search SortFault
   symbol_tests part wrong at f n place =
       then (pattern_test part at f) (then

@@ -69,7 +69,7 @@ impl<'a> Walk<'a> {
         Ok(made)
     }
 
-    /// The sides of an equation, of which the right one has to have the left one's sort where
+    /// The sides of an equation, of which the right one has to have the left one's sort if
     /// neither is a variable.
     fn sides(&self, entries: &mut Vec<Entry>, raw: &RawEq) -> Result<Equation, SortFault>
         requires part { self.now.part ≡ Goal }
@@ -190,7 +190,7 @@ impl<'a> Walk<'a> {
     }
 }
 
-/// The equation where it is one of two variables, by their numbers.
+/// The equation if it is one of two variables, by their numbers.
 fn pair_of(sig: &Signature, entries: &[Entry], raw: &RawEq) -> Option<Pair>
     ensures { result
         ≡ pair_of_sides sig.now entries.now raw.now (sort_of_side sig.now raw.now.left)

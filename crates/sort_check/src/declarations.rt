@@ -95,7 +95,7 @@ fn add_all_constructors(
     Ok(made)
 }
 
-/// Adds the constructors of a sort behind those made.
+/// Adds the constructors of a sort after those made.
 fn add_constructors(
     alloc: Global,
     sorts: &[Name],
@@ -156,7 +156,7 @@ fn sort_named(sorts: &[Name], raw: &RawName) -> Result<SortId, SortFault>
     }
 }
 
-/// The functions, behind the symbols whose names are taken.
+/// The functions, after the symbols whose names are taken.
 fn add_functions(
     alloc: Global,
     sorts: &[Name],

@@ -27,7 +27,7 @@ use term_core::Term;
 
 /// The specification that a raw one stands for, or the first of its faults: declarations come
 /// before the lines that give an order, these before rules, and rules before goals. It is well
-/// sorted where the raw one keeps the limits of the grammar, as each one that a text derives does.
+/// sorted if the raw one keeps the limits of the grammar, as each one that a text derives does.
 /// A symbol of more than 255 arguments is answered as want of memory.
 pub fn elaborate(alloc: Global, raw: &RawSpec) -> Result<Spec, SortFault>
     requires few { HasFewDeclarations raw.now }

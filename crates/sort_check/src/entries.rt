@@ -3,7 +3,7 @@ ghost use Rattle.sort_check.specs.Entries.{entry_named};
 
 use term_core::{Name, OutOfMemory, SortId};
 
-/// A variable as far as it is known: its name, the place of its first word, and its sort where
+/// A variable as far as it is known: its name, the place of its first word, and its sort if
 /// something gave it one.
 #[derive(Drop)]
 pub(crate) struct Entry {
@@ -29,7 +29,7 @@ pub(crate) fn place_of(entries: &[Entry], name: &[u8]) -> Option<usize>
         .position(|entry| name == entry.name.as_bytes())
 }
 
-/// Adds a variable behind the others.
+/// Adds a variable after the others.
 pub(crate) fn add(entries: &mut Vec<Entry>, entry: Entry) -> Result<(), OutOfMemory>
     ensures { OnOk result (entries.new.items ≡ entries.old.items ++ entry ∷ []) }
 {

@@ -32,7 +32,7 @@ pub enum SortKind {
     TooManyRules,
     /// A constructor in an equal or status line.
     NotAFunction,
-    /// A function that stands earlier in an equal line.
+    /// A function that comes earlier in an equal line.
     EqualTwice,
     /// A function with an earlier status line.
     StatusTwice,

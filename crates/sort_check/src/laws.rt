@@ -11,7 +11,7 @@ pub fn faulty_stands_for_none()
     ensures { FaultyStandsForNone }
 {}
 
-/// A raw specification has at most one first fault, and none where no test finds one.
+/// A raw specification has at most one first fault, and none if no test finds one.
 pub fn one_first_fault()
     ensures { OneFirstFault }
 {}

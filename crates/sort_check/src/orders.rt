@@ -19,7 +19,7 @@ use spec_grammar::{RawEqual, RawName, RawSpec, RawStatus};
 use std::alloc::Global;
 use term_core::{OutOfMemory, Seq, SymId};
 
-/// The order that the lines give: the order by number where there are none.
+/// The order that the lines give: the order by number if there are none.
 pub(crate) fn order_of(
     alloc: Global,
     sig: &Signature,
@@ -195,7 +195,7 @@ fn greatest(functions: &[SymId]) -> u32
     level
 }
 
-/// The numbers of a status line, which order so many arguments. A number that 8 bits don't hold
+/// The numbers of a status line, which order this many arguments. A number that 8 bits don't hold
 /// is answered as want of memory.
 fn status_of(alloc: Global, raw: &RawStatus, arity: usize) -> Result<Seq<u8>, SortFault>
     ensures { Answers (test (Sort raw.now.head.at no_order_of_arguments)

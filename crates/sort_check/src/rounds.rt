@@ -24,7 +24,7 @@ pub(crate) fn infer(known: &mut [Option<SortId>], pairs: &[Pair]) -> Result<(), 
     run_rounds(known, pairs, count)
 }
 
-/// So many rounds, or fewer where one changes nothing.
+/// This many rounds, or fewer if one changes nothing.
 fn run_rounds(known: &mut [Option<SortId>], pairs: &[Pair], count: usize) -> Result<(), SortFault>
     requires { AllByRecursion (IsWithin known.old) pairs.now }
     ensures { Answers (rounds_tests count known.old pairs.now)

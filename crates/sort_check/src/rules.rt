@@ -50,7 +50,7 @@ fn no_counts(alloc: Global, sig: &Signature) -> Result<Vec<u32>, OutOfMemory>
     Ok(counts)
 }
 
-/// The function at the root of a left side, where so many rules of each symbol stand before, fewer
+/// The function at the root of a left side, if this many rules of each symbol come before, fewer
 /// than `most` of this one.
 fn root(sig: &Signature, most: u32, counts: &[u32], raw: &RawTerm) -> Result<SymId, SortFault>
     requires { length counts.now ≡ length sig.now.table }
@@ -81,7 +81,7 @@ fn root(sig: &Signature, most: u32, counts: &[u32], raw: &RawTerm) -> Result<Sym
     Ok(sym)
 }
 
-/// The number of words, or `cap` where that is less.
+/// The number of words, or `cap` if that is less.
 #[cycle(size)]
 fn size(raw: &RawTerm, cap: u32) -> u32
     ensures { result ≡ min (words raw.now) cap }

@@ -63,7 +63,7 @@ impl<'a> Walk<'a> {
         }
     }
 
-    /// The terms that raw ones stand for, at places of these sorts, behind those that are made.
+    /// The terms that raw ones stand for, at places of these sorts, after those that are made.
     #[cycle(walk)]
     pub(crate) fn terms(
         &self,
@@ -124,7 +124,7 @@ impl<'a> Walk<'a> {
         }
     }
 
-    /// Tests a variable that is known, and gives it the sort of its place where it has none.
+    /// Tests a variable that is known, and gives it the sort of its place if it has none.
     fn known_variable(
         &self,
         entries: &mut Vec<Entry>,
@@ -150,7 +150,7 @@ impl<'a> Walk<'a> {
         }
     }
 
-    /// Adds a variable where the part may have new ones.
+    /// Adds a variable if the part may have new ones.
     fn new_variable(
         &self,
         entries: &mut Vec<Entry>,
@@ -181,7 +181,7 @@ impl<'a> Walk<'a> {
         }
     }
 
-    /// Tests a symbol before so many arguments.
+    /// Tests a symbol before this many arguments.
     fn check_symbol(
         &self,
         wrong: SortKind,

@@ -34,7 +34,7 @@ pub(crate) fn weights_of(
     weights_in(alloc, sig, line.weights.as_slice())
 }
 
-/// The weight of each symbol: 1 where none of these is its own.
+/// The weight of each symbol: 1 if none of these is its own.
 fn weights_in(alloc: Global, sig: &Signature, raws: &[RawWeight]) -> Result<Seq<u32>, SortFault>
     ensures { Answers (each_after (weight_tests sig.now) [] raws.now)
         (λ weights. weights ≡ map (weight_in sig.now raws.now) (all_numbers sig.now)) result }

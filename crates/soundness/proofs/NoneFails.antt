@@ -1,4 +1,4 @@
--- No node of a block has a failing instance, where each goes on to a child or a reference that is allowed.
+-- No node of a block has a failing instance, if each goes on to a child or a reference that is allowed.
 use Rattle.std.proofs.Common.{◌≡◌, ◌⊎◌, ℕ, zero, suc, ◌+◌, ◌≤◌, ◌<◌, List, Some, inl, inr, subst, arith, length}
 use Rattle.std.specs.Prelude.{slice_get, IsPermutation}
 use Rattle.std.proofs.lemmas.List.Sorted.{IsPermutation-refl, IsPermutation-trans}

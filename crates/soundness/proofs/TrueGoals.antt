@@ -1,4 +1,4 @@
--- Goals without failing instances are true, where each term has a value; and goals whose verdict is Fails do fail.
+-- Goals without failing instances are true, if each term has a value; and goals whose verdict is Fails do fail.
 use Rattle.std.proofs.Common.{◌≡◌, ◌⊎◌, ℕ, List, [], ◌∷◌, inl, inr, sym, subst}
 use Rattle.std.specs.List.{AllByRecursion}
 use Rattle.term_core.specs.Tree.{Tree, var, instance}

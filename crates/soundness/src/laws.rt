@@ -3,7 +3,7 @@ ghost use Rattle.soundness.specs.Examples.{WorkedExamples};
 
 use term_order::TermOrder;
 
-/// Where a well sorted specification is admitted and a report accepted by the same order, each
+/// If a well sorted specification is admitted and a report accepted by the same order, each
 /// proved claim is on a true goal, and each refuted one on a goal that fails under its values.
 pub fn accepted_are_true<O: TermOrder>(order: &O)
     ensures { AcceptedAreTrue (O.above order.now) }

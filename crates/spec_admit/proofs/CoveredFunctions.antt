@@ -52,7 +52,7 @@ module _ (spec : Spec) where
       by (inl l) = before f above l
       by (inr e) = subst (λ g. FunctionIsCovered spec g) (sym e) here
 
-  -- a signature's functions are covered where those from the first number on are
+  -- a signature's functions are covered if those from the first number on are
   pub covering : ((f : ℕ) → spec.sig.constructors ≤ f → f < length spec.sig.table → FunctionIsCovered spec f) → IsCovering spec
   covering h f i vs at function sorted built = by (below_or_not f spec.sig.constructors)
     where

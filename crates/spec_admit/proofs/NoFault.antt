@@ -27,7 +27,7 @@ module _ (above : Tree → Tree → Type 0) where
 pub guards_clean : (spec : Spec) → GroupsAreWhole spec → Clean (all_guards_tests spec)
 guards_clean spec w = after_clean (guards_test spec) [] spec.rules (λ k rule before at. λ n. n (w k rule at))
 
--- where some left side isn't linear
+-- if some left side isn't linear
 pub as_linearity : (spec : Spec) (number : ℕ) (name : List ℕ) → (t : IsRepeated spec number name) → IsLinearity spec (Repeated number (record { 0 = t.var }))
 as_linearity spec number name t = (t.place, t.counts, t.first)
 

@@ -1,4 +1,4 @@
--- Searches of each element: where no test finds something, and where one is the first that does.
+-- Searches of each element: no test finds something, or one is the first that does.
 use Rattle.std.proofs.Common.{◌≡◌, ℕ, zero, suc, ◌+◌, ◌<◌, ◌≤◌, List, [], ◌∷◌, ◌++◌, Some, None, inl, inr, refl, subst, arith, length, length-append}
 use Rattle.std.specs.Prelude.{slice_get}
 use Rattle.std.specs.List.{range_with_len}

@@ -48,7 +48,7 @@ pub record WorkedExamples : Type 0 where
   pub order : Tells AboveInSums growing (Order 1 0)
   -- (zero, zero) match plus(zero, y) and plus(x, zero)
   pub overlap : Tells AboveInSums two_zeros (Overlap 1 2 (zero_term ∷ zero_term ∷ []))
-  -- nothing is said where the test isn't true
+  -- nothing is said if the test isn't true
   pub guards : Tells AboveInSums half (Guards 1)
-  -- where there is no rule for zero, (zero, zero) is named as missing for plus, whose number is 4
+  -- if there is no rule for zero, (zero, zero) is named as missing for plus, whose number is 4
   pub coverage : Tells AboveInSums without_zero (Coverage (record { 0 = 4 }) (zero_term ∷ zero_term ∷ []))

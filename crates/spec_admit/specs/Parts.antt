@@ -10,7 +10,7 @@ use Rattle.coverage_check.specs.LeftSides.{rows_of}
 use Rattle.coverage_check.specs.Named.{IsNamed}
 use Rattle.spec_admit.specs.Tests.{order_tests, FunctionIsCovered}
 
--- the first part of the rule that the left side isn't above, whatever rules stand before it
+-- the first part of the rule that the left side isn't above, whatever rules come before it
 abbrev pub IsUnorderedPart : (Tree → Tree → Type 0) → Rule → ℕ → Type 0
 IsUnorderedPart above rule part =
     (before : List Rule) → First (order_tests above before rule) (suc (length before), part)

@@ -12,7 +12,7 @@ use Rattle.spec_core.specs.Covering.{IsMatched}
 use Rattle.spec_core.specs.Findings.{Search, test, then, each, each_after}
 use Rattle.clause_core.specs.Admitted.{GuardIsOrdered}
 
--- a rule, where these stand before it: the right side, which is part 0, and then the guards, which
+-- a rule, if these come before it: the right side, which is part 0, and then the guards, which
 -- count from 1
 abbrev pub order_tests : (Tree → Tree → Type 0) → List Rule → Rule → Search (ℕ × ℕ)
 order_tests above before rule =
@@ -34,7 +34,7 @@ FunctionIsCovered spec f =
     info_of spec.sig f ≡ Some i → SortedAll spec.sig [] vs i.args → AreBuilt spec.sig vs →
     IsMatched spec f vs
 
--- the numbers of the functions, which stand behind the constructors
+-- the numbers of the functions, which come after the constructors
 abbrev pub functions_of : Sig → List ℕ
 functions_of sig = range_with_len sig.constructors (length sig.table - sig.constructors)
 

@@ -31,7 +31,7 @@ pub(crate) fn uncovered_function(
     Ok(None)
 }
 
-/// The values that are named for the function, where some match no left side of it.
+/// The values that are named for the function, if some match no left side of it.
 fn missing_values(alloc: Global, spec: &Spec, fun: SymId) -> Result<Option<Terms>, OutOfMemory>
     requires fine { IsWellSorted spec.now }
     requires linear { LeftSidesAreLinear spec.now }

@@ -14,7 +14,7 @@ pub enum AdmitFault {
         rule: u32,
         name: Name,
     },
-    /// The left side isn't above the right side, for part 0, or above the guard of this number or
+    /// The left side isn't above the right side, for part 0, or above the guard with this number or
     /// the Boolean that it wants.
     Order {
         rule: u32,

@@ -56,7 +56,7 @@ fn unordered_part<O: TermOrder>(
 }
 
 /// The number of the guard at this place. One that passes 32 bits is answered as want of memory:
-/// so many guards take hundreds of gigabytes.
+/// this many guards take hundreds of gigabytes.
 fn guard_number(place: usize) -> Result<u32, OutOfMemory>
     ensures { IfOk result (λ number. number ≡ place + 1) }
 {

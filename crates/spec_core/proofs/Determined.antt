@@ -1,4 +1,4 @@
--- A sorted term has at most one value and cost, where left sides don't overlap and groups are whole.
+-- A sorted term has at most one value and cost, if left sides don't overlap and groups are whole.
 use Rattle.std.proofs.Common.{◌≡◌, ℕ, ◌+◌, ◌<◌, List, [], ◌∷◌, Bool, true, false, Some, inl, inr, refl, ap, sym, ◌∙◌, subst, arith}
 use Rattle.std.specs.Prelude.{slice_get, length}
 use Rattle.std.specs.List.{AllByRecursion}

@@ -4,7 +4,7 @@ use Rattle.std.proofs.lemmas.List.{append-nil, take_all}
 use Rattle.spec_core.specs.Findings.{Search, nothing, test, then, Clean, First, each, each_after}
 use Rattle.term_core.proofs.Items.{parted_at, taken_next}
 
--- where nothing is found there is no first finding
+-- if nothing is found there is no first finding
 pub not_both : {F : Type 0} (s : Search F) (f : F) → Clean s → First s f → ⊥
 not_both nothing f c h = h
 not_both (test fault Found) f c h = c h.0

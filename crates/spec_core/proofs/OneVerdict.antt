@@ -1,4 +1,4 @@
--- A goal has at most one verdict, where left sides don't overlap and groups are whole.
+-- A goal has at most one verdict, if left sides don't overlap and groups are whole.
 use Rattle.std.proofs.Common.{◌≡◌, ℕ, List, [], ◌∷◌, inl, inr, sym, ◌∙◌}
 use Rattle.term_core.specs.Tree.{Tree, instance}
 use Rattle.term_core.specs.declared.ids.SortId.{SortId}

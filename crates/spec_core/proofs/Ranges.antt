@@ -16,7 +16,7 @@ at n (x ∷ xs) zero i a e =
     subst (λ j. IsBelow n ([], j)) k a.0
 at n (x ∷ xs) (suc f) i a e = at n xs f i a.1 e
 
--- where the sorts of the declarations are in range, so are those of the signature that they make
+-- if the sorts of the declarations are in range, so are those of the signature that they make
 pub declared_in_range : (sorts : List (List ℕ)) (cs fs : List (List ℕ × SymInfo)) → AllByRecursion (IsBelow (1 + length sorts)) cs → AllByRecursion (IsBelow (1 + length sorts)) fs → SortsAreInRange (declared_by sorts cs fs)
 declared_in_range sorts cs fs c d f i e =
     let n = 1 + length sorts in

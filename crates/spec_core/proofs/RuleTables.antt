@@ -93,7 +93,7 @@ rule_has_place f rs k rule at h =
     let z : 0 + k ≡ k = omega arith in
     (i.0, i.1 ∙ ap (λ m. Some m) z)
 
--- of two numbers the less stands first
+-- of two numbers the less comes first
 pub ascending : (f n : ℕ) (rs : List Rule) (i j a b : ℕ) → slice_get (numbers_of f n rs) i ≡ Some a → slice_get (numbers_of f n rs) j ≡ Some b → a < b → i < j
 ascending f n [] i j a b at other less = absurd (let q : None ≡ Some a = at in cc)
 ascending f n (r ∷ rs) i j a b at other less = by (has_head f r.left) i j at other (λ i j p q. ascending f (suc n) rs i j a b p q less)

@@ -48,7 +48,7 @@ module _ (sig : Sig) (least : List ℕ) where
       let over = (a.is_least s.0 l q).1 (app c made.0) v in
       (result, omega (arith, m.2, made.2, over, under))
 
-  -- and where none before it makes one, it is the first
+  -- and if none before it makes one, it is the first
   pub first_maker : AreLeast sig least → SortsAreInRange sig → (c : ℕ) (i : SymInfo) (s : SortId) → IsConstructor sig c → info_of sig c ≡ Some i → IsSort sig s → slice_index least s.0 ≤ 255 → i.result ≡ s → 1 + sum_of least i.args ≡ slice_index least s.0 → ((d : ℕ) → d < c → Makes sig d s (slice_index least s.0) → ⊥) → IsFirstMaker sig c s
   first_maker a w c i s b e l q result n before =
       let made = reach_made sig least (λ t h b. (a.is_least t h b).0) c i b e (w c i e).1 (omega arith) in

@@ -55,7 +55,7 @@ module _ (spec : Spec) (fine : IsWellSorted spec) where
       let back : instance values rule.left ≡ app f vs = is ∙ ap (λ us. app f us) r.0 in
       called number rule values all at bs back gs right (omega (arith, r.1))
 
-  -- the arguments are within the budget where the call is
+  -- the arguments are within the budget if the call is
   pub args_within : (f : ℕ) {ts : Trees} {v : Tree} {n : ℕ} → Gives spec (app f ts) v n → (ws : Trees) × (m : ℕ) × GivesAll spec ts ws m × (m ≤ n)
   args_within f (built {vs} {n} c all) = (vs, n, all, omega arith)
   args_within f (called {vs} {n} number rule values all at bs is gs right cost) = (vs, n, all, omega arith)
@@ -107,7 +107,7 @@ module _ (sig : Sig) where
       recursion_from_All (IsBuilt sig) xs (λ n d w. subst (λ t. IsBuilt sig t) (get_or_any xs n (var n) d w) (built_entries ps xs kept n (numbered_occur 0 (length xs) ps h n (omega arith) w)))
 
 module _ (spec : Spec) (fine : IsWellSorted spec) where
-  -- where no left side matches, the call has no value
+  -- if no left side matches, the call has no value
   pub no_match : (f : ℕ) (vs : Trees) → ¬ (IsConstructor spec.sig f) → AreBuilt spec.sig vs → ((k : ℕ) (rule : Rule) (xs : List Tree) → slice_get spec.rules k ≡ Some rule → instance xs rule.left ≡ app f vs → ⊥) → {v : Tree} {n : ℕ} → Gives spec (app f vs) v n → ⊥
   no_match f vs other b none_fits (built c others) = other c
   no_match f vs other b none_fits (called {vs = ws} number rule values all at bs is gs right cost) =

@@ -20,7 +20,7 @@ use Rattle.spec_core.specs.Naturals.{nat, naturals_sig, repeated_sig, endless_si
 use Rattle.spec_core.specs.Shapes.{shape, tree_sig, color_sig, wide_sig}
 
 pub record WorkedExamples : Type 0 where
-  -- succ(zero) is a value of the sort Nat, and plus(x, zero) has this sort where x has it
+  -- succ(zero) is a value of the sort Nat, and plus(x, zero) has this sort if x has it
   pub one_is_a_value : IsValue naturals_sig nat (succ_term zero_term)
   pub open_sum_is_sorted : Sorted naturals_sig (nat ∷ []) (plus_term (var 0) zero_term) nat
   pub zero_is_no_boolean : Sorted naturals_sig [] zero_term bool_sort → ⊥
@@ -30,7 +30,7 @@ pub record WorkedExamples : Type 0 where
   -- the declarations of naturals are in order, and those in which zero is also a function aren't
   pub declared : IsDeclared naturals_sig
   pub not_declared : IsDeclared repeated_sig → ⊥
-  -- Nat has a small value, and has none where succ is its one constructor
+  -- Nat has a small value, and has none if succ is its one constructor
   pub nat_has_a_small_value : HasSmallValue naturals_sig nat
   pub no_small_value : IsFirstWithout endless_sig nat
   -- nor has a sort of which each value has 256 symbols
@@ -49,7 +49,7 @@ pub record WorkedExamples : Type 0 where
   -- plus(x, y) = plus(x, x) is well sorted, and zero = true isn't
   pub same_goal_is_sorted : GoalIsSorted naturals_sig same_goal
   pub mixed_goal_is_not : GoalIsSorted naturals_sig mixed_goal → ⊥
-  -- naturals are well sorted as a whole, and aren't where a goal stands twice
+  -- naturals are well sorted as a whole, and aren't if a goal occurs twice
   pub well_sorted : IsWellSorted naturals
   pub not_well_sorted : IsWellSorted twice → ⊥
   -- plus(succ(zero), zero) gives succ(zero) by two uses of rules
@@ -84,7 +84,7 @@ pub record WorkedExamples : Type 0 where
       ≡ (zero_term ∷ zero_term ∷ []) ∷ (zero_term ∷ succ_term zero_term ∷ [])
       ∷ (succ_term zero_term ∷ zero_term ∷ []) ∷ (succ_term zero_term ∷ succ_term zero_term ∷ [])
       ∷ []
-  -- the text of plus(x, ?1) where only the variable 0 has a name
+  -- the text of plus(x, ?1) if only the variable 0 has a name
   pub text : term_text naturals_sig (codes "x" ∷ []) (plus_term (var 0) (succ_term (var 1)))
       ≡ codes "plus(x, succ(?1))"
   -- the text of the variable 10 without a name has both digits

@@ -32,7 +32,7 @@ module _ (sig : Sig) (least : List ℕ) where
   abbrev pub AreSettled : Type 0
   AreSettled = (c : ℕ) → c < sig.constructors → IsSettledAt c
 
-  -- each sort's number is its least size, or 256 where that is more than 255
+  -- each sort's number is its least size, or 256 if that is more than 255
   pub record AreLeast : Type 0 where
     pub long : length least ≡ length sig.sorts
     pub bounded : (s : ℕ) → slice_index least s ≤ 256

@@ -29,7 +29,7 @@ module _ (sig : Sig) where
   IsLeast s n = ((v : Tree) × IsValue sig s v × (tree_size v ≡ n))
       × ((v : Tree) → IsValue sig s v → n ≤ tree_size v)
 
-  -- some application of the constructor is a value of the sort with so many symbols
+  -- some application of the constructor is a value of the sort with this many symbols
   abbrev pub Makes : ℕ → SortId → ℕ → Type 0
   Makes c s n = (ts : Trees) × IsValue sig s (app c ts) × (tree_size (app c ts) ≡ n)
 

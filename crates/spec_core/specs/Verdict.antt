@@ -29,13 +29,13 @@ module _ (spec : Spec) (values : List Tree) (budget : ℕ) where
   abbrev pub SidesDiffer : Equation → Type 0
   SidesDiffer e = (v : Tree) × (w : Tree) × (v ≢ w) × SideGives e.left v × SideGives e.right w
 
-  -- the conclusions in order: the first that is spent or holds decides; where each is broken the goal fails
+  -- the conclusions in order: the first that is spent or holds decides; if each is broken the goal fails
   abbrev pub ConclusionsSay : List Equation → Verdict → Type 0
   ConclusionsSay [] r = r ≡ Fails
   ConclusionsSay (e ∷ es) r = (SidesSpent e × (r ≡ Spent))
       ⊎ ((SidesSame e × (r ≡ Holds)) ⊎ (SidesDiffer e × ConclusionsSay es r))
 
-  -- the premises in order: the first that is spent or broken decides; where each holds the conclusions do
+  -- the premises in order: the first that is spent or broken decides; if each holds the conclusions do
   abbrev pub PremisesSay : List Equation → List Equation → Verdict → Type 0
   PremisesSay [] cs r = ConclusionsSay cs r
   PremisesSay (e ∷ es) cs r = (SidesSpent e × (r ≡ Spent))

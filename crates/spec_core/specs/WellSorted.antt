@@ -40,7 +40,7 @@ abbrev pub IsShallow : Tree → Type 0
 IsShallow t = tree_depth t ≤ 100
 
 -- the left side is a function applied to constructor patterns; the right side has its sort and each test the sort Bool;
--- the variables are numbered by first occurrence on the left side, where each of them stands
+-- the variables are numbered by first occurrence on the left side, where each of them occurs
 pub record RuleIsSorted (sig : Sig) (rule : Rule) : Type 0 where
   pub left : IsLeft sig rule.left
   pub sides : (s : SortId) × Sorted sig (sorts_of rule.vars) rule.left s

@@ -63,7 +63,7 @@ impl Signature {
         ensures made { IfOk result (λ sig. sig ≡ declared_by sorts constructors functions) }
         ensures declared { IfOk result (λ sig. IsDeclared sig) }
 
-        // The errors: each comes only where its cause is there, and Ok only where neither is.
+        // The errors: each comes only if its cause is there, and Ok only if neither is.
         ensures distinct { OnOk result (AreDistinct sorts constructors functions) }
         ensures repeated { result ≡ Err BuildError.Repeated
             → AreDistinct sorts constructors functions → ⊥ }
@@ -81,7 +81,7 @@ impl Signature {
     }
 }
 
-/// The tables of these declarations with those of `Bool`, or None where a name occurs twice.
+/// The tables of these declarations with those of `Bool`, or None if a name occurs twice.
 fn all_tables(
     alloc: Global,
     sorts: Seq<Name>,
@@ -110,7 +110,7 @@ fn all_tables(
     }))
 }
 
-/// The names of all sorts, or None where one occurs twice.
+/// The names of all sorts, or None if one occurs twice.
 fn all_sort_names(alloc: Global, sorts: Vec<Name>) -> Result<Option<Seq<Name>>, OutOfMemory>
     ensures { let all = codes "Bool" ∷ sorts.items in
         IfOk result (λ r. MatchOption r (AreNewNames [] all → ⊥)
@@ -173,7 +173,7 @@ fn has_name(names: &[Name], name: &[u8]) -> bool
     false
 }
 
-/// The table of all symbols, or None where a name occurs twice.
+/// The table of all symbols, or None if a name occurs twice.
 fn all_symbol_table(
     alloc: Global,
     constructors: Vec<(Name, SymInfo)>,

@@ -1,7 +1,7 @@
 ghost use Rattle.spec_core.specs.Examples.{WorkedExamples};
 ghost use Rattle.spec_core.specs.Laws.{OneValue, OneSmallValue};
 
-/// A sorted term has at most one value and one cost, where left sides don't overlap and groups are
+/// A sorted term has at most one value and one cost, if left sides don't overlap and groups are
 /// whole.
 pub fn one_value()
     ensures { OneValue }

@@ -80,7 +80,7 @@ impl Signature {
     }
 }
 
-/// Appends the variable's name, or `?n` where it has none.
+/// Appends the variable's name, or `?n` if it has none.
 fn append_variable(names: &[VarInfo], var: VarId, text: &mut Vec<u8>) -> Result<(), OutOfMemory>
     ensures { OnOk result (text.new.items ≡
         text.old.items ++ variable_text (slice_get (variable_names names.now) var.0) var.0) }

@@ -28,7 +28,7 @@ pub struct Guard {
     pub wanted: bool,
 }
 
-/// `left = right`, where each guard gives the Boolean that it wants.
+/// `left = right`, if each guard gives the Boolean that it wants.
 #[derive(Drop)]
 pub struct Rule {
     pub vars: Seq<VarInfo>,
@@ -69,7 +69,7 @@ pub struct Spec {
     pub goals: Seq<Goal>,
 }
 
-/// What the sides of a goal say under values and within a budget. `Spent` is the answer where a
+/// What the sides of a goal say under values and within a budget. `Spent` is the answer if a
 /// side that decides has no value within the budget.
 #[derive(Clone, Copy, Debug, PartialEq, Eq)]
 pub enum Verdict {

@@ -40,7 +40,7 @@ pub(crate) fn first_without(alloc: Global, tables: &Tables) -> Result<Option<Sor
     Ok(None)
 }
 
-/// The least sizes of the sorts' values, or 256 where there is none of at most 255.
+/// The least sizes of the sorts' values, or 256 if there is none of at most 255.
 fn least_sizes(alloc: Global, tables: &Tables) -> Result<Vec<u16>, OutOfMemory>
     requires { SortsAreInRange tables.now }
     ensures { IfOk result (λ least. AreLeast tables.now least.items) }
@@ -71,7 +71,7 @@ fn lower_all(tables: &Tables, least: &mut [u16]) -> bool
     lowered
 }
 
-/// One more than the sum of the sorts' numbers, or 256 where that is less.
+/// One more than the sum of the sorts' numbers, or 256 if that is less.
 fn application_size(least: &[u16], args: &[SortId]) -> u32
     requires { AllByRecursion (λ s. s.0 < length least.now) args.now }
     ensures { result ≡ min (1 + sum_of least.now args.now) 256 }

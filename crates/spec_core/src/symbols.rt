@@ -11,7 +11,7 @@ use std::marker::Model;
 use term_core::{OutOfMemory, Seq, SortId, SymId, place_of};
 
 /// The declared sorts and symbols, with `Bool`, `true` and `false` first. A symbol's number is its
-/// place in the table, and constructors stand before functions.
+/// place in the table, and constructors come before functions.
 #[derive(Drop)]
 pub struct Signature {
     pub(crate) tables: Tables,

@@ -71,7 +71,7 @@ pub head_rules : (version n : ℕ) (rs : List RawRule) (v : List Marked) → Hea
 head_rules version n [] v h = wider Rule (Goal ∷ []) v h
 head_rules version n (r ∷ rs) v h = inl refl
 
--- what may stand after the lines `status`, after the lines `equal`, after the functions and after the sorts
+-- what may come after the lines `status`, after the lines `equal`, after the functions and after the sorts
 abbrev pub after_statuses : List Key
 after_statuses = Order ∷ Rule ∷ Goal ∷ []
 
@@ -144,7 +144,7 @@ skips_args_more : (d e n : ℕ) (ts : RawTrees) (v : List Marked) → Skips (arg
 skips_args_more d e n none v h = h
 skips_args_more d e n (some t ts) v h = refl
 
--- names behind a constructor or function
+-- names after a constructor or function
 more_names_agree : (n : ℕ) (xs : List RawName) (st : List Symbol) (v : List Marked) → Fits st (sign RightPar ∷ v) → Fits (more_names n ∷ st) (more_names_text n xs (sign RightPar ∷ v))
 more_names_agree n [] st v h = fits_pass (more_names n) st (sign RightPar ∷ v) refl h
 more_names_agree n (x ∷ xs) st v h = fits_take (more_names n) st _ (Sign Comma) None _ refl (fits_take (name (arity_mark n)) (more_names (n + 1) ∷ st) [] (Word x.name x.at) _ _ refl (more_names_agree (n + 1) xs st v h))
@@ -356,7 +356,7 @@ conclusions_agree : (cs : List RawEq) (st : List Symbol) (v : List Marked) → F
 conclusions_agree [] st v h e = fits_pass conclusions st v (skips conclusions (Goal ∷ []) v refl (refl, tt) e) h
 conclusions_agree (q ∷ es) st v h e = first_agrees conclusions (bars 1) st q.left q.right (bars_text 1 es v) (λ b. refl) (bars_agree 1 es st v h e) (args_before (Bar ∷ Goal ∷ []) _ (refl, (refl, tt)) (head_bars 1 es v e))
 
--- behind the premises
+-- after the premises
 arrow_agrees : (s : Symbol) (cs : List RawEq) (st : List Symbol) (v : List Marked) → react s (Sign Arrow) ≡ take None (conclusions ∷ []) → Fits st v → HeadIn (Goal ∷ []) v → Fits (s ∷ st) (sign Arrow ∷ conclusions_text cs v)
 arrow_agrees s cs st v t h e = fits_take s st (conclusions ∷ []) (Sign Arrow) None _ t (conclusions_agree cs st v h e)
 

@@ -79,7 +79,7 @@ constructor_none version k t h = let both = or_else_none (over k 64 limit.Constr
 term_none : (d n : ℕ) → term_mark d n ≡ None → (n < 8) × (d < 64)
 term_none d n h = let both = or_else_none (arity_mark n) (over d 64 limit.Nesting) h in (over_none n 8 limit.Arity both.0, over_none d 64 limit.Nesting both.1)
 
--- Each part of a text: its limits are kept, and what stands behind it has no mark. A term with d words above it has less
+-- Each part of a text: its limits are kept, and what comes after it has no mark. A term with d words above it has less
 -- than 64 of them if it has no mark of its own.
 mutual
   term_kept : (d : ℕ) (m : Option LimitKind) (t : RawTree) (v : List Marked) → (m ≡ None → d < 64) → HasNoMark (term_text d m t v) → (m ≡ None) × (d + raw_depth t ≤ 64) × WordsKeepLimits t × HasNoMark v
@@ -255,7 +255,7 @@ rules_kept version n (r ∷ rs) v le h =
     (omega (arith, rest.0), (rule, rest.1), rest.2)
 
 -- clauses
--- equations, each behind the key, with the marks of a limit
+-- equations, each after the key, with the marks of a limit
 behind_kept : (text : ℕ → List RawEq → List Marked → List Marked) (key : Key) (most : ℕ) (why : LimitKind) → ((n : ℕ) (v : List Marked) → text n [] v ≡ v) → ((n : ℕ) (e : RawEq) (es : List RawEq) (v : List Marked) → text n (e ∷ es) v ≡ sign key ∷ sides_text (over n most why) e.left e.right (text (n + 1) es v)) → (n : ℕ) (es : List RawEq) (v : List Marked) → n ≤ most → HasNoMark (text n es v) → (n + length es ≤ most) × AllByRecursion EquationKeepsLimits es × HasNoMark v
 behind_kept text key most why ends goes_on n [] v le h = (omega arith, tt, subst HasNoMark (ends n v) h)
 behind_kept text key most why ends goes_on n (e ∷ es) v le h =
@@ -265,7 +265,7 @@ behind_kept text key most why ends goes_on n (e ∷ es) v le h =
     let rest = behind_kept text key most why ends goes_on (n + 1) es v (omega (arith, below)) sides.2 in
     (omega (arith, rest.0), (sides.1, rest.1), rest.2)
 
--- the same behind a first one without a key
+-- the same after a first one without a key
 equations_kept : (whole : List RawEq → List Marked → List Marked) (text : ℕ → List RawEq → List Marked → List Marked) (key : Key) (most : ℕ) (why : LimitKind) → 1 ≤ most → ((v : List Marked) → whole [] v ≡ v) → ((e : RawEq) (es : List RawEq) (v : List Marked) → whole (e ∷ es) v ≡ sides_text (over 0 most why) e.left e.right (text 1 es v)) → ((n : ℕ) (v : List Marked) → text n [] v ≡ v) → ((n : ℕ) (e : RawEq) (es : List RawEq) (v : List Marked) → text n (e ∷ es) v ≡ sign key ∷ sides_text (over n most why) e.left e.right (text (n + 1) es v)) → (es : List RawEq) (v : List Marked) → HasNoMark (whole es v) → (length es ≤ most) × AllByRecursion EquationKeepsLimits es × HasNoMark v
 equations_kept whole text key most why one empty first ends goes_on [] v h = (omega arith, tt, subst HasNoMark (empty v) h)
 equations_kept whole text key most why one empty first ends goes_on (e ∷ es) v h =

@@ -26,14 +26,14 @@ use Rattle.spec_grammar.specs.Limits.{name_mark, sort_mark, constructor_mark, fu
 use Rattle.spec_grammar.specs.Grammar.{Marked, sign, number, name_text, term_text, args_text, more_text, more_names_text, names_text, con_text, constructors_text, AreSorts, funs_text, more_equal_text, AreEquals, numeral_text, more_numbers_text, AreStatuses, weight_text, more_weights_text, weights_text, order_text, IsOrderText, IsFormat, guard_key, guards_text, sides_text, rules_text, commas_text, bars_text, conclusions_text, IsClause, bind_text, more_binds_text, binds_text, AreGoals, IsSpecText, IsTermText}
 use Rattle.spec_grammar.specs.Symbols.{Reaction, fail, key_code, react_args, react_more, react_names, react_more_names, react_bar, react_sorts, react_funs, react_equals, react_more_equal, react_statuses, react_more_numbers, react_order, react_weights, react_more_weights, react_rules, react_guards, react_goals, react_binds, react_more_binds, react_clause, react_tail, react_number, react_commas, react_bars, joined, feed, ends, Symbol, key, name, args, more, names, more_names, format, body, is_format, sorts, funs, equals, more_equal, statuses, numeral, more_numbers, order, weights, more_weights, rules, guards, goals, binds, more_binds, clause, tail, commas, conclusions, bars, pass, react, react_key, react_word, term_then, right_then, sides_then, bind_then, weight_then, take, is_empty, spec_symbols, term_symbols}
 
--- the declarations of a raw specification, before what stands behind them
+-- the declarations of a raw specification, before what comes after them
 abbrev pub AreDeclarations : RawSpec → List Marked → List Marked → Type 0
 AreDeclarations raw w v = (order : List Marked) × (goals : List Marked)
     × AreSorts raw.version 0 0 raw.sorts w (funs_text raw.version 0 raw.funs order)
     × IsOrderText raw order (rules_text raw.version 0 raw.rules goals)
     × AreGoals 0 raw.goals goals v
 
--- the texts of a symbol, before what stands behind it
+-- the texts of a symbol, before what comes after it
 abbrev pub Means : Symbol → List Marked → List Marked → Type 0
 Means (key k) w v = (j : Key) × (key_code j ≡ key_code k) × (w ≡ sign j ∷ v)
 Means (name m) w v = (n : RawName) × (w ≡ name_text m n v)
@@ -391,7 +391,7 @@ last s w v h = subst (Means s w) h.2 h.1
 cons_nil : {q : RawEq} {qs : List RawEq} → q ∷ qs ≢ []
 cons_nil e = cc
 
--- an equation behind its first word
+-- an equation after its first word
 first_of : (b : List ℕ) (a : ℕ) (s : Symbol) (w v : List Marked) → MeansTo (args 0 ∷ right_then (s ∷ [])) w v → (q : RawEq) × (u : List Marked) × ((Word b a, name_mark b None) ∷ w ≡ sides_text None q.left q.right u) × Means s u v
 first_of b a s w v h =
     let r = right_of (s ∷ []) h.0 v h.2 in

@@ -40,7 +40,7 @@ term_words d m t = omega (arith, term_len d m t [])
 sides_len : (m : Option LimitKind) (l r : RawTree) (v : List Marked) → words l + words r + length v ≤ length (sides_text m l r v)
 sides_len m l r v = omega (arith, term_len 0 m l (sign Equals ∷ term_text 0 None r v), term_len 0 None r v)
 
--- more words are allowed where there are more tokens
+-- more words are allowed if there are more tokens
 equations_more : (n k : ℕ) (es : List RawEq) → n ≤ k → AllByRecursion (EquationHasFewWords n) es → AllByRecursion (EquationHasFewWords k) es
 equations_more n k [] le h = tt
 equations_more n k (e ∷ es) le h = ((omega (arith, h.0.0), omega (arith, h.0.1)), equations_more n k es le h.1)
@@ -140,7 +140,7 @@ goals_len n (g ∷ gs) w v h =
     let le : length h.0 ≤ length w = omega (arith, same, bound) in
     ((equations_more _ _ g.premises le body.1, equations_more _ _ g.conclusions le body.2), goals_more _ _ gs (omega (arith, le, body.0)) rest)
 
--- what stands behind declarations is no longer than the whole
+-- what comes after declarations is no longer than the whole
 more_names_len : (n : ℕ) (xs : List RawName) (v : List Marked) → length v ≤ length (more_names_text n xs v)
 more_names_len n [] v = omega arith
 more_names_len n (x ∷ xs) v = omega (arith, more_names_len (n + 1) xs v)

@@ -88,7 +88,7 @@ no_more [] x rest others st (y ∷ w) h e r = taken y.1 h.0 (length (x ∷ rest)
 no_more (z ∷ done) x rest others st [] h e r = nil_cons e
 no_more (z ∷ done) x rest others st (y ∷ w) h e r = taken y.1 h.0 (length (z ∷ (done ++ (x ∷ rest)))) (length (x ∷ rest)) (λ s. run s (done ++ (x ∷ rest))) (λ k. no_more done x rest others h.0 w h.2 (tails e) k) (subst (λ (v : Reaction). after v (length (z ∷ (done ++ (x ∷ rest)))) (λ s. run s (done ++ (x ∷ rest))) ≡ Some (length (x ∷ rest), None)) (ap (feed st) (sym (heads e)) ∙ h.1) r)
 
--- no text ends where the machine has a syntax fault at the end
+-- no text ends if the machine has a syntax fault at the end
 pub no_end : (done : List Item) (st : List Symbol) (w : List Marked) → Agrees st w → bare w ≡ done → run st done ≡ Some (0, None) → ⊥
 unfolding run
 no_end [] st [] h e r = none_some (sym (rw h refl) ∙ r)

@@ -16,7 +16,7 @@ abbrev pub bare : List Marked → List Item
 bare [] = []
 bare (m ∷ ms) = m.0 ∷ bare ms
 
--- the place of the first token, or the end of the text where there is none
+-- the place of the first token, or the end of the text if there is none
 abbrev pub place_of : List Token → ℕ → ℕ
 place_of [] end = end
 place_of (token ∷ tokens) end = token.at
@@ -36,7 +36,7 @@ module _ {R : Type 0} (IsText : R → List Marked → Type 0) where
   Continues items = (r : R) × (text : List Marked) × (rest : List Item)
       × IsText r text × (bare text ≡ items ++ rest)
 
-  -- The first fault lies behind the tokens `done`, at the first token of `left`, or at the end where
+  -- The first fault lies after the tokens `done`, at the first token of `left`, or at the end if
   -- none is left. What is done begins a text within the limits.
   abbrev pub IsFault : List Item → List Item → Option LimitKind → Type 0
   -- the tokens end, and are no text

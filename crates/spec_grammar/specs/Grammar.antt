@@ -1,6 +1,6 @@
 -- The grammar: the tokens of each part of a raw specification, each token with the limit that it
--- passes if there is one. Each text is told with what stands behind it, `rest`; a number says how
--- many items stand before.
+-- passes if there is one. Each text is given with what comes after it, `rest`; a number says how
+-- many items come before.
 use Rattle.std.specs.Prelude.{◌≡◌, ◌≢◌, ℕ, ◌+◌, ◌⊎◌, List, [], ◌∷◌, Option, Some, None, Bool, true, false, length}
 use Rattle.spec_grammar.specs.declared.keys.Key.{Key}
 use Rattle.spec_grammar.specs.declared.keys.Key.TheVariants.{Spike, Sort, Fun, Rule, Goal, If, Unless, Equal, Status, Order, LeftPar, RightPar, Comma, Colon, Equals, Bar, Arrow}
@@ -66,7 +66,7 @@ names_text (x ∷ xs) rest =
 abbrev pub con_text : Option LimitKind → RawNames → List Marked → List Marked
 con_text mark c rest = (Word c.name c.at, name_mark c.name mark) ∷ names_text c.args rest
 
--- sort = "sort" NAME "=" con {"|" con}, of a format; t constructors stand before in all
+-- sort = "sort" NAME "=" con {"|" con}, of a format; t constructors come before in all
 abbrev pub constructors_text : ℕ → ℕ → ℕ → List RawNames → List Marked → List Marked
 constructors_text version k t [] rest = rest
 constructors_text version k t (c ∷ cs) rest = sign Bar ∷ con_text (constructor_mark version k t) c
@@ -179,7 +179,7 @@ abbrev pub conclusions_text : List RawEq → List Marked → List Marked
 conclusions_text [] rest = rest
 conclusions_text (e ∷ es) rest = sides_text (conclusion_mark 0) e.left e.right (bars_text 1 es rest)
 
--- with the arrow, or without it where there are conclusions only
+-- with the arrow, or without it if there are conclusions only
 abbrev pub IsClause : List RawEq → List RawEq → List Marked → List Marked → Type 0
 IsClause ps cs text rest =
     (text ≡ premises_text ps (sign Arrow ∷ conclusions_text cs rest))

@@ -28,7 +28,7 @@ reserved word =
     else if bytes_eq word (codes "_") then Some Stray
     else None
 
--- the key that a token is, where it is no name and no number
+-- the key that a token is, if it is no name and no number
 abbrev pub key_of : TokenKind → List ℕ → Option Key
 key_of kinds.Word text = reserved text
 key_of (kinds.Number n) text = None

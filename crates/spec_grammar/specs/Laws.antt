@@ -7,7 +7,7 @@ use Rattle.spec_grammar.specs.Grammar.{IsSpecText, IsTermText}
 use Rattle.spec_grammar.specs.Derives.{TextDerives, TextHasFault}
 use Rattle.spec_grammar.specs.KeepsLimits.{TermKeepsLimits, KeepsLimits}
 
--- a text derives one raw specification at most, and one term at most, and none where it has a fault;
+-- a text derives one raw specification at most, and one term at most, and none if it has a fault;
 -- it has one fault at most
 pub record OneReading : Type 0 where
   pub one_spec : (bytes : List ℕ) (raw other : RawSpec)

@@ -9,7 +9,7 @@ pub mod Sizes
 pub mod KeepsLimits
 pub mod Laws
 pub mod Examples
--- A stack of symbols for readers: no text is told by it.
+-- A stack of symbols for readers: no text is described by it.
 pub mod Symbols
 -- How the logic stores and measures a raw term.
 pub mod RawCodes

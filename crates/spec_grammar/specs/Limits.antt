@@ -18,11 +18,11 @@ most_rules version = if version == 2 then 4000 else 1000
 abbrev pub file_limit : List ℕ → ℕ
 file_limit bytes = if bytes_eq (take 7 bytes) (codes "spike 2") then 4194304 else 1048576
 
--- the item of this number, from 0, of at most so many
+-- the item with this number, from 0, of at most this many
 abbrev pub over : ℕ → ℕ → LimitKind → Option LimitKind
 over n most why = if nat_le most n then Some why else None
 
--- of two limits the first is told
+-- of two limits the first is reported
 abbrev pub or_else : Option LimitKind → Option LimitKind → Option LimitKind
 or_else (Some why) other = Some why
 or_else None other = other
@@ -34,7 +34,7 @@ name_mark name mark = if nat_le (length name) 64 then mark else Some limit.Name
 abbrev pub sort_mark : ℕ → Option LimitKind
 sort_mark n = over n 200 limit.Sorts
 
--- k constructors of the sort stand before this one, and n in all
+-- k constructors of the sort come before this one, and n in all
 abbrev pub constructor_mark : ℕ → ℕ → ℕ → Option LimitKind
 constructor_mark version k n =
     or_else (over k 64 limit.Constructors) (over n (most_constructors version) limit.Constructors)

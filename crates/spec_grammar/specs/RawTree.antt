@@ -1,4 +1,4 @@
--- Raw terms as trees: a word's bytes, its place, and the terms in parentheses behind it.
+-- Raw terms as trees: a word's bytes, its place, and the terms in parentheses after it.
 use Rattle.std.specs.Prelude.{ℕ, List, [], ◌∷◌}
 
 mutual

@@ -6,7 +6,7 @@ use Rattle.spec_grammar.specs.declared.limits.LimitKind.{LimitKind}
 use Rattle.spec_grammar.specs.Items.{Item, Word, Sign, Number}
 use Rattle.spec_grammar.specs.Limits.{name_mark, sort_mark, constructor_mark, fun_mark, arity_mark, term_mark, rule_mark, guard_mark, goal_mark, variable_mark, premise_mark, conclusion_mark}
 
--- The symbols. A number says how many items of its list were read, d how many words stand above; the
+-- The symbols. A number says how many items of its list were read, d how many words are above; the
 -- first number of sorts, functions and rules is their format.
 pub data Symbol : Type 0 where
   key : Key → Symbol
@@ -179,7 +179,7 @@ react_tail Arrow = take None (conclusions ∷ [])
 react_tail Bar = take None (sides_then (conclusion_mark 1) (bars 2 ∷ []))
 react_tail _ = pass
 
--- behind a comma an arrow has to come
+-- after a comma an arrow has to come
 abbrev pub react_commas : ℕ → Key → Reaction
 react_commas n Comma = take None (sides_then (premise_mark n) (commas (n + 1) ∷ []))
 react_commas n Arrow = take None (conclusions ∷ [])

@@ -18,6 +18,6 @@ pub enum Key {
     Equals,
     Bar,
     Arrow,
-    /// `_`, which is no name and stands nowhere.
+    /// `_`, which is no name and occurs nowhere.
     Stray,
 }

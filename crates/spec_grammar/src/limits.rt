@@ -57,7 +57,7 @@ pub fn max_rules(version: u32) -> usize
     if version == 2 { 4000 } else { 1000 }
 }
 
-/// The most bytes of a file that begins like this: more where it begins with `spike 2`.
+/// The most bytes of a file that begins like this: more if it begins with `spike 2`.
 pub fn file_limit(bytes: &[u8]) -> usize
     ensures { result ≡ most_bytes bytes.now }
 {

@@ -8,7 +8,7 @@ pub struct RawName {
     pub at: usize,
 }
 
-/// A name with its place, and the names in parentheses behind it.
+/// A name with its place, and the names in parentheses after it.
 #[derive(Drop)]
 pub struct RawNames {
     pub name: Name,

@@ -6,7 +6,7 @@ use std::marker::Model;
 use term_core::{Name, OutOfMemory};
 
 /// A word of a term with its place in the text, in bytes from 0, and the terms in parentheses
-/// behind it.
+/// after it.
 #[cycle(raw)]
 #[derive(Drop)]
 pub struct RawTerm {

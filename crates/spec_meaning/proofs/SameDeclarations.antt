@@ -29,7 +29,7 @@ same_map Same f h (x ∷ xs) (y ∷ ys) p =
     let b : map f xs ≡ map f ys = same_map Same f h xs ys p.1 in
     λ i. a i ∷ b i
 
--- what stands beside the second list stands beside the first
+-- what is beside the second list is beside the first
 pub same_zip : {X Y : Type 0} (Same : X → X → Type 0) (R : X → Y → Type 0) →
     ((a b : X) (y : Y) → Same a b → R b y → R a y) → (xs ys : List X) (zs : List Y) →
     AllZip Same xs ys → AllZip R ys zs → AllZip R xs zs

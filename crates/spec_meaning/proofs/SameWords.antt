@@ -1,5 +1,5 @@
 -- Terms that are the same apart from places: they stand for the same terms, the same variables come
--- after them, and a test finds something in both or in neither. The first of two is told by the
+-- after them, and a test finds something in both or in neither. The first of two is described by the
 -- second.
 use Rattle.std.proofs.Common.{◌≡◌, ℕ, ◌+◌, ◌≤◌, List, [], ◌∷◌, ◌++◌, Option, Some, None, length, refl, ap, sym, ◌∙◌, subst}
 use Rattle.std.specs.Prelude.{position, slice_get}
@@ -103,7 +103,7 @@ pub record Alike (es fs : List Entry) : Type 0 where
 pub alike_self : (es : List Entry) → Alike es es
 alike_self es = record { names = refl; sorts = refl }
 
--- Where terms of this part stand, a test finds something at each place or at none.
+-- Where terms of this part are, a test finds something at each place or at none.
 pub record IsPlaceless (part : Part) : Type 0 where
   pattern : (sig : Sig) (at other f : ℕ) → Clean (pattern_test sig part other f) →
       Clean (pattern_test sig part at f)

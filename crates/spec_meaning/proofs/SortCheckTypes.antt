@@ -1,5 +1,5 @@
 -- What sort_check's definitions speak of without exporting it: variables as they are known,
--- equations of two variables, and the part of a declaration that a term stands in. Each is told
+-- equations of two variables, and the part of a declaration that a term occurs in. Each is described
 -- here by a definition that uses it.
 use Rattle.std.proofs.Common.{◌≡◌, ℕ, List, [], Some, None, refl}
 use Rattle.spec_core.specs.Sig.{Sig}
@@ -54,7 +54,7 @@ abbrev pub part_of_sides : {p : Part} →
     (wanted (own_sort sig e.left) (own_sort sig e.right)))) → Part
 part_of_sides {p} h = p
 
--- right sides and guards, what stands inside a left side, and sides of goals
+-- right sides and guards, what is inside a left side, and sides of goals
 abbrev pub right_part : Part
 right_part = part_of_guards (λ sig es g. refl)
 

@@ -23,7 +23,7 @@ few false = omega arith
 few_of_one : (version : ℕ) → most_rules_of_one version ≤ 128
 few_of_one version = few (version == 2)
 
--- where a function may have more rules, the tests find no more
+-- if a function may have more rules, the tests find no more
 module _ (sig : Sig) (most more : ℕ) (le : most ≤ more) where
   clean_root : (at size before : ℕ) (args : RawTrees) (f : Option ℕ) →
       Clean (root_tests sig most at size before args f) → Clean (root_tests sig more at size before args f)

@@ -1,4 +1,4 @@
--- What is so by an order is so by that of a specification, where this is the order; and terms are
+-- What is so by an order is so by that of a specification, if this is the order; and terms are
 -- ordered by number as by the order of a specification by number.
 use Rattle.std.proofs.Common.{◌≡◌, List, [], ◌∷◌, subst, sym}
 use Rattle.std.specs.Prelude.{◌↔◌}

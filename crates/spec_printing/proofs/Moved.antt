@@ -1,4 +1,4 @@
--- Marked tokens whose names stand at other places, and texts of such tokens.
+-- Marked tokens whose names are at other places, and texts of such tokens.
 use Rattle.std.proofs.Common.{◌≡◌, inl, inr, ℕ, ◌+◌, List, [], ◌∷◌, Option, Some, None, length, refl, ap, sym, subst, ◌∙◌}
 use Rattle.std.specs.List.{AllZip}
 use Rattle.std.proofs.lemmas.List.Elements.{length_all_zip}
@@ -55,7 +55,7 @@ key_moves key mark text Same x rest v each h =
     let a = each h.0 h.2 in
     record { it = a.it; after = a.after; whole = h.1 ∙ ap (λ (w : List Marked). (Sign key, mark) ∷ w) a.whole; same = a.same; moved = a.moved }
 
--- the items of a list, each behind a comma or a bar
+-- the items of a list, each after a comma or a bar
 behind_moves : {X : Type 0} (key : Key) (text : ℕ → List X → List Marked → List Marked) (item : ℕ → X → List Marked → List Marked) (Same : X → X → Type 0) → ((n : ℕ) (v : List Marked) → text n [] v ≡ v) → ((n : ℕ) (x : X) (xs : List X) (v : List Marked) → text n (x ∷ xs) v ≡ sign key ∷ item n x (text (n + 1) xs v)) → ((n : ℕ) (x : X) (rest v : List Marked) → Moved (item n x rest) v → Moves (item n) Same x rest v) → (n : ℕ) (xs : List X) (rest v : List Marked) → Moved (text n xs rest) v → Moves (text n) (AllZip Same) xs rest v
 behind_moves key text item Same ends goes_on each n [] rest v h = record { it = []; after = v; whole = sym (ends n v); same = tt; moved = subst (λ (w : List Marked). Moved w v) (ends n rest) h }
 behind_moves key text item Same ends goes_on each n (x ∷ xs) rest v h =

@@ -31,7 +31,7 @@ use Rattle.spec_printing.proofs.Plain.{IsGood, AllGood}
 use Rattle.spec_printing.proofs.Moved.{Step, Moved}
 use Rattle.spec_text.proofs.SpanLemmas.{and_parts}
 
--- the gap before a key that doesn't stand behind `(`
+-- the gap before a key that doesn't come after `(`
 abbrev pub key_gap : Key → List ℕ
 key_gap LeftPar = []
 key_gap RightPar = []
@@ -52,7 +52,7 @@ key_gap Bar = codes " "
 key_gap Arrow = codes " "
 key_gap Stray = codes " "
 
--- a blank, but none behind `(`, which the first says
+-- a blank, but none after `(`, which the first says
 abbrev pub blank : Bool → List ℕ
 blank true = []
 blank false = codes " "

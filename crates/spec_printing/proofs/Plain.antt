@@ -1,4 +1,4 @@
--- The text of a raw specification that the printed form has: no arrow where there are conclusions only. Its tokens are as
+-- The text of a raw specification that the printed form has: no arrow if there are conclusions only. Its tokens are as
 -- good as those of each other text of it, and no longer, also in a format with looser limits.
 use Rattle.std.proofs.Common.{◌≡◌, ◌≢◌, inl, inr, ℕ, ◌+◌, ◌<◌, ◌≤◌, ◌^◌, List, [], ◌∷◌, Option, Some, None, length, refl, sym, subst, arith}
 use Rattle.std.specs.Fmt.{decimal}
@@ -27,7 +27,7 @@ use Rattle.spec_grammar.specs.Grammar.{Marked, sign, number, name_text, term_tex
 use Rattle.spec_printing.proofs.Spellings.{item_text}
 use Rattle.spec_printing.proofs.Looser.{StaysClean, Looser, same_limits, named_clean}
 
--- the clause, without an arrow where there are conclusions only
+-- the clause, without an arrow if there are conclusions only
 abbrev pub clause_text : List RawEq → List RawEq → List Marked → List Marked
 clause_text [] [] rest = sign Arrow ∷ rest
 clause_text [] (c ∷ cs) rest = conclusions_text (c ∷ cs) rest
@@ -283,7 +283,7 @@ pub record HasPlainText (raw : RawSpec) (text : List Marked) : Type 0 where
   pub good : AllGood plain
   pub short : spaced_size plain ≤ spaced_size text
 
--- where there is a text of good tokens, there is a plain one in each format with looser limits and no longer number
+-- if there is a text of good tokens, there is a plain one in each format with looser limits and no longer number
 pub plain_text_in : (raw : RawSpec) (later : ℕ) (text : List Marked) → Looser raw.version later → later < 10 ^ 6 →
     length (decimal later) ≤ length (decimal raw.version) → IsFormat (record raw { version = later }) →
     IsSpecText raw text →

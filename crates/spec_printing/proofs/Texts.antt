@@ -22,7 +22,7 @@ module _ {X : Type 0} (v : X → List ℕ) (all : List X) (x : X) (xs : List X) 
       let written : List ℕ = flat_map (λ y. codes ", " ++ v y) (take n xs) in
       c ∙ ap (λ t. t ++ codes ")") b ∙ ap (λ t. (t ++ written) ++ codes ")") a ∙ joined old (codes "(") (v x) written (codes ")") ∙ ap (λ o. old ++ (codes "(" ++ v x ++ o ++ codes ")")) (others (codes ", ") enough) ∙ ap (λ ys. old ++ listed (map v ys)) (sym is)
 
-  -- what a loop writes of a list behind a blank
+  -- what a loop writes of a list after a blank
   pub spaced_text : (between old first text : List ℕ) → all ≡ x ∷ xs → length xs ≤ n → first ≡ (old ++ codes " ") ++ v x → text ≡ first ++ flat_map (λ y. between ++ v y) (take n xs) → text ≡ old ++ spaced between (map v all)
   spaced_text between old first text is enough a b =
       let written : List ℕ = flat_map (λ y. between ++ v y) (take n xs) in

@@ -18,24 +18,24 @@ use Rattle.spec_grammar.specs.declared.raw.RawGoal.{RawGoal}
 use Rattle.spec_grammar.specs.declared.raw.RawSpec.{RawSpec}
 use Rattle.spec_grammar.specs.RawTree.{RawTree, RawTrees, word, none, some}
 
--- the texts in parentheses with `, ` between them, and nothing where there is none
+-- the texts in parentheses with `, ` between them, and nothing if there is none
 abbrev pub listed : List (List ℕ) → List ℕ
 listed [] = []
 listed (t ∷ ts) = codes "(" ++ t ++ flat_map (λ u. codes ", " ++ u) ts ++ codes ")"
 
--- a blank and the texts, with this between them, and nothing where there is none
+-- a blank and the texts, with this between them, and nothing if there is none
 abbrev pub spaced : List ℕ → List (List ℕ) → List ℕ
 spaced between [] = []
 spaced between (t ∷ ts) = codes " " ++ t ++ flat_map (λ u. between ++ u) ts
 
--- a name alone, or a name and the terms behind it in parentheses with `, ` between them
+-- a name alone, or a name and the terms after it in parentheses with `, ` between them
 abbrev mutual
   pub term_printed : RawTree → List ℕ
   term_printed (word name at none) = name
   term_printed (word name at (some t ts)) =
       name ++ codes "(" ++ term_printed t ++ others_printed ts ++ codes ")"
 
-  -- terms, each behind `, `
+  -- terms, each after `, `
   pub others_printed : RawTrees → List ℕ
   others_printed none = []
   others_printed (some t ts) = codes ", " ++ term_printed t ++ others_printed ts
@@ -74,13 +74,13 @@ status_line s = codes "status " ++ s.head.name ++ listed (map decimal s.numbers)
 abbrev pub weight_printed : RawWeight → List ℕ
 weight_printed w = w.name.name ++ codes " = " ++ decimal w.weight
 
--- ` : NAME = NUMBER, NAME = NUMBER`, and nothing where there is no weight
+-- ` : NAME = NUMBER, NAME = NUMBER`, and nothing if there is no weight
 abbrev pub weights_printed : List RawWeight → List ℕ
 weights_printed [] = []
 weights_printed (w ∷ ws) =
     codes " : " ++ weight_printed w ++ flat_map (λ x. codes ", " ++ weight_printed x) ws
 
--- `order NAME : NAME = NUMBER, NAME = NUMBER`, where there is such a line
+-- `order NAME : NAME = NUMBER, NAME = NUMBER`, if there is such a line
 abbrev pub order_line : Option RawOrder → List ℕ
 order_line None = []
 order_line (Some order) =
@@ -99,7 +99,7 @@ rule_line r = codes "rule " ++ sides_printed r.left r.right
 abbrev pub bind_printed : RawBind → List ℕ
 bind_printed b = b.name.name ++ codes " : " ++ b.sort.name
 
--- ` =>`, but nothing where there are conclusions only
+-- ` =>`, but nothing if there are conclusions only
 abbrev pub arrow_printed : List RawEq → List RawEq → List ℕ
 arrow_printed [] (c ∷ cs) = []
 arrow_printed _ _ = codes " =>"

@@ -6,7 +6,7 @@ use Rattle.spec_grammar.specs.Derives.{TextDerives}
 use Rattle.spec_printing.specs.Printed.{printed}
 use Rattle.spec_printing.specs.SamePlaces.{IsSameButPlaces}
 
--- where any text derives the raw specification, this one derives the same apart from places
+-- if any text derives the raw specification, this one derives the same apart from places
 abbrev pub ReadsBackAs : RawSpec → List ℕ → Type 0
 ReadsBackAs raw text = (bytes : List ℕ) → TextDerives IsSpecText bytes raw
     → (again : RawSpec) × TextDerives IsSpecText text again × IsSameButPlaces again raw

@@ -227,7 +227,7 @@ fn append_numbers(alloc: Global, numbers: &[u32], text: &mut Vec<u8>) -> Result<
     Ok(())
 }
 
-/// Appends `order NAME : NAME = NUMBER, NAME = NUMBER`, and nothing where there is no such line.
+/// Appends `order NAME : NAME = NUMBER, NAME = NUMBER`, and nothing if there is no such line.
 fn append_order(
     alloc: Global,
     order: &Option<RawOrder>,
@@ -377,7 +377,7 @@ fn append_clause(
     Ok(())
 }
 
-/// Appends ` =>`, but nothing where there are conclusions only.
+/// Appends ` =>`, but nothing if there are conclusions only.
 fn append_arrow(
     premises: &[RawEq],
     conclusions: &[RawEq],
@@ -392,7 +392,7 @@ fn append_arrow(
     Ok(())
 }
 
-/// Appends a blank and the equations, with `between` between them, and nothing where there is
+/// Appends a blank and the equations, with `between` between them, and nothing if there is
 /// none.
 fn append_equations(
     equations: &[RawEq],

@@ -94,7 +94,7 @@ pub begins_some : (first : RawEq) (made : List RawEq) → BeginsWith first made 
 begins_some first [] h e = h
 begins_some first (x ∷ xs) h e = cc
 
--- the conclusions behind the arrow, from the first one and the others
+-- the conclusions after the arrow, from the first one and the others
 pub conclusions_read : {X : Type 0} (made : X → List RawEq) (rest : X → List Item) (items mid : List Item) (first : RawEq) (r : Result X Stop) → BeginsWord items → clean items ≡ sides_text None first.left first.right (clean mid) → ((st : List Symbol) → run (sides_then None st) items ≡ run st mid) → length mid ≤ length items → ReadsBars first made rest mid r → Reads (λ x. conclusions_text (made x)) rest (conclusions ∷ []) items r
 conclusions_read made rest items mid first (Ok x) b text same less h = (text ∙ ap (sides_text None first.left first.right) h.1 ∙ conclusions_made first (made x) (clean (rest x)) h.0, λ st. conclusions_run items st b ∙ same (bars 1 ∷ st) ∙ h.2 st, omega arith)
 conclusions_read made rest items mid first (Err OutOfMemory) b text same less h = tt

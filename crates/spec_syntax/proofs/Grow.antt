@@ -18,7 +18,7 @@ use Rattle.spec_syntax.specs.Reading.{IsOneGoal}
 pub next_is : {A : Type 0} (n : ℕ) (x : A) (xs : List A) → n + 1 + length xs ≡ n + length (x ∷ xs)
 next_is n x xs = omega arith
 
--- arguments whose parenthesis isn't closed yet, before what stands behind them
+-- arguments whose parenthesis isn't closed yet, before what comes after them
 abbrev pub opened_text : ℕ → List RawTree → List Marked → List Marked
 opened_text d [] v = v
 opened_text d (t ∷ ts) v = sign LeftPar ∷ term_text (d + 1) (term_mark (d + 1) 0) t (more_text (d + 1) 1 (raw_trees ts) v)
@@ -37,7 +37,7 @@ pub opened_closes : (d : ℕ) (ts : List RawTree) (v : List Marked) → 0 < leng
 opened_closes d [] v h = absurd (omega arith)
 opened_closes d (t ∷ ts) v h = refl
 
--- a text whose items stand one behind the other, with one more at the end
+-- a text whose items come one after the other, with one more at the end
 pub items_grow : {X : Type 0} (text : ℕ → List X → List Marked → List Marked) (item : ℕ → X → List Marked → List Marked) → ((n : ℕ) (v : List Marked) → text n [] v ≡ v) → ((n : ℕ) (x : X) (xs : List X) (v : List Marked) → text n (x ∷ xs) v ≡ item n x (text (n + 1) xs v)) → (n : ℕ) (xs : List X) (x : X) (v : List Marked) → text n (xs ++ x ∷ []) v ≡ text n xs (item (n + length xs) x v)
 items_grow text item ends goes_on n [] x v = goes_on n x [] v ∙ ap (item n x) (ends (n + 1) v) ∙ ap (λ (k : ℕ). item k x v) (sym (add-zero n)) ∙ sym (ends n (item (n + 0) x v))
 items_grow text item ends goes_on n (y ∷ xs) x v =
@@ -56,7 +56,7 @@ bars_grow n xs x v = items_grow bars_text (λ k e w. sign Bar ∷ sides_text (co
 pub more_binds_grow : (n : ℕ) (xs : List RawBind) (x : RawBind) (v : List Marked) → more_binds_text n (xs ++ x ∷ []) v ≡ more_binds_text n xs (sign Comma ∷ bind_text (variable_mark (n + length xs)) x v)
 more_binds_grow n xs x v = items_grow more_binds_text (λ k b w. sign Comma ∷ bind_text (variable_mark k) b w) (λ k w. refl) (λ k b bs w. refl) n xs x v
 
--- the same of a list before which no item stands
+-- the same of a list that has no item before it
 whole_grows : {X : Type 0} (text : ℕ → List X → List Marked → List Marked) (item : ℕ → X → List Marked → List Marked) → ((n : ℕ) (v : List Marked) → text n [] v ≡ v) → ((n : ℕ) (x : X) (xs : List X) (v : List Marked) → text n (x ∷ xs) v ≡ item n x (text (n + 1) xs v)) → (xs : List X) (x : X) (v : List Marked) → text 0 (xs ++ x ∷ []) v ≡ text 0 xs (item (length xs) x v)
 whole_grows text item ends goes_on xs x v = items_grow text item ends goes_on 0 xs x v ∙ ap (λ (k : ℕ). text 0 xs (item k x v)) (zero-add (length xs))
 
@@ -69,7 +69,7 @@ first_guards_grow xs x v = whole_grows guards_text (λ k g w. (Sign (guard_key g
 pub first_rules_grow : (version : ℕ) (xs : List RawRule) (x : RawRule) (v : List Marked) → rules_text version 0 (xs ++ x ∷ []) v ≡ rules_text version 0 xs ((Sign Rule, rule_mark version (length xs)) ∷ sides_text None x.left x.right (guards_text 0 x.guards v))
 first_rules_grow version xs x v = whole_grows (rules_text version) (λ k r w. (Sign Rule, rule_mark version k) ∷ sides_text None r.left r.right (guards_text 0 r.guards w)) (λ k w. refl) (λ k r rs w. refl) xs x v
 
--- names whose parenthesis isn't closed yet, before what stands behind them
+-- names whose parenthesis isn't closed yet, before what comes after them
 abbrev pub opened_names : List RawName → List Marked → List Marked
 opened_names [] v = v
 opened_names (x ∷ xs) v = sign LeftPar ∷ name_text (arity_mark 0) x (more_names_text 1 xs v)
@@ -84,7 +84,7 @@ pub opened_names_close : (xs : List RawName) (v : List Marked) → 0 < length xs
 opened_names_close [] v h = absurd (omega arith)
 opened_names_close (x ∷ xs) v h = refl
 
--- binds whose parenthesis isn't closed yet, before what stands behind them
+-- binds whose parenthesis isn't closed yet, before what comes after them
 abbrev pub opened_binds : List RawBind → List Marked → List Marked
 opened_binds [] v = v
 opened_binds (x ∷ xs) v = sign LeftPar ∷ bind_text (variable_mark 0) x (more_binds_text 1 xs v)

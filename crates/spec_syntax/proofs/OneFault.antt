@@ -1,4 +1,4 @@
--- A text of some kind has one fault at most, and none where it derives something.
+-- A text of some kind has one fault at most, and none if it derives something.
 use Rattle.std.proofs.Common.{◌≡◌, ℕ, List, [], ◌++◌, Option, Some, None, ap, ◌∙◌}
 use Rattle.spec_text.specs.Tokens.{IsTextFault}
 use Rattle.spec_text.proofs.TokenLemmas.{one_fault, tokens_or_fault}

@@ -10,7 +10,7 @@ use Rattle.spec_grammar.specs.Limits.{arity_mark}
 use Rattle.spec_syntax.specs.ReadingOrders.{AreNumbers}
 use Rattle.spec_syntax.proofs.Grow.{items_grow}
 
--- the names of an equal line, before what stands behind them
+-- the names of an equal line, before what comes after them
 abbrev pub level_text : List RawName → List Marked → List Marked
 level_text [] v = v
 level_text (x ∷ xs) v = name_text None x (more_equal_text xs v)
@@ -46,7 +46,7 @@ pub equals_join :
 equals_join [] others w u v a b = subst (λ (x : List Marked). AreEquals others x v) (sym a) b
 equals_join (e ∷ es) others w u v a b = (a.0, a.1, a.2, a.3, a.4, a.5, equals_join es others a.3 u v a.6 b)
 
--- the numbers of a status line, before what stands behind them
+-- the numbers of a status line, before what comes after them
 abbrev pub numbers_text : List ℕ → List Marked → List Marked
 numbers_text [] v = v
 numbers_text (i ∷ is) v = numeral_text (arity_mark 0) i (more_numbers_text 1 is v)

@@ -10,7 +10,7 @@ use Rattle.spec_syntax.specs.declared.stop.Stop.{Stop}
 use Rattle.spec_syntax.specs.declared.stop.Stop.TheVariants.{Fault, OutOfMemory}
 use Rattle.spec_syntax.specs.Reading.{LacksWord, IsPassed, Stops}
 
--- the symbols read the tokens of a text and leave others, whatever stands below them
+-- the symbols read the tokens of a text and leave others, whatever is below them
 pub record At (ss : List Symbol) (items : List Item) (left : List Symbol) (rest : List Item) (shape : List Marked → List Marked) : Type 0 where
   pub same : (st : List Symbol) → run (ss ++ st) items ≡ run (left ++ st) rest
   pub text : clean items ≡ shape (clean rest)
@@ -70,7 +70,7 @@ at_next {ss} {items} {rest} {after} {f} s next others item whole a text same les
 pub at_start : (s : Symbol) (items : List Item) → At (s ∷ []) items (s ∷ []) items (λ v. v)
 at_start s items = record { same = λ st. refl; text = refl; less = omega arith }
 
--- what a part refuses is refused, where the first symbols go to it and others
+-- what a part refuses is refused, if the first symbols go to it and others
 pub stop_at : (ss part others : List Symbol) (items rest : List Item) (stop : Stop) → ((st : List Symbol) → run (ss ++ st) items ≡ run (part ++ (others ++ st)) rest) → Stops part rest stop → Stops ss items stop
 stop_at ss part others items rest OutOfMemory g h = tt
 stop_at ss part others items rest (Fault left why) g h = λ st. g st ∙ h (others ++ st)

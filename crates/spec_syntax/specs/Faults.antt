@@ -26,7 +26,7 @@ HasFault IsText bytes (Syntax at) = TextHasFault IsText bytes at None
 HasFault IsText bytes (Limit at what) = TextHasFault IsText bytes at (Some what)
 HasFault IsText bytes OutOfMemory = ⊥
 
--- a fault that is told is there
+-- a fault that is reported is there
 abbrev pub TellsFault : {R : Type 0} → (R → List Marked → Type 0) → List ℕ → SyntaxFault → Type 0
 TellsFault IsText bytes OutOfMemory = Unit {0}
 TellsFault IsText bytes fault = HasFault IsText bytes fault

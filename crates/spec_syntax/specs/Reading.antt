@@ -40,7 +40,7 @@ LacksNumber (Word b a ∷ rest) = Unit {0}
 LacksNumber (Sign j ∷ rest) = Unit {0}
 LacksNumber (Number n ∷ rest) = ⊥
 
--- a comma or an arrow is the first of the tokens, as behind a premise
+-- a comma or an arrow is the first of the tokens, as after a premise
 abbrev pub BeginsPremises : List Item → Type 0
 BeginsPremises [] = ⊥
 BeginsPremises (Word b a ∷ rest) = ⊥
@@ -50,18 +50,18 @@ BeginsPremises (Number n ∷ rest) = ⊥
 abbrev pub LacksPremises : List Item → Type 0
 LacksPremises items = Lacks Comma items × Lacks Arrow items
 
--- the limit is passed where so many tokens are left
+-- the limit is passed at the place where this many tokens are left
 abbrev pub IsPassed : Option LimitKind → ℕ → Stop → Type 0
 IsPassed None n stop = ⊥
 IsPassed (Some why) n stop = stop ≡ Fault n (Some why)
 
--- whatever stands below these symbols, the tokens have this fault
+-- whatever is below these symbols, the tokens have this fault
 abbrev pub Stops : List Symbol → List Item → Stop → Type 0
 Stops ss items OutOfMemory = Unit {0}
 Stops ss items (Fault left why) = (st : List Symbol) → run (ss ++ st) items ≡ Some (left, why)
 
 -- The tokens are the text of what was read, none of which passes a limit, and a rest. Whatever
--- stands below, the first symbols go to the others.
+-- is below, the first symbols go to the others.
 abbrev pub ReadsTo : {X : Type 0} → (X → List Marked → List Marked) → (X → List Item) → List Symbol
     → (X → List Symbol) → List Item → Result X Stop → Type 0
 ReadsTo text rest ss left items (Ok x) =
@@ -70,7 +70,7 @@ ReadsTo text rest ss left items (Ok x) =
     × (length (rest x) ≤ length items)
 ReadsTo text rest ss left items (Err stop) = Stops ss items stop
 
--- the same where no symbols are left
+-- the same if no symbols are left
 abbrev pub Reads : {X : Type 0} → (X → List Marked → List Marked) → (X → List Item) → List Symbol
     → List Item → Result X Stop → Type 0
 Reads text rest ss items (Ok x) =
@@ -99,7 +99,7 @@ abbrev pub ReadsNext : {X : Type 0} → (X → List Marked → List Marked) → 
     → Symbol → List Item → Result (Option X) Stop → Type 0
 ReadsNext text rest s next items result = ReadsItem text rest s next (IsPassedOver s) items result
 
--- The same where what was read has several texts: the tokens are one of them, and a rest.
+-- The same if what was read has several texts: the tokens are one of them, and a rest.
 abbrev pub ReadsAs : {X : Type 0} → (X → List Marked → List Marked → Type 0) → (X → List Item)
     → List Symbol → List Item → Result X Stop → Type 0
 ReadsAs IsText rest ss items (Ok x) =
@@ -136,7 +136,7 @@ abbrev pub others_of : List RawEq → List RawEq
 others_of [] = []
 others_of (e ∷ es) = es
 
--- the conclusions behind a first one
+-- the conclusions after a first one
 abbrev pub ReadsBars : {X : Type 0} → RawEq → (X → List RawEq) → (X → List Item) → List Item
     → Result X Stop → Type 0
 ReadsBars first made rest items (Ok x) =
@@ -145,7 +145,7 @@ ReadsBars first made rest items (Ok x) =
     × (length (rest x) ≤ length items)
 ReadsBars first made rest items (Err stop) = Stops (bars 1 ∷ []) items stop
 
--- the premises behind a first one, and the arrow behind them
+-- the premises after a first one, and the arrow after them
 abbrev pub ReadsPremises : {X : Type 0} → RawEq → (X → List RawEq) → (X → List Item) → List Item
     → Result X Stop → Type 0
 ReadsPremises first made rest items (Ok x) =
@@ -155,7 +155,7 @@ ReadsPremises first made rest items (Ok x) =
     × (length (rest x) ≤ length items)
 ReadsPremises first made rest items (Err stop) = Stops (commas 1 ∷ []) items stop
 
--- the goal's text behind its first word, before what stands behind it
+-- the goal's text after its first word, before what comes after it
 abbrev pub IsGoalText : RawGoal → List Marked → List Marked → Type 0
 IsGoalText g text after =
     (body : List Marked) × (text ≡ name_text None g.head (binds_text g.binds (sign Colon ∷ body)))

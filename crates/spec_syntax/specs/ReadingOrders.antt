@@ -10,7 +10,7 @@ use Rattle.spec_syntax.specs.declared.orders.OrderLines.{OrderLines}
 use Rattle.spec_syntax.specs.declared.stop.Stop.{Stop}
 use Rattle.spec_syntax.specs.declared.stop.Stop.TheVariants.{Fault, OutOfMemory}
 
--- an equal line behind its first word
+-- an equal line after its first word
 abbrev pub equal_symbols : List Symbol
 equal_symbols = name None ∷ key Comma ∷ name None ∷ more_equal ∷ []
 
@@ -23,7 +23,7 @@ AreNumbers [] text after = ⊥
 AreNumbers (i ∷ is) text after =
     text ≡ numeral_text (arity_mark 0) i (more_numbers_text 1 is after)
 
--- a status line behind its first word
+-- a status line after its first word
 abbrev pub status_symbols : List Symbol
 status_symbols =
     name None ∷ key LeftPar ∷ numeral (arity_mark 0) ∷ more_numbers 1 ∷ key RightPar ∷ []

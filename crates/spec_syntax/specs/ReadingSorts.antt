@@ -11,18 +11,18 @@ use Rattle.spec_grammar.specs.Symbols.{Symbol, key, name, names, sorts, run}
 use Rattle.spec_syntax.specs.declared.stop.Stop.{Stop}
 use Rattle.spec_syntax.specs.Reading.{Lacks, Stops}
 
--- constructors that begin a sort's list, before what stands behind them
+-- constructors that begin a sort's list, before what comes after them
 abbrev pub begun_text : ℕ → ℕ → List RawNames → List Marked → List Marked
 begun_text version t [] v = v
 begun_text version t (c ∷ cs) v =
     con_text (constructor_mark version 0 t) c (constructors_text version 1 (t + 1) cs v)
 
--- the symbols of a first constructor, where it is one of the n-th sort
+-- the symbols of a first constructor, if it is one of the n-th sort
 abbrev pub first_constructor : ℕ → ℕ → ℕ → List Symbol
 first_constructor version n t =
     name (constructor_mark version 0 t) ∷ names ∷ sorts version n 1 (t + 1) ∷ []
 
--- one more constructor behind a bar
+-- one more constructor after a bar
 abbrev pub ReadsConstructor : {X : Type 0} → ℕ → ℕ → ℕ → (X → RawNames) → (X → List Item)
     → List Item → Result (Option X) Stop → Type 0
 ReadsConstructor version k t made rest items (Ok (Some x)) =
@@ -46,7 +46,7 @@ ReadsConstructors version t made rest items (Ok x) =
 ReadsConstructors version t made rest items (Err stop) =
     (n : ℕ) → Stops (first_constructor version n t) items stop
 
--- a sort behind its first word
+-- a sort after its first word
 abbrev pub sort_symbols : ℕ → ℕ → ℕ → List Symbol
 sort_symbols version n t = name None ∷ key Equals ∷ first_constructor version n t
 

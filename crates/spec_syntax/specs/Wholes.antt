@@ -12,7 +12,7 @@ use Rattle.spec_syntax.specs.declared.stop.Stop.TheVariants as stops
 use Rattle.spec_syntax.specs.declared.fault.SyntaxFault.{SyntaxFault}
 use Rattle.spec_syntax.specs.declared.fault.SyntaxFault.TheVariants.{Text, Syntax, Limit, OutOfMemory}
 
--- the place where so many tokens are left
+-- the place where this many tokens are left
 abbrev pub place_left : List Token → ℕ → ℕ → ℕ
 place_left tokens left end = place_of (drop (length tokens - left) tokens) end
 
@@ -39,7 +39,7 @@ abbrev pub ReadsWhole : {R : Type 0} → (R → List Marked → Type 0) → List
 ReadsWhole IsText start items (Ok r) = IsText r (clean items)
 ReadsWhole IsText start items (Err stop) = IsStopOf start items stop
 
--- the same of the text's bytes, where a fault is told with its place
+-- the same of the text's bytes; a fault is reported with its place
 abbrev pub StopsAt : List Symbol → List ℕ → ℕ → Option LimitKind → Type 0
 StopsAt start bytes at why =
     (tokens : List Token) × (left : ℕ) × AreTokens bytes tokens

@@ -69,7 +69,7 @@ impl<'a> Source<'a> {
         self.after_key(tokens, Key::Comma).is_some() || self.after_key(tokens, Key::Arrow).is_some()
     }
 
-    /// The premises behind the first one, and the arrow behind them.
+    /// The premises after the first one, and the arrow after them.
     fn premises<'t>(
         &self,
         first: RawEq,
@@ -89,7 +89,7 @@ impl<'a> Source<'a> {
         Ok((made, closed))
     }
 
-    /// The arrow behind `n` premises, where no comma comes next.
+    /// The arrow after `n` premises, if no comma comes next.
     #[tactic(auto, unfolding(spec_grammar::specs::Symbols::run))]
     fn expect_arrow<'t>(&self, tokens: &'t [Token], n: usize) -> Result<&'t [Token], Stop>
         requires { Lacks Comma (items_of self.now.bytes.now tokens.now) }
@@ -100,7 +100,7 @@ impl<'a> Source<'a> {
         self.expect(tokens, Key::Arrow)
     }
 
-    /// The premise behind a comma, with `n` premises before it; None where no comma comes next.
+    /// The premise after a comma, with `n` premises before it; None if no comma comes next.
     #[tactic(auto, unfolding(spec_grammar::specs::Symbols::run))]
     fn next_premise<'t>(
         &self,
@@ -118,7 +118,7 @@ impl<'a> Source<'a> {
         Ok(Some((premise, rest)))
     }
 
-    /// The conclusions behind an arrow, if there are any.
+    /// The conclusions after an arrow, if there are any.
     #[tactic(auto, unfolding(spec_grammar::specs::Symbols::run))]
     fn conclusions<'t>(&self, tokens: &'t [Token]) -> Result<(Seq<RawEq>, &'t [Token]), Stop>
         ensures { Reads (λ x. conclusions_text x.0) (λ x. items_of self.now.bytes.now x.1.now)
@@ -131,7 +131,7 @@ impl<'a> Source<'a> {
         self.more_conclusions(first, rest)
     }
 
-    /// The conclusions behind the first one.
+    /// The conclusions after the first one.
     fn more_conclusions<'t>(
         &self,
         first: RawEq,
@@ -150,7 +150,7 @@ impl<'a> Source<'a> {
         Ok((made, rest))
     }
 
-    /// The conclusion behind a bar, with `n` conclusions before it; None where no bar comes next.
+    /// The conclusion after a bar, with `n` conclusions before it; None if no bar comes next.
     #[tactic(auto, unfolding(spec_grammar::specs::Symbols::run))]
     fn next_conclusion<'t>(
         &self,

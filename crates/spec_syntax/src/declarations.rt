@@ -36,7 +36,7 @@ impl<'a> Source<'a> {
         Ok((made, closed))
     }
 
-    /// The name behind a comma, with `n` names before it; None where no comma comes next.
+    /// The name after a comma, with `n` names before it; None if no comma comes next.
     #[tactic(auto, unfolding(spec_grammar::specs::Symbols::run))]
     fn next_name<'t>(
         &self,
@@ -54,7 +54,7 @@ impl<'a> Source<'a> {
         Ok(Some((name, rest)))
     }
 
-    /// A name, in a place that may pass a limit, and the names in parentheses behind it.
+    /// A name, in a place that may pass a limit, and the names in parentheses after it.
     pub(crate) fn head<'t>(
         &self,
         tokens: &'t [Token],
@@ -88,7 +88,7 @@ impl<'a> Source<'a> {
         Ok((made, rest))
     }
 
-    /// The next function, with `n` functions before it; None where none comes next.
+    /// The next function, with `n` functions before it; None if none comes next.
     #[tactic(auto, unfolding(spec_grammar::specs::Symbols::run))]
     fn next_function<'t>(
         &self,
@@ -114,7 +114,7 @@ impl<'a> Source<'a> {
         Ok(Some((function, rest)))
     }
 
-    /// A function behind its first word.
+    /// A function after its first word.
     fn function<'t>(&self, tokens: &'t [Token]) -> Result<(RawFun, &'t [Token]), Stop>
         ensures { Reads (λ x v. con_text None x.0.head (sign Colon ∷ name_text None x.0.result v))
             (λ x. items_of self.now.bytes.now x.1.now)
@@ -152,7 +152,7 @@ impl<'a> Source<'a> {
         Ok((made, rest))
     }
 
-    /// The next rule, with `n` rules before it; None where none comes next.
+    /// The next rule, with `n` rules before it; None if none comes next.
     #[tactic(auto, unfolding(spec_grammar::specs::Symbols::run))]
     fn next_rule<'t>(
         &self,
@@ -174,7 +174,7 @@ impl<'a> Source<'a> {
         Ok(Some((rule, rest)))
     }
 
-    /// A rule behind its first word.
+    /// A rule after its first word.
     fn rule<'t>(&self, tokens: &'t [Token]) -> Result<(RawRule, &'t [Token]), Stop>
         ensures { Reads (λ x v. sides_text None x.0.left x.0.right (guards_text 0 x.0.guards v))
             (λ x. items_of self.now.bytes.now x.1.now) (sides_then None (guards_symbol 0 ∷ []))
@@ -205,7 +205,7 @@ impl<'a> Source<'a> {
         Ok((made, rest))
     }
 
-    /// The next guard, with `n` guards before it; None where none comes next.
+    /// The next guard, with `n` guards before it; None if none comes next.
     #[tactic(auto, unfolding(spec_grammar::specs::Symbols::run))]
     fn next_guard<'t>(
         &self,

@@ -28,7 +28,7 @@ impl<'a> Source<'a> {
         Ok((made, rest))
     }
 
-    /// The next goal, with `n` goals before it; None where none comes next.
+    /// The next goal, with `n` goals before it; None if none comes next.
     #[tactic(auto, unfolding(spec_grammar::specs::Symbols::run))]
     fn next_goal<'t>(
         &self,
@@ -46,7 +46,7 @@ impl<'a> Source<'a> {
         Ok(Some((goal, rest)))
     }
 
-    /// A goal behind its first word.
+    /// A goal after its first word.
     fn goal<'t>(&self, tokens: &'t [Token]) -> Result<(RawGoal, &'t [Token]), Stop>
         ensures { ReadsAs (λ x. IsGoalText x.0) (λ x. items_of self.now.bytes.now x.1.now)
             (goal_symbols []) (items_of self.now.bytes.now tokens.now) result }
@@ -88,7 +88,7 @@ impl<'a> Source<'a> {
         Ok((made, closed))
     }
 
-    /// The binding behind a comma, with `n` bindings before it; None where no comma comes next.
+    /// The binding after a comma, with `n` bindings before it; None if no comma comes next.
     #[tactic(auto, unfolding(spec_grammar::specs::Symbols::run))]
     fn next_bind<'t>(
         &self,

@@ -68,7 +68,7 @@ impl<'a> Source<'a> {
         Ok((made, rest))
     }
 
-    /// The next equal line; None where none comes next.
+    /// The next equal line; None if none comes next.
     #[tactic(auto, unfolding(spec_grammar::specs::Symbols::run))]
     fn next_equal<'t>(&self, tokens: &'t [Token]) -> Result<Option<(RawEqual, &'t [Token])>, Stop>
         ensures { ReadsNextAs (λ x. AreEquals (x.0 ∷ [])) (λ x. items_of self.now.bytes.now x.1.now)
@@ -81,7 +81,7 @@ impl<'a> Source<'a> {
         Ok(Some((equal, rest)))
     }
 
-    /// An equal line behind its first word, with two names at least.
+    /// An equal line after its first word, with two names at least.
     fn equal<'t>(&self, tokens: &'t [Token]) -> Result<(RawEqual, &'t [Token]), Stop>
         ensures { ReadsAs (λ x text. AreEquals (x.0 ∷ []) (sign Equal ∷ text))
             (λ x. items_of self.now.bytes.now x.1.now) equal_symbols
@@ -100,7 +100,7 @@ impl<'a> Source<'a> {
         Ok((RawEqual { names }, rest))
     }
 
-    /// The name behind a comma of an equal line; None where no comma comes next.
+    /// The name after a comma of an equal line; None if no comma comes next.
     #[tactic(auto, unfolding(spec_grammar::specs::Symbols::run))]
     fn next_equal_name<'t>(
         &self,
@@ -131,7 +131,7 @@ impl<'a> Source<'a> {
         Ok((made, rest))
     }
 
-    /// The next status line; None where none comes next.
+    /// The next status line; None if none comes next.
     #[tactic(auto, unfolding(spec_grammar::specs::Symbols::run))]
     fn next_status<'t>(&self, tokens: &'t [Token]) -> Result<Option<(RawStatus, &'t [Token])>, Stop>
         ensures { ReadsNextAs (λ x. AreStatuses (x.0 ∷ []))
@@ -145,7 +145,7 @@ impl<'a> Source<'a> {
         Ok(Some((status, rest)))
     }
 
-    /// A status line behind its first word.
+    /// A status line after its first word.
     fn status<'t>(&self, tokens: &'t [Token]) -> Result<(RawStatus, &'t [Token]), Stop>
         ensures { ReadsAs (λ x text. AreStatuses (x.0 ∷ []) (sign Status ∷ text))
             (λ x. items_of self.now.bytes.now x.1.now) status_symbols
@@ -174,7 +174,7 @@ impl<'a> Source<'a> {
         Ok((made, rest))
     }
 
-    /// The number behind a comma, with `n` numbers before it; None where no comma comes next.
+    /// The number after a comma, with `n` numbers before it; None if no comma comes next.
     #[tactic(auto, unfolding(spec_grammar::specs::Symbols::run))]
     fn next_number<'t>(
         &self,
@@ -225,7 +225,7 @@ impl<'a> Source<'a> {
         Ok((made, rest))
     }
 
-    /// The weight after a comma; None where no comma comes next.
+    /// The weight after a comma; None if no comma comes next.
     #[tactic(auto, unfolding(spec_grammar::specs::Symbols::run))]
     fn next_weight<'t>(&self, tokens: &'t [Token]) -> Result<Option<(RawWeight, &'t [Token])>, Stop>
         ensures { ReadsNext (λ x v. sign Comma ∷ weight_text x.0 v)

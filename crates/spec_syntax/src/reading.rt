@@ -149,7 +149,7 @@ impl<'a> Source<'a> {
         }
     }
 
-    /// The place of the first of so many tokens that are left, or the end of the text.
+    /// The place of the first of this many tokens that are left, or the end of the text.
     fn place(&self, tokens: &[Token], left: usize) -> usize
         ensures { result ≡ place_left tokens.now left (length self.now.bytes.now) }
     {

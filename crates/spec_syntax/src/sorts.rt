@@ -47,7 +47,7 @@ impl<'a> Source<'a> {
         Ok((made, rest))
     }
 
-    /// The next sort, with `n` sorts and `total` constructors before it; None where none comes
+    /// The next sort, with `n` sorts and `total` constructors before it; None if none comes
     /// next.
     fn next_sort<'t>(
         &self,
@@ -68,7 +68,7 @@ impl<'a> Source<'a> {
         Ok(Some((sort, rest)))
     }
 
-    /// A sort behind its first word, with `total` constructors before it.
+    /// A sort after its first word, with `total` constructors before it.
     fn sort<'t>(
         &self,
         tokens: &'t [Token],
@@ -111,8 +111,8 @@ impl<'a> Source<'a> {
         Ok((made, rest))
     }
 
-    /// The constructor behind a bar, with `k` constructors of its sort before it and `total` before
-    /// these; None where no bar comes next.
+    /// The constructor after a bar, with `k` constructors of its sort before it and `total` before
+    /// these; None if no bar comes next.
     fn next_constructor<'t>(
         &self,
         tokens: &'t [Token],

@@ -63,7 +63,7 @@ impl<'a> Source<'a> {
         Ok((made, closed))
     }
 
-    /// The argument behind a comma, with `n` arguments before it; None where no comma comes next.
+    /// The argument after a comma, with `n` arguments before it; None if no comma comes next.
     #[cycle(term)]
     #[tactic(auto, unfolding(spec_grammar::specs::Symbols::run))]
     fn next_argument<'t>(

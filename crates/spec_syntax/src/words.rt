@@ -19,7 +19,7 @@ pub(crate) struct Source<'a> {
     pub(crate) bytes: &'a [u8],
 }
 
-/// The limit that the item of number `n`, from 0, passes where at most `most` are allowed.
+/// The limit that the item of number `n`, from 0, passes if at most `most` are allowed.
 pub(crate) fn over(n: usize, most: usize, why: LimitKind) -> Option<LimitKind>
     ensures { result ≡ over_limit n most why }
 {
@@ -57,7 +57,7 @@ fn reserved(word: &[u8]) -> Option<Key>
     }
 }
 
-/// The key that a token of this text is; None where it is a name or a number.
+/// The key that a token of this text is; None if it is a name or a number.
 fn key_of(kind: TokenKind, text: &[u8]) -> Option<Key>
     ensures { result ≡ key_of_token kind text.now }
 {
@@ -101,7 +101,7 @@ impl<'a> Source<'a> {
         Stop::Fault(tokens.len(), why)
     }
 
-    /// What follows the key, where it stands at the front.
+    /// What follows the key, if it is at the front.
     pub(crate) fn after_key<'t>(&self, tokens: &'t [Token], key: Key) -> Option<&'t [Token]>
         ensures { MatchOption result (Lacks key (items_of self.now.bytes.now tokens.now))
             (λ rest. items_of self.now.bytes.now tokens.now
@@ -136,7 +136,7 @@ impl<'a> Source<'a> {
         }
     }
 
-    /// Stops where the item at the front is one too many.
+    /// Stops if the item at the front is one too many.
     pub(crate) fn within(&self, tokens: &[Token], over: Option<LimitKind>) -> Result<(), Stop>
         ensures { MatchResult result (λ _. over ≡ None)
             (λ stop. IsPassed over (length (items_of self.now.bytes.now tokens.now)) stop) }

@@ -1,4 +1,4 @@
--- The scanner finds a first token exactly where one is spelled.
+-- The scanner finds a first token if and only if one is spelled.
 use Rattle.std.proofs.Common.{◌≡◌, ◌⊎◌, inl, inr, ℕ, ◌<◌, List, [], ◌∷◌, ◌++◌, Option, Some, None, Bool, true, false, cond, length, refl, ap, sym, subst, ◌∙◌, arith, lit<}
 use Rattle.std.specs.Prelude.{◌==◌}
 use Rattle.std.specs.Str.Parse.{AllDigits}
@@ -63,7 +63,7 @@ digit_stays c cs d =
 digit_starts_not : (c : ℕ) → Digit c → starts c ≡ false
 digit_starts_not c d = not_true (starts c) (λ s. digit_false c s d)
 
--- the scanner finds this token at the front, where no gap is
+-- the scanner finds this token at the front, if no gap is there
 abbrev pub Found : TokenKind → List ℕ → List ℕ → Type 0
 Found kind cs after = (first_token cs ≡ Some (kind, after)) × (skip_gaps false cs ≡ cs)
 
@@ -109,7 +109,7 @@ spelled_found Equals text after s l = sign_found Equals 61 text after s (equals_
 spelled_found Bar text after s l = sign_found Bar 124 text after s (rw (starts_not 124 (lit< tt) refl) refl, refl)
 spelled_found Arrow text after s l = subst (λ (xs : List ℕ). Found Arrow (xs ++ after) after) (sym s) (rw (starts_not 61 (lit< tt) refl) refl, refl)
 
--- where the scanner finds none
+-- if the scanner finds none
 abbrev pub Faulty : ℕ → List ℕ → Type 0
 Faulty c cs = BeginsNothing c ⊎ IsLongNumber (c ∷ cs)
 

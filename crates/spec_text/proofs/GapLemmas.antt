@@ -25,7 +25,7 @@ gap_skipped nothing xs = refl
 gap_skipped (blank c b g) xs = rw b (gap_skipped g xs)
 gap_skipped (comment {cs} text t g) xs = ap (skip_gaps true) (append_assoc text (10 ∷ cs) xs) ∙ comment_skipped text t (cs ++ xs) ∙ gap_skipped g xs
 
--- behind a gap, this neither goes on with it nor is empty
+-- after a gap, this neither goes on with it nor is empty
 abbrev pub Behind : List ℕ → ℕ → List ℕ → Type 0
 Behind cs x xs = (gap : List ℕ) × (cs ≡ gap ++ (x ∷ xs)) × IsGap gap × (is_blank x ≡ false) × ((x == 35) ≡ false)
 

@@ -200,7 +200,7 @@ equal_goes_on c cs e (sign j f n) = inl n
 equal_goes_on c cs e (equal f n) = inl n
 equal_goes_on c cs e (arrow f n) = inr n
 
--- a text is longest where the next character may not go on with it
+-- a text is longest if the next character may not go on with it
 pub longest_run : (P : ℕ → Type 0) (text rest : List ℕ) → Stops P rest → ((d : ℕ) (more : List ℕ) → IsLexeme (text ++ (d ∷ more)) → P d) → IsLongest text rest
 longest_run P text rest s f [] others e l = refl
 longest_run P text [] s f (d ∷ more) others e l = absurd (nil_cons e)
@@ -310,7 +310,7 @@ too_long k v (c ∷ cs) e = long_step (is_digit c) (nat_le 6 k) k v c cs (digits
 abbrev pub Spelled : TokenKind → List ℕ → List ℕ → Type 0
 Spelled kind cs after = (text : List ℕ) × (cs ≡ text ++ after) × IsSpelling kind text × IsLongest text after
 
--- each kind of token is longest where the next character can't go on with it
+-- each kind of token is longest if the next character can't go on with it
 pub word_longest : (c : ℕ) (name rest : List ℕ) → IsTrue (starts c) → Stops Continues rest → IsLongest (c ∷ name) rest
 word_longest c name rest s ends = longest_run Continues (c ∷ name) rest ends (λ d more l. all_after Continues name d more (word_goes_on c (name ++ (d ∷ more)) s (shape c (name ++ (d ∷ more)) l)))
 

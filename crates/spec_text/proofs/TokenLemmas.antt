@@ -69,7 +69,7 @@ token_is t u a b c = λ i. record { kind = a i; at = b i; len = c i }
 same_first : {a b : TokenKind} {x y : List ℕ} → ◌≡◌ {A = Option (TokenKind × List ℕ)} (Some (a, x)) (Some (b, y)) → (a ≡ b) × (x ≡ y)
 same_first {a} {b} {x} {y} e = let q : ◌≡◌ {A = TokenKind × List ℕ} (a, x) (b, y) = some_is e in (ap (λ (p : TokenKind × List ℕ). p.0) q, ap (λ (p : TokenKind × List ℕ). p.1) q)
 
--- no token begins behind these
+-- no token begins after these
 abbrev Stuck : List ℕ → Type 0
 Stuck rest = first_token (skip_gaps false rest) ≡ None
 

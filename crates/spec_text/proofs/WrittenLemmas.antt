@@ -227,7 +227,7 @@ number_sound gap n b h =
     let h = ascii_spelled (Number n) (decimal n) (IsAscii-decimal n wide) (numeral.0, short, sym numeral.1) in
     (b, h.0, h.1)
 
--- pieces behind pieces: between the two there is a gap, or a sign stands second
+-- pieces after pieces: between the two there is a gap, or the second is a sign
 apart_all : (kind : TokenKind) (ws : List Written) → Apart Word ws → Apart kind ws
 apart_all kind [] h = tt
 apart_all kind (w ∷ ws) h = by kind w.gap w.kind h

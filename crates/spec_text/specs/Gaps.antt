@@ -1,4 +1,4 @@
--- What may stand between two tokens, as lists of characters.
+-- What may come between two tokens, as lists of characters.
 use Rattle.std.specs.Prelude.{◌≡◌, ◌≢◌, ◌⊎◌, ℕ, List, [], ◌∷◌, ◌++◌, ◌==◌, ◌||◌, Bool, IsTrue}
 use Rattle.std.specs.List.{AllByRecursion}
 
@@ -6,7 +6,7 @@ use Rattle.std.specs.List.{AllByRecursion}
 abbrev pub is_blank : ℕ → Bool
 is_blank c = (c == 32) || (c == 9) || (c == 13) || (c == 10)
 
--- the characters of a comment behind its #
+-- the characters of a comment after its #
 abbrev pub IsComment : List ℕ → Type 0
 IsComment cs = AllByRecursion (λ c. c ≢ 10) cs
 
@@ -17,7 +17,7 @@ pub data IsGap : List ℕ → Type 0 where
   comment : {cs : List ℕ} (text : List ℕ) → IsComment text → IsGap cs
       → IsGap (35 ∷ (text ++ (10 ∷ cs)))
 
--- What may stand behind the last token: a gap, and a comment up to the end of the text.
+-- What may come after the last token: a gap, and a comment up to the end of the text.
 abbrev pub IsLastGap : List ℕ → Type 0
 IsLastGap cs = IsGap cs ⊎ ((gap : List ℕ) × (text : List ℕ)
     × (cs ≡ gap ++ (35 ∷ text)) × IsGap gap × IsComment text)

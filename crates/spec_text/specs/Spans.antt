@@ -1,4 +1,4 @@
--- Where the tokens of a text stand in it.
+-- Where the tokens of a text are in it.
 use Rattle.std.specs.Prelude.{ℕ, ◌+◌, ◌≤◌, List, [], ◌∷◌, length, take, drop}
 use Rattle.std.specs.Str.{chars, IsUtf8}
 use Rattle.std.specs.List.{AllByRecursion}

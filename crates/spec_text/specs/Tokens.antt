@@ -31,7 +31,7 @@ abbrev pub AreTokens : List ℕ → List Token → Type 0
 AreTokens bs ts =
     IsUtf8 bs × ((rest : List ℕ) × Scans (size (chars bs)) (chars bs) ts rest × IsLastGap rest)
 
--- Behind some tokens of the characters and a gap, at this place, a character begins nothing or a
+-- After some tokens of the characters and a gap, at this place, a character begins nothing or a
 -- number is too long.
 pub record HasFault (cs : List ℕ) (at : ℕ) : Type 0 where
   pub before : List Token
@@ -60,7 +60,7 @@ IsFault at (Ok x) = ⊥
 IsFault at (Err errors.OutOfMemory) = Unit {0}
 IsFault at (Err (errors.Text place)) = place ≡ at
 
--- where the error is a fault of the text, its place is right
+-- if the error is a fault of the text, its place is right
 abbrev pub TellsFault : List ℕ → ScanError → Type 0
 TellsFault bs errors.OutOfMemory = Unit {0}
 TellsFault bs (errors.Text at) = IsTextFault bs at

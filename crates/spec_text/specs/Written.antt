@@ -1,4 +1,4 @@
--- A text as pieces that are written one behind the other.
+-- A text as pieces that are written one after the other.
 use Rattle.std.specs.Prelude.{ℕ, ◌+◌, List, [], ◌∷◌, ◌++◌, IsTrue, length, codes}
 use Rattle.std.specs.Fmt.{decimal}
 use Rattle.std.specs.Str.{chars, IsUtf8}
@@ -26,7 +26,7 @@ sign_text Bar = codes "|"
 sign_text Arrow = codes "=>"
 sign_text _ = []
 
--- a word, a number and a sign behind a gap
+-- a word, a number and a sign after a gap
 abbrev pub word_piece : List ℕ → List ℕ → Written
 word_piece gap name = record { gap = gap; text = name; kind = Word }
 
@@ -51,13 +51,13 @@ placed n (w ∷ ws) = record { kind = w.kind; at = n + length w.gap; len = lengt
 abbrev pub AllBlank : List ℕ → Type 0
 AllBlank bs = AllByRecursion (λ b. IsTrue (is_blank b)) bs
 
--- a sign, which may stand next to each token
+-- a sign, which may be next to each token
 abbrev pub IsSignKind : TokenKind → Type 0
 IsSignKind Word = ⊥
 IsSignKind (Number n) = ⊥
 IsSignKind _ = Unit {0}
 
--- the second token may stand next to the first, with nothing between them
+-- the second token may be next to the first, with nothing between them
 abbrev pub MayTouch : TokenKind → TokenKind → Type 0
 MayTouch Word next = IsSignKind next
 MayTouch (Number n) next = IsSignKind next
@@ -68,7 +68,7 @@ abbrev pub PartedOr : List ℕ → Type 0 → Type 0
 PartedOr [] P = P
 PartedOr (b ∷ bs) P = Unit {0}
 
--- behind a token of this kind come no pieces, or a gap, or a token that may stand next to it
+-- after a token of this kind come no pieces, or a gap, or a token that may be next to it
 abbrev pub Apart : TokenKind → List Written → Type 0
 Apart kind [] = Unit {0}
 Apart kind (w ∷ ws) = PartedOr w.gap (MayTouch kind w.kind)

@@ -35,7 +35,7 @@ fn name_len(text: &str) -> usize
     }
 }
 
-/// The length in bytes of the longest name that begins at this byte of the text, and 0 where none
+/// The length in bytes of the longest name that begins at this byte of the text, and 0 if none
 /// does.
 pub fn name_at(text: &str, at: usize) -> usize
     requires { IsCharBoundary text.now at }

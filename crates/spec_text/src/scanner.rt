@@ -142,7 +142,7 @@ fn scan_all(alloc: Global, bytes: &[u8]) -> Result<Vec<Token>, ScanError>
 }
 
 /// The tokens of a text, in order. Bytes that aren't UTF-8 are found before every other fault, also
-/// inside a comment and also where another fault stands earlier.
+/// inside a comment and also if another fault comes earlier.
 pub fn scan(alloc: Global, bytes: &[u8]) -> Result<Vec<Token>, ScanError>
     ensures found { IfOk result (λ ts. AreTokens bytes.now ts.items) }
     ensures fault { IfErr result (λ e. TellsFault bytes.now e) }

@@ -8,7 +8,7 @@ use spike_cli::{Status, run};
 use std::process::ExitCode;
 use std::{env, io};
 
-/// The exit status where a word isn't UTF-8, so that `run` isn't called.
+/// The exit status if a word isn't UTF-8, so that `run` isn't called.
 const WORDS_NOT_UTF8: u8 = 9;
 
 fn main(rt: HostRuntime) -> ExitCode {
@@ -22,7 +22,7 @@ fn main(rt: HostRuntime) -> ExitCode {
     ExitCode::from(status.code())
 }
 
-/// The words after the program's name, or the exit status where they can't be had.
+/// The words after the program's name, or the exit status if they can't be had.
 fn words_of(rt: &(impl env::Env + AllocGlobal)) -> Result<Vec<String>, u8> {
     let mut words = Vec::new(rt.alloc());
     let args = env::args(rt).map_err(|error| match error.kind() {

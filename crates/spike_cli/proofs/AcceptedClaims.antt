@@ -25,7 +25,7 @@ use Rattle.spike_cli.specs.Lemmas.{AreLemmas}
 use Rattle.spike_cli.proofs.ProvedGoals.{proved_known}
 use Rattle.spike_cli.proofs.TrueClaims.{proves_behind}
 
--- the items before one, and those behind it
+-- the items before one, and those after it
 parts :
     {X : Type 0} (xs : List X) (i : ℕ) (x : X) → slice_get xs i ≡ Some x →
     take i xs ++ x ∷ drop (suc i) xs ≡ xs
@@ -36,7 +36,7 @@ parts (y ∷ xs) (suc i) x at = ap (λ zs. y ∷ zs) (parts xs i x at)
 module _
     (spec : Spec) (behind : ProvesBehindClaims (above_of spec)) (bounds : ProofBounds)
     (fine : IsWellSorted spec) where
-  -- what is claimed is shown, where the lemmas are proved by the claims before it
+  -- what is claimed is shown, if the lemmas are proved by the claims before it
   outcome_is_shown :
       (lemmas : List ℕ) (goal : Goal) (before : List Claim) →
       ((number : ℕ) → Contains lemmas number → ProvedBefore spec before number) →

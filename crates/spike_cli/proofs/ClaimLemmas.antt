@@ -82,7 +82,7 @@ status_more claims claim s h =
 module _ (bounds : ProofBounds) (spec : Spec) where
   module _ (lemmas : List ℕ) (goal : Goal) (claim : Claim)
       (c : IsClaimOn bounds spec lemmas goal claim) where
-    -- a claim is refuted exactly where its goal is refutable
+    -- a claim is refuted if and only if its goal is refutable
     pub refuted_refutable : IsRefuted claim.outcome → IsRefutable bounds spec goal
     refuted_refutable r = by c.search claim.outcome c.exact c.outcome r
       where
@@ -110,7 +110,7 @@ module _ (bounds : ProofBounds) (spec : Spec) where
             slice_get_within (substitutions spec goal bounds.search.depth) r.0 r.1 r.3 in
             absurd (f.2 r.0 r.1 (omega (arith, f.0, r.2, within)) r.3 r.4)
 
-    -- an open one isn't provable, and a proved one is, where all goals so far are the lemmas
+    -- an open one isn't provable, and a proved one is, if all goals so far are the lemmas
     module _ (number : ℕ) (all : lemmas ≡ range_with_len 0 number) where
       open_unprovable : IsOpen claim.outcome → IsProvable bounds spec number goal → ⊥
       open_unprovable left_open has = by c.search claim.outcome c.outcome left_open has
@@ -179,9 +179,9 @@ module _ (bounds : ProofBounds) (spec : Spec) where
   is_open_or_not (Refuted index values) = inr (λ h. h)
   is_open_or_not (Open budget) = inl tt
 
-  -- where each claim so far proves its goal: the first goal that is left open isn't provable over
+  -- if each claim so far proves its goal: the first goal that is left open isn't provable over
   -- all
-  -- goals before it, and where no claim is open, each goal is provable so
+  -- goals before it, and if no claim is open, each goal is provable so
   module _ (Holds : ℕ → Goal → Type 0) where
     later :
         (k : ℕ) (before : List Claim) (claim : Claim) (goals : List Goal) → length before ≡ k →

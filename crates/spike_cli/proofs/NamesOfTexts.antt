@@ -1,4 +1,4 @@
--- Names of a raw specification that a text derives are words of the text, so that they may stand in a report.
+-- Names of a raw specification that a text derives are words of the text, so that they may appear in a report.
 use Rattle.std.proofs.Common.{◌≡◌, ℕ, ◌+◌, ◌≤◌, List, [], ◌∷◌, inl, inr, Option, Some, None, Bool, true, false, cond, nat_le, ◌||◌, length, map, codes, refl, sym, ◌∙◌, subst}
 use Rattle.std.specs.List.{AllByRecursion, list_any}
 use Rattle.std.specs.Str.{bytes_eq}
@@ -72,7 +72,7 @@ short_by false n m e h = absurd (let q : Some limit.Name ≡ None = h in cc)
 word_stands : (name : List ℕ) (at : ℕ) (m : Option LimitKind) → IsGood (Word name at) → name_mark name m ≡ None → IsReportName name
 word_stands name at m good unmarked = report_name name (short_by (nat_le (length name) 64) (length name) m refl unmarked) (free_name name good.2) (good.0, good.1)
 
--- each word of a term may stand in a report
+-- each word of a term may appear in a report
 abbrev mutual
   pub WordsStand : RawTree → Type 0
   WordsStand (word name at ts) = IsReportName name × AllWordsStand ts
@@ -105,7 +105,7 @@ pub record RawNamesStand (raw : RawSpec) : Type 0 where
   pub functions : AllByRecursion (λ (f : RawFun). IsReportName f.head.name) raw.funs
   pub goals : AllByRecursion GoalWordsStand raw.goals
 
--- Each part of a text, with what stands behind it.
+-- Each part of a text, with what comes after it.
 mutual
   term_words : (d : ℕ) (m : Option LimitKind) (t : RawTree) (v : List Marked) → AllGood (term_text d m t v) → WordsStand t × AllGood v
   term_words d m (word b a ts) v h = let args = args_words d ts v h.2 in ((word_stands b a m h.0 h.1, args.0), args.1)
@@ -233,7 +233,7 @@ goals_words n (g ∷ gs) text v (clause, after, is, are_clause, are) h =
     let goal : GoalWordsStand g = record { name = word_stands g.head.name g.head.at None good.2.0 good.2.1; binds = binds.0; premises = sides.0; conclusions = sides.1 } in
     (goal, goals_words (n + 1) gs after v are sides.2)
 
--- what stands behind the lines that order functions
+-- what comes after the lines that order functions
 more_equal_behind : (xs : List RawName) (v : List Marked) → AllGood (more_equal_text xs v) → AllGood v
 more_equal_behind [] v h = h
 more_equal_behind (x ∷ xs) v h = more_equal_behind xs v h.2.2

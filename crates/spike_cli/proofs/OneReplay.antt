@@ -1,4 +1,4 @@
--- What the bytes of a report lead to is one thing, where what is written for an accepted one is.
+-- What the bytes of a report lead to is one thing, if what is written for an accepted one is.
 use Rattle.std.proofs.Common.{◌≡◌, ℕ, List, ap, refl, sym, subst, ◌∙◌}
 use Rattle.std.specs.Prelude.{codes}
 use Rattle.spec_core.specs.declared.records.Spec.{Spec}

@@ -1,5 +1,5 @@
 -- Claims on the goals of one specification, with the same bounds: what is seen of them is one list,
--- where the same is seen of any two proofs of a goal.
+-- if the same is seen of any two proofs of a goal.
 use Rattle.std.proofs.Common.{◌≡◌, ◌∙◌, ℕ, ◌+◌, List, [], ◌∷◌, ◌++◌, Bool, Some, inl, inr, refl, ap, map, sym, subst, take, length, length-append, append-nil, arith}
 use Rattle.std.specs.Prelude.{slice_get}
 use Rattle.std.proofs.lemmas.Bool.{cases_order}
@@ -38,7 +38,7 @@ module _ (spec : Spec) (goal : Goal) (budget : ℕ) where
   one_count (row ∷ rows) m n (inr a) (inr b) = one_count rows m n a.1 b.1
 
   module _ (tries : ℕ) (rows : List (List Tree)) where
-    -- where a row is found, no search answers that there is none
+    -- if a row is found, no search answers that there is none
     found_or_not :
         (index : ℕ) (row : List Tree) (tried skipped : ℕ) (cut : Bool) →
         Finds spec goal budget tries rows (Found index row) →
@@ -95,7 +95,7 @@ module _ {X : Type 0} (seen : Claim → X) (bounds : ProofBounds) (spec : Spec) 
       seen (record { goal = name; outcome = Proved a })
       ≡ seen (record { goal = name; outcome = Proved b })
 
-  -- where the same is seen, the same goals are proved
+  -- if the same is seen, the same goals are proved
   abbrev pub SeesProved : Type 0
   SeesProved =
       (number : ℕ) (c d : Claim) → seen c ≡ seen d →
@@ -144,7 +144,7 @@ module _ {X : Type 0} (seen : Claim → X) (bounds : ProofBounds) (spec : Spec) 
           ap (λ n. seen (record { goal = n; outcome = c.outcome })) name
           ∙ outcomes a.search d.goal c.outcome d.outcome a.outcome moved
 
-    -- claims on the first goals are seen first among claims on all goals, where before them as many
+    -- claims on the first goals are seen first among claims on all goals, if before them as many
     -- goals have claims and the same are proved
     first_seen :
         (before others : List Claim) (goals : List Goal) (cs ds : List Claim) →

@@ -28,7 +28,7 @@ module _ {A R : Type 0} (is : A → R → Type 0) where
       let q = first_item items r p.1 in
       (q.0, inr q.1, q.2)
 
--- a goal has a routine proof exactly where there is a first one
+-- a goal has a routine proof if and only if there is a first one
 module _ (bounds : ProofBounds) (spec : Spec) (lemmas : List ℕ) (goal : Goal) where
   pub has_first :
       (steps : List Step) → IsFirstProof (above_of spec) spec lemmas goal bounds.nodes (Some steps) →
@@ -70,7 +70,7 @@ pub proved_more :
 proved_more [] claim all here = (here, tt)
 proved_more (c ∷ claims) claim all here = (all.0, proved_more claims claim all.1 here)
 
--- where all claims prove their goals, these are all goals so far
+-- if all claims prove their goals, these are all goals so far
 pub all_proved :
     (k : ℕ) (claims : List Claim) → AreProved claims →
     proved_from k claims ≡ range_with_len k (length claims)
@@ -136,7 +136,7 @@ of_goal k number (g ∷ goals) (c ∷ claims) e i =
     by (Refuted index values) e name later i = later i
     by (Open budget) e name later i = later i
 
--- so the goals that claims on the first goals prove may be used behind them
+-- so the goals that claims on the first goals prove may be used after them
 pub proved_known :
     (spec : Spec) (seen others : List Goal) (claims : List Claim) → seen ++ others ≡ spec.goals →
     claimed_names claims ≡ goal_names seen → (number : ℕ) → Contains (proved_goals claims) number →

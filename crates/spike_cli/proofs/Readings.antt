@@ -62,7 +62,7 @@ module _ (old new : Option (List ℕ)) (writes writes' reads reads' : ℕ) where
         (stop_of error) is (reads_nothing IsWhole IsPart (Err (stop_of error))
         (piece_stopped IsPart old new writes writes' line error may prefix failed))
 
--- what a command did, where it is this one
+-- what a command did, if it is this one
 pub of_command :
     (held : List ℕ → Option (List ℕ)) (raw : RawSpec) (spec : Spec) (command other : Command) →
     command ≡ other → (old new : Option (List ℕ)) (writes writes' reads reads' : ℕ)

@@ -1,4 +1,4 @@
--- A call on an accepted file that isn't too long ends on it, where nothing fails.
+-- A call on an accepted file that isn't too long ends on it, if nothing fails.
 use Rattle.std.proofs.Common.{◌≡◌, ◌∙◌, ◌<◌, ◌≤◌, ℕ, List, Option, Some, inl, inr, refl, ap, subst, arith, length}
 use Rattle.std.specs.Prelude.{IfSome}
 use Rattle.io_core.specs.Count.{Rose}

@@ -44,7 +44,7 @@ use Rattle.spike_cli.specs.Within.{AreWithin, HasReports}
 use Rattle.spike_cli.proofs.ProvedGoals.{first_item}
 
 module _ (sig : Sig) where
-  -- symbols that may stand in a report are the signature's
+  -- symbols that may appear in a report are the signature's
   mutual
     symbols_in_range : (t : Tree) → SymbolsStand sig t → SymbolsAreInRange sig t
     symbols_in_range (var n) h = tt
@@ -147,7 +147,7 @@ module _
     (spec : Spec) (stand : PlainBlocksStand (above_of spec))
     (routine : RoutineBlocksStand (above_of spec)) (bounds : ProofBounds)
     (reports : HasReports spec) (within : AreWithin bounds) where
-  -- the block of a proved claim: its steps may stand, there are few of them, and the text is short
+  -- the block of a proved claim: its steps may appear, there are few of them, and the text is short
   record BlockStands (goal : Goal) (block : Block) : Type 0 where
     stands : AllByRecursion (StepStands spec.sig) block.steps
     few : length block.steps ≤ 10000
@@ -206,7 +206,7 @@ module _
       by (NotFound tried skipped cut) (Refuted index values) f is = absurd is
       by (NotFound tried skipped cut) (Open budget) f is = open_in_range spec claim.goal budget
 
-  -- what is claimed of a goal may stand in a report
+  -- what is claimed of a goal may appear in a report
   outcome_stands :
       (lemmas : List ℕ) (goal : Goal) → GoalIsSorted spec.sig goal → GoalNamesStand goal →
       (search : Search) (o : Outcome) →

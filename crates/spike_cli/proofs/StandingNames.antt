@@ -1,4 +1,4 @@
--- Names of a specification that a text stands for may stand in a report.
+-- Names of a specification that a text stands for may appear in a report.
 use Rattle.std.proofs.Common.{ℕ, ◌≤◌, ◌<◌, List, [], ◌∷◌, ◌++◌, Option, Some, None, suc, IsTrue, codes, map, length, lit<, lit≤, refl, sym, subst, arith}
 use Rattle.std.specs.Prelude.{position, ◌||◌, ◌==◌}
 use Rattle.std.specs.Char.{is_ascii_alphabetic, is_ascii_alphanumeric}
@@ -138,7 +138,7 @@ module _ (sig : Sig) where
   goals_stand (r ∷ rs) [] w z = absurd z
   goals_stand (r ∷ rs) (g ∷ gs) w z = (goal_stands r g w.0 z.0, goals_stand rs gs w.1 z.1)
 
--- the names of a specification that a text stands for may stand in a report
+-- the names of a specification that a text stands for may appear in a report
 pub names_stand : (bytes : List ℕ) (raw : RawSpec) (spec : Spec) → TextDerives IsSpecText bytes raw → StandsFor raw spec → NamesStand spec
 names_stand bytes raw spec derived stands =
     let words = raw_names_stand bytes raw derived in

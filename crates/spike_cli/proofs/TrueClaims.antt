@@ -46,7 +46,7 @@ refuted_true spec goal tries index rows row f =
       subst (λ ts. GoalFails spec ts goal) (sym same) f.3,
     )
 
--- what is claimed as proved is proved behind claims that prove the lemmas
+-- what is claimed as proved is proved after claims that prove the lemmas
 pub proves_behind :
     (spec : Spec) → ProvesBehindClaims (above_of spec) → (bounds : ProofBounds) (lemmas : List ℕ)
     (goal : Goal) (before : List Claim) → ((number : ℕ) → Contains lemmas number →
@@ -60,7 +60,7 @@ proves_behind spec behind bounds lemmas goal before known block tried (inr is) =
     block.steps is.1).2 in
     behind spec lemmas before (goal_clause goal) block.steps known p.proves
 
--- what is claimed behind the claim of a search: where this is open, what its numbers and proofs
+-- what is claimed after the claim of a search: if this is open, what its numbers and proofs
 -- give,
 -- and else the same
 module _ (bounds : ProofBounds) (spec : Spec) (lemmas : List ℕ) (goal : Goal) where
@@ -109,7 +109,7 @@ module _
 
   module _ (bounds : ProofBounds) (lemmas : List ℕ)
       (known : AreLemmas bounds.search.steps spec goal lemmas) where
-    -- a block that proves the goal behind the claims on its lemmas makes an accepted report with
+    -- a block that proves the goal after the claims on its lemmas makes an accepted report with
     -- them
     proved_true :
         (block : Block) → Proves (above_of spec) spec (ProvedBefore spec known.before) (goal_clause goal)

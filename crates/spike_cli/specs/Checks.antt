@@ -20,7 +20,7 @@ accepted_line raw =
     ++ codes " rules " ++ decimal (length raw.rules)
     ++ codes " goals " ++ decimal (length raw.goals) ++ codes "\n"
 
--- the printed form where it is asked for, else the line
+-- the printed form if it is asked for, else the line
 abbrev pub check_text : Bool → RawSpec → List ℕ
 check_text true raw = printed raw
 check_text false raw = accepted_line raw

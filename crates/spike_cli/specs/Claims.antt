@@ -38,7 +38,7 @@ budget_of bounds tried skipped cut =
       nodes = bounds.nodes;
     }
 
--- the goal's number where its claim proves it
+-- the goal's number if its claim proves it
 abbrev pub number_proved : ℕ → Outcome → List ℕ
 number_proved number (Proved block) = number ∷ []
 number_proved number (Refuted index values) = []
@@ -74,8 +74,8 @@ module _ (bounds : ProofBounds) (spec : Spec) where
         × IsProof (above_of spec) spec lemmas goal bounds.nodes start steps
 
     -- what is claimed of a goal without a counterexample: that it is proved, by the block of its
-    -- first plain proof, or where no variable has one, by its first routine proof; or that it is
-    -- open with these numbers, where it has neither
+    -- first plain proof, or if no variable has one, by its first routine proof; or that it is
+    -- open with these numbers, if it has neither
     abbrev pub IsUnrefuted : Goal → Budget → Outcome → Type 0
     IsUnrefuted goal tried (Proved block) =
         IsFirstBlock (above_of spec) spec goal bounds.plain block
@@ -87,7 +87,7 @@ module _ (bounds : ProofBounds) (spec : Spec) where
         × IsFirstProof (above_of spec) spec lemmas goal bounds.nodes None
         × (budget ≡ tried)
 
-    -- what is claimed where a search answers this
+    -- what is claimed if a search answers this
     abbrev pub IsOutcomeOf : Goal → Search → Outcome → Type 0
     IsOutcomeOf goal (Found index values) outcome = outcome ≡ Refuted index (named goal.vars values)
     IsOutcomeOf goal (NotFound tried skipped cut) outcome =
@@ -106,7 +106,7 @@ module _ (bounds : ProofBounds) (spec : Spec) where
       pub outcome : IsOutcomeOf goal search claim.outcome
       pub true : OutcomeIsTrue spec goal claim.outcome
 
-  -- such a claim, behind claims on the goals before it: those that they prove are the lemmas
+  -- such a claim, after claims on the goals before it: those that they prove are the lemmas
   abbrev pub IsNextClaim : List Claim → Goal → Claim → Type 0
   IsNextClaim before goal claim = IsClaimOn (proved_goals before) goal claim
 
@@ -120,13 +120,13 @@ module _ (bounds : ProofBounds) (spec : Spec) where
   abbrev pub SomeRefutable : Type 0
   SomeRefutable = SomeGoal (λ number goal. IsRefutable goal) spec.goals
 
-  -- the goal of this number has a plain proof of at most the length, on one of its variables, or a
+  -- the goal with this number has a plain proof of at most the length, on one of its variables, or a
   -- routine proof of at most the nodes, with all goals before it as lemmas
   abbrev pub IsProvable : ℕ → Goal → Type 0
   IsProvable number goal =
       ((x : ℕ) × HasPlain spec goal bounds.plain x) ⊎ HasRoutine (range_with_len 0 number) goal
 
-  -- the status that the goals give: Refuted where one is refutable, else Open where one isn't
+  -- the status that the goals give: Refuted if one is refutable, else Open if one isn't
   -- provable, else Done
   abbrev pub IsStatusOfGoals : Status → Type 0
   IsStatusOfGoals status.Refuted = SomeRefutable
@@ -152,7 +152,7 @@ abbrev pub SomeOutcome : (Outcome → Type 0) → List Claim → Type 0
 SomeOutcome Holds [] = ⊥
 SomeOutcome Holds (claim ∷ claims) = Holds claim.outcome ⊎ SomeOutcome Holds claims
 
--- the status that claims give: Refuted where one is refuted, else Open where one is open, else Done
+-- the status that claims give: Refuted if one is refuted, else Open if one is open, else Done
 abbrev pub IsStatusOfClaims : List Claim → Status → Type 0
 IsStatusOfClaims claims status.Refuted = SomeOutcome IsRefuted claims
 IsStatusOfClaims claims status.Open =

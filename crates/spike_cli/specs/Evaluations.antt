@@ -11,7 +11,7 @@ use Rattle.spike_cli.specs.declared.statuses.Status.TheVariants.{Done, Open, Ref
 use Rattle.accepted_spec.specs.Meanings.{TermTextStandsFor}
 use Rattle.accepted_spec.specs.Refusals.{IsTermRefusal}
 
--- the value's text, or `large` where it has more than 10,000 symbols
+-- the value's text, or `large` if it has more than 10,000 symbols
 abbrev pub value_text : Sig → Tree → List ℕ
 value_text sig v =
     if nat_le (tree_size v) 10000 then term_text sig [] v else codes "large"

@@ -19,7 +19,7 @@ pub record IsLoad (goals : ℕ) (text : List ℕ) : Type 0 where
 abbrev pub SomeReport : Spec → List ℕ → Type 0
 SomeReport spec bytes = (status : Status) × IsReport usual_bounds spec bytes status
 
--- so many goals have one such text
+-- this many goals have one such text
 abbrev pub OneLoad : Type 0
 OneLoad =
     (goals : ℕ) (text other : List ℕ) → IsLoad goals text → IsLoad goals other → text ≡ other

@@ -18,7 +18,7 @@ use Rattle.spike_cli.specs.Replays.{IsReply, IsYesLine}
 use Rattle.spike_cli.specs.Trims.{IsTrimmedText}
 use Rattle.spike_cli.specs.Sessions.{IsSession}
 
--- over a declared signature a term's text stands for one term at most, and none where it has a line
+-- over a declared signature a term's text stands for one term at most, and none if it has a line
 -- of refusal; it has one such line at most
 pub record OneTermEnding : Type 0 where
   pub one_term : (sig : Sig) (bytes : List ℕ) (t other : Tree) → IsDeclared sig
@@ -28,7 +28,7 @@ pub record OneTermEnding : Type 0 where
   pub one_refusal : (sig : Sig) (bytes line other : List ℕ)
       → IsTermRefusal sig bytes line → IsTermRefusal sig bytes other → line ≡ other
 
--- a text is accepted as one specification at most, and as none where it has a line of refusal; it has
+-- a text is accepted as one specification at most, and as none if it has a line of refusal; it has
 -- one such line at most
 pub record OneEnding : Type 0 where
   pub one_specification : (bytes : List ℕ) (raw again : RawSpec) (spec other : Spec)
@@ -41,7 +41,7 @@ pub record OneEnding : Type 0 where
   pub terms : OneTermEnding
 
 -- on a well sorted specification the bytes of a report get one text and one status at most, and Done
--- where they are a report that is accepted
+-- if they are a report that is accepted
 pub record OneReply (IsYes : Spec → Report → List ℕ → Type 0) : Type 0 where
   pub one : (spec : Spec) (bytes text other : List ℕ) (status again : Status) → IsWellSorted spec
       → IsReply IsYes spec bytes text status → IsReply IsYes spec bytes other again

@@ -18,7 +18,7 @@ use Rattle.spike_cli.specs.Reads.{most_report_bytes, AreBytesOf, IsLonger}
 abbrev pub too_long_report_line : List ℕ
 too_long_report_line = codes "refused report length\n"
 
--- of a command that is answered by yes with such a text where a report is accepted
+-- of a command that is answered by yes with such a text if a report is accepted
 module _ (IsYes : Spec → Report → List ℕ → Type 0) (spec : Spec) where
   -- what is written for the bytes of a report, and the status: they are a report that is accepted,
   -- and true; they are none; or they are one that isn't accepted
@@ -37,7 +37,7 @@ module _ (IsYes : Spec → Report → List ℕ → Type 0) (spec : Spec) where
   abbrev pub IsReplyText : List ℕ → List ℕ → Type 0
   IsReplyText bytes text = (s : Status) × IsReply bytes text s
 
-  -- what is written for the report of a file, and the status: that of its bytes, or the line where
+  -- what is written for the report of a file, and the status: that of its bytes, or the line if
   -- there are too many
   pub data IsFileReply (held : Option (List ℕ)) : List ℕ → Status → Type 0 where
     replied : (bytes : List ℕ) {text : List ℕ} {s : Status}
@@ -49,7 +49,7 @@ module _ (IsYes : Spec → Report → List ℕ → Type 0) (spec : Spec) where
   abbrev pub IsFileReplyText : Option (List ℕ) → List ℕ → Type 0
   IsFileReplyText held text = (s : Status) × IsFileReply held text s
 
--- where a report is accepted, `replay` says how many claims of each kind it has
+-- if a report is accepted, `replay` says how many claims of each kind it has
 abbrev pub IsYesLine : Spec → Report → List ℕ → Type 0
 IsYesLine spec report text = text ≡ yes_line report.claims
 

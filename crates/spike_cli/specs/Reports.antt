@@ -25,7 +25,7 @@ abbrev pub begun_text : ℕ → Sig → List Claim → List ℕ
 begun_text steps sig claims = lines_text sig (header_lines steps) ++ claims_text sig claims
 
 -- the report of a specification, or what it begins with: the claims are those of its goals in their
--- order, each behind the claims before it
+-- order, each after the claims before it
 pub data BeginsReport (bounds : ProofBounds) (spec : Spec) : List ℕ → Type 0 where
   begun : (claims : List Claim) → AreFirstClaims (IsNextClaim bounds spec) [] spec.goals claims
       → BeginsReport bounds spec (begun_text bounds.search.steps spec.sig claims)

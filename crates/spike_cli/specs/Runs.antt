@@ -137,7 +137,7 @@ module _ (words : List (List ℕ)) (held : List ℕ → Option (List ℕ)) where
   Means reads reads' old new writes writes' OutOfMemory = AppendsPartOf MayWrite old new
 
   -- the names that a call asks for, in their order: none; the file of a task; or the file and those
-  -- that the task reads beside it, where the file's text is accepted
+  -- that the task reads beside it, if the file's text is accepted
   pub data AreAsked : List (List ℕ) → Type 0 where
     no_file : AreAsked []
     one_file : (file : List ℕ) (task : Task) → Asks words file task → AreAsked (file ∷ [])

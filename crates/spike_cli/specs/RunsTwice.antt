@@ -29,7 +29,7 @@ abbrev pub IsByHand : Task → Type 0
 IsByHand (carrying_out path) = Unit {0}
 IsByHand _ = ⊥
 
--- a call of such a task finished this text for a file of these bytes, where the store tells the bytes and
+-- a call of such a task finished this text for a file of these bytes, if the store tells the bytes and
 -- the sink what was appended
 pub record FinishedRun (IsOfKind : Task → Type 0) (bytes text : List ℕ) : Type 0 where
   pub words : List (List ℕ)
@@ -49,7 +49,7 @@ pub record FinishedRun (IsOfKind : Task → Type 0) (bytes text : List ℕ) : Ty
   pub means :
       Means words held reads reads' (Some before) (Some (before ++ text)) writes writes' status
 
--- a call that replays the report on a file of these bytes, where no count of faults rises, answers Done
+-- a call that replays the report on a file of these bytes, if no count of faults rises, answers Done
 -- and appends its `yes` line, or it answers want of memory
 abbrev pub IsReplayed : List ℕ → List ℕ → Type 0
 IsReplayed bytes report =

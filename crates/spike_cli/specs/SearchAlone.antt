@@ -1,4 +1,4 @@
--- What a search for counterexamples alone says: `refute` is `prove` where no proof is looked for.
+-- What a search for counterexamples alone says: `refute` is `prove` if no proof is looked for.
 use Rattle.std.specs.Prelude.{◌≡◌, ◌≢◌, ℕ, List, []}
 use Rattle.spec_core.specs.declared.records.Goal.{Goal}
 use Rattle.spec_core.specs.declared.records.Spec.{Spec}
@@ -18,7 +18,7 @@ module _ (search : SearchBounds) (spec : Spec) where
       (lemmas : List ℕ) (claim : Claim) → IsClaimOn (search_alone search) spec lemmas goal claim →
       IsClaimOfSearch search spec goal claim
 
-  -- Open comes where there is a goal and none is refutable, and Done where there is none
+  -- Open comes if there is a goal and none is refutable, and Done if there is none
   pub record StatusIsOfSearch : Type 0 where
     pub left_open :
         IsStatusOfGoals (search_alone search) spec Open →

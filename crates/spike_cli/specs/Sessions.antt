@@ -55,7 +55,7 @@ module _ (spec : Spec) where
   abbrev pub IsSomeSession : List ℕ → List ℕ → Type 0
   IsSomeSession bytes text = (s : Status) × IsSession bytes text s
 
-  -- what is written for the commands of a file, and the status: that of its bytes, or the line where
+  -- what is written for the commands of a file, and the status: that of its bytes, or the line if
   -- there are too many
   pub data IsFileSession (held : Option (List ℕ)) : List ℕ → Status → Type 0 where
     for_bytes : (bytes : List ℕ) {text : List ℕ} {s : Status}

@@ -29,7 +29,7 @@ stop_text ReadFault = codes "a file can't be read"
 stop_text WriteFault = codes "the output can't be written"
 stop_text OutOfMemory = codes "out of memory"
 
--- why a command stops where bytes aren't written
+-- why a command stops when bytes aren't written
 abbrev pub stop_of : WriteError → Stop
 stop_of write.Failed = WriteFault
 stop_of write.OutOfMemory = OutOfMemory
@@ -53,7 +53,7 @@ IsTextOnGoal bounds spec lemmas goal text =
     (claim : Claim) × IsClaimOn bounds spec lemmas goal claim × (text ≡ claim_text spec.sig claim)
 
 module _ (old new : Option (List ℕ)) (writes writes' : ℕ) where
-  -- a part of one of these texts was appended, and the count of faults rose where that was why it
+  -- a part of one of these texts was appended, and the count of faults rose if that was why it
   -- stopped; no file was read
   abbrev pub Stopped : (List ℕ → Type 0) → Stop → Type 0
   Stopped IsText ReadFault = ⊥
@@ -73,21 +73,21 @@ module _ (old new : Option (List ℕ)) (writes writes' : ℕ) where
   WritesClaim bounds spec lemmas goal (Err stop) =
       Stopped (IsTextOnGoal bounds spec lemmas goal) stop
 
-  -- a whole text was appended, with its status, or a part of one where the command stopped
+  -- a whole text was appended, with its status, or a part of one if the command stopped
   abbrev pub Finishes :
       (List ℕ → Status → Type 0) → (List ℕ → Type 0) → Result Status Stop → Type 0
   Finishes IsWhole IsPart (Ok after) =
       (text : List ℕ) × IsWhole text after × Appended old new text
   Finishes IsWhole IsPart (Err stop) = Stopped IsPart stop
 
-  -- the same of a command that reads another file; where it couldn't, the store's count of faults
+  -- the same of a command that reads another file; if it couldn't, the store's count of faults
   -- rose and nothing was appended
   abbrev pub FinishesReading :
       ℕ → ℕ → (List ℕ → Status → Type 0) → (List ℕ → Type 0) → Result Status Stop → Type 0
   FinishesReading reads reads' IsWhole IsPart (Err ReadFault) = Rose reads reads' × (new ≡ old)
   FinishesReading reads reads' IsWhole IsPart result = Finishes IsWhole IsPart result
 
--- one of these texts was appended as a refusal, or a part of one where the command stopped
+-- one of these texts was appended as a refusal, or a part of one if the command stopped
 module _ (IsText : List ℕ → Type 0) (old new : Option (List ℕ)) (writes writes' : ℕ) where
   abbrev pub Refuses : Status → Type 0
   Refuses status.Refused = (text : List ℕ) × IsText text × Appended old new text

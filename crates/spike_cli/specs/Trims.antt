@@ -10,7 +10,7 @@ use Rattle.spike_cli.specs.declared.statuses.Status.{Status}
 use Rattle.spike_cli.specs.Reads.{most_report_bytes}
 use Rattle.spike_cli.specs.Replays.{IsReply, IsFileReply, IsFileReplyText}
 
--- where a report is accepted, `trim` writes the text of the report to which cuts lead: it trims the
+-- if a report is accepted, `trim` writes the text of the report to which cuts lead: it trims the
 -- accepted one, is true, and isn't too long for `replay`
 pub record IsTrimmedText (spec : Spec) (report : Report) (text : List ℕ) : Type 0 where
   pub trimmed : Report

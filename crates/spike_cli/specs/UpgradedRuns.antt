@@ -11,7 +11,7 @@ use Rattle.spike_cli.specs.declared.statuses.Status.{Status}
 use Rattle.spike_cli.specs.declared.statuses.Status.TheVariants.{OutOfMemory}
 use Rattle.spike_cli.specs.Runs.{Means}
 
--- a call that replays this report on a file of these bytes, where no count of faults rises and
+-- a call that replays this report on a file of these bytes, if no count of faults rises and
 -- memory suffices, appends this text and answers this status
 pub record ReplayRun (bytes report text : List ℕ) (status : Status) : Type 0 where
   pub words : List (List ℕ)
@@ -32,7 +32,7 @@ pub record ReplayRun (bytes report text : List ℕ) (status : Status) : Type 0 w
   pub all_written : Rose writes writes' → ⊥
   pub enough_memory : status ≢ OutOfMemory
 
--- where the file has no more bytes than format 1 allows, both calls append one text and answer one
+-- if the file has no more bytes than format 1 allows, both calls append one text and answer one
 -- status
 abbrev pub UpgradedRunsAnswerTheSame : Type 0
 UpgradedRunsAnswerTheSame =

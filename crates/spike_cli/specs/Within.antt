@@ -27,7 +27,7 @@ TaskIsWithin upgrading = Unit {0}
 TaskIsWithin (trimming report) = Unit {0}
 TaskIsWithin (carrying_out path) = Unit {0}
 
--- its own order admits the specification, its names may stand in a report, and it has no more rules
+-- its own order admits the specification, its names may appear in a report, and it has no more rules
 -- and goals than a text declares
 pub record HasReports (spec : Spec) : Type 0 where
   pub fine : IsWellSorted spec

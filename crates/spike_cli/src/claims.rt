@@ -23,7 +23,7 @@ pub struct NumberedGoal<'a> {
 }
 
 /// The claim on a goal of the specification, with the goals of these numbers as lemmas: what a
-/// search gives, or a plain or a routine proof where it finds no counterexample.
+/// search gives, or a plain or a routine proof if it finds no counterexample.
 pub fn claim_on(
     alloc: Global,
     admitted: &Admitted<AnyOrder>,

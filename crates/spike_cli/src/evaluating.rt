@@ -69,7 +69,7 @@ fn evaluation_of(
     }
 }
 
-/// What is written where the bytes stand for no term.
+/// What is written if the bytes stand for no term.
 fn refused(refusal: Refusal) -> Result<Ending, OutOfMemory>
     ensures { IfOk result (λ e. IsLineOf refusal e.text.items × (e.status ≡ Status.Refused)) }
 {

@@ -29,7 +29,7 @@ use term_core::OutOfMemory;
 /// The greatest number of bytes of a report.
 pub const MAX_REPORT_BYTES: usize = 67_108_864;
 
-/// What is written where a report is accepted.
+/// What is written if a report is accepted.
 #[derive(Clone, Copy, Debug, PartialEq, Eq)]
 pub enum Yes {
     /// How many claims of each kind it has.

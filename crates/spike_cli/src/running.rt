@@ -84,7 +84,7 @@ fn run_on_file<F: Files, S: Sink>(
     }
 }
 
-/// The bytes of a specification's file. The file is too long where it has more of them than its
+/// The bytes of a specification's file. The file is too long if it has more of them than its
 /// beginning allows.
 fn read_text<F: Files>(alloc: Global, name: &str, files: &mut F) -> Result<Vec<u8>, ReadError>
     ensures stays { (n : List ℕ) → F.held files.new n ≡ F.held files.old n }

@@ -1,4 +1,4 @@
--- A node behind others.
+-- A node after others.
 use Rattle.std.proofs.Common.{◌≡◌, ℕ, zero, suc, List, [], ◌∷◌, ◌++◌, Some, None, subst}
 use Rattle.std.specs.Prelude.{slice_get}
 use Rattle.spec_core.specs.Sig.{Sig}

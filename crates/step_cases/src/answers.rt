@@ -1,5 +1,5 @@
 //! What steps answer: `less CLAUSE`, `same CLAUSE` or `neither CLAUSE` for each child and `refers
-//! NUMBER RELATION` for each reference, `-` where there are none, or the reason as `no-such-place`.
+//! NUMBER RELATION` for each reference, `-` if there are none, or the reason as `no-such-place`.
 use crate::terms::clause;
 use anyhow::{Result, bail};
 use clause_core::{Child, Children, Clause, Reference, Relation, Why};

@@ -10,9 +10,9 @@ use std::alloc::Global;
 
 /// Whether the case comes out as it is written. It is one of these:
 ///
-/// - `GOAL STEP -> ANSWER`, at the goal's clause, where no goal may be used
-/// - `GOAL by NAME,NAME : STEP -> ANSWER`, where these goals may be used
-/// - `GOAL among COUNT : STEP -> ANSWER`, at the first of so many nodes, each with the goal's clause
+/// - `GOAL STEP -> ANSWER`, at the goal's clause, if no goal may be used
+/// - `GOAL by NAME,NAME : STEP -> ANSWER`, if these goals may be used
+/// - `GOAL among COUNT : STEP -> ANSWER`, at the first of `COUNT` nodes, each with this clause
 /// - `normalize GOAL BUDGET -> TERM PLACE@RULE ..`, of the left side of the goal's first conclusion,
 ///   where `@RULE` is a use at the root, or `spent`
 pub fn holds(alloc: Global, spec: &Spec, words: &[&str]) -> Result<bool>

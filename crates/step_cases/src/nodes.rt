@@ -24,7 +24,7 @@ pub struct Block<'a> {
 }
 
 impl<'a> Block<'a> {
-    /// One node, where these goals may be used.
+    /// One node. These goals may be used.
     pub fn by(goal: &'a str, lemmas: &'a str) -> Block<'a> {
         Block {
             goal,
@@ -33,7 +33,7 @@ impl<'a> Block<'a> {
         }
     }
 
-    /// So many nodes, where no goal may be used.
+    /// This many nodes. No goal may be used.
     pub fn among(goal: &'a str, count: u32) -> Block<'a> {
         Block {
             goal,

@@ -7,7 +7,7 @@ use Rattle.substitutions.specs.Substitution.{entry, apply, IsComposed}
 use Rattle.substitutions.proofs.Instances.{composed_from_images}
 use Rattle.term_core.proofs.Numbers.{below_or_not}
 
--- the instance of the entry of the first, or the entry of the second where the first has none
+-- the instance of the entry of the first, or the entry of the second if the first has none
 abbrev pub composed_entry : List (Option Tree) → List (Option Tree) → ℕ → Option Tree
 composed_entry first second n = option_or (option_map (apply second) (entry first n)) (entry second n)
 

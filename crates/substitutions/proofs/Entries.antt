@@ -6,7 +6,7 @@ use Rattle.term_core.specs.Tree.{Tree}
 use Rattle.substitutions.specs.Substitution.{entry}
 use Rattle.substitutions.specs.Updates.{IsSetTo}
 
--- the entries stay where only None is added
+-- the entries stay when only None is added
 entry-append : (xs ys : List (Option Tree)) → ((n : ℕ) → entry ys n ≡ None) → (n : ℕ) → entry (xs ++ ys) n ≡ entry xs n
 entry-append [] ys h n = h n
 entry-append (x ∷ xs) ys h zero = refl

@@ -51,7 +51,7 @@ pub apply_closed : (t : Tree) (s : List (Option Tree)) → ((n : ℕ) → Occurs
 apply_closed t s h = apply_same t s [] (λ n o. absurd (h n o)) ∙ apply_nothing t
 
 mutual
-  -- where the instances are the same, so are the images of each variable that occurs
+  -- if the instances are the same, so are the images of each variable that occurs
   pub images_agree : (t : Tree) (s u : List (Option Tree)) → apply s t ≡ apply u t → (n : ℕ) → Occurs n t → image s n ≡ image u n
   images_agree (var m) s u e n o = rw o e
   images_agree (app f ts) s u e n o = images_agree_all ts s u (let q : app f (apply_all s ts) ≡ app f (apply_all u ts) = e in cc) n o
@@ -62,7 +62,7 @@ mutual
   images_agree_all (some t ts) s u e n (inr o) = images_agree_all ts s u (let q : some (apply s t) (apply_all s ts) ≡ some (apply u t) (apply_all u ts) = e in cc) n o
 
 mutual
-  -- two substitutions compose to a third where they do so at each variable that occurs
+  -- two substitutions compose to a third if they do so at each variable that occurs
   pub apply_composed : (t : Tree) (s u both : List (Option Tree)) → ((n : ℕ) → Occurs n t → image both n ≡ apply u (image s n)) → apply both t ≡ apply u (apply s t)
   apply_composed (var m) s u both h = h m refl
   apply_composed (app f ts) s u both h = ap (λ us. app f us) (apply_all_composed ts s u both h)
@@ -97,7 +97,7 @@ mutual
       cc
 
 mutual
-  -- a variable of an instance stands in the image of some variable of the term
+  -- a variable of an instance occurs in the image of some variable of the term
   pub occurs_apply : (t : Tree) (s : List (Option Tree)) (m : ℕ) → Occurs m (apply s t) → (n : ℕ) × Occurs n t × Occurs m (image s n)
   occurs_apply (var k) s m o = (k, refl, o)
   occurs_apply (app f ts) s m o = occurs_apply_all ts s m o
@@ -108,7 +108,7 @@ mutual
   occurs_apply_all (some t ts) s m (inr o) = let r = occurs_apply_all ts s m o in (r.0, inr r.1, r.2)
 
 mutual
-  -- and each variable of such an image stands in the instance
+  -- and each variable of such an image occurs in the instance
   pub apply_occurs : (t : Tree) (s : List (Option Tree)) (m n : ℕ) → Occurs n t → Occurs m (image s n) → Occurs m (apply s t)
   apply_occurs (var k) s m n o i = subst (λ j. Occurs m (image s j)) o i
   apply_occurs (app f ts) s m n o i = apply_all_occurs ts s m n o i
@@ -120,7 +120,7 @@ mutual
 
 module _ (sig : Sig) where
   mutual
-    -- a sorted term keeps its sort where the image of each variable that occurs has the variable's sort
+    -- a sorted term keeps its sort if the image of each variable that occurs has the variable's sort
     pub sorted_apply : (from to : List SortId) (s : List (Option Tree)) (t : Tree) (sort : SortId) → Sorted sig from t sort → ((n : ℕ) (r : SortId) → Occurs n t → slice_get from n ≡ Some r → Sorted sig to (image s n) r) → Sorted sig to (apply s t) sort
     sorted_apply from to s (var m) sort p h = h m sort refl p
     sorted_apply from to s (app f ts) sort p h = (p.0, p.1, p.2, sorted_apply_all from to s ts p.0.args p.3 h)
@@ -138,7 +138,7 @@ module _ (sig : Sig) where
       sorted_apply from to s t sort p (λ n r o at. let f = fits n r at in subst (λ u. Sorted sig to u r) (sym (image_entry s n f.0 f.1)) f.2)
 
   mutual
-    -- where a term and its instance have one sort, the image of each variable that occurs has the variable's sort
+    -- if a term and its instance have one sort, the image of each variable that occurs has the variable's sort
     pub sorted_image : (from to : List SortId) (s : List (Option Tree)) (t : Tree) (sort : SortId) → Sorted sig from t sort → Sorted sig to (apply s t) sort → (n : ℕ) (r : SortId) → Occurs n t → slice_get from n ≡ Some r → Sorted sig to (image s n) r
     sorted_image from to s (var m) sort p q n r o at =
         let e : n ≡ m = o in

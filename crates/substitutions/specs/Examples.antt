@@ -27,10 +27,10 @@ pub record WorkedExamples : Type 0 where
       (Some (succ_term (var 1)) ∷ Some zero_term ∷ [])
   pub not_composed : IsComposed (Some (succ_term (var 1)) ∷ []) (None ∷ Some zero_term ∷ [])
       (Some (succ_term (var 1)) ∷ Some zero_term ∷ []) → ⊥
-  -- succ(y) for x keeps the sort Nat of x where y has it; no entry for x doesn't fit, and neither
+  -- succ(y) for x keeps the sort Nat of x if y has it; no entry for x doesn't fit, and neither
   -- does true
   pub fitting : Fits naturals_sig (nat ∷ []) (nat ∷ nat ∷ []) (Some (succ_term (var 1)) ∷ [])
   pub missing : Fits naturals_sig (nat ∷ []) (nat ∷ nat ∷ []) [] → ⊥
   pub wrong_sort : Fits naturals_sig (nat ∷ []) (nat ∷ nat ∷ []) (Some (app 0 none) ∷ []) → ⊥
-  -- zero set for y, where x has no entry
+  -- zero set for y, if x has no entry
   pub set : IsSetTo [] 1 zero_term (None ∷ Some zero_term ∷ [])

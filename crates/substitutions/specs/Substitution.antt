@@ -6,7 +6,7 @@ use Rattle.term_core.specs.Tree.{Tree, Trees, var, app, none, some}
 abbrev pub entry : List (Option Tree) → ℕ → Option Tree
 entry entries n = slice_index_or entries n None
 
--- what a variable becomes: its entry, or itself where it has none
+-- what a variable becomes: its entry, or itself if it has none
 abbrev pub image : List (Option Tree) → ℕ → Tree
 image entries n = unwrap_or (entry entries n) (var n)
 

@@ -43,8 +43,8 @@ fn variable(letter: u8) -> VarId {
     VarId(u32::from(letter.wrapping_sub(b'u')))
 }
 
-/// Whether a copy of the term has so many symbols and variables, so many on its longest way down,
-/// and these variables by first occurrence.
+/// Whether a copy of the term has this many symbols and variables, this many of them on its longest
+/// way down, and these variables by first occurrence.
 fn is_measured(alloc: Global, letters: &str, sizes: (u32, u32), variables: &str) -> Result<bool> {
     let copy = term(alloc, letters)?.copy(alloc)?;
     if !is(alloc, &copy, letters)? || (copy.size(99), copy.depth(99)) != sizes {
@@ -72,7 +72,7 @@ fn is_copied(alloc: Global, letters: &str) -> Result<bool> {
     Ok(copy.same(&Term::app(SymId(2), terms)))
 }
 
-/// Whether this stands at the path, and that is what becomes of the term with another one there.
+/// Whether this is at the path, and that is what becomes of the term with another one there.
 fn is_exchanged(
     alloc: Global,
     (whole, path, new): (&str, &str, &str),
@@ -96,7 +96,7 @@ fn places_of(alloc: Global, path: &str) -> Result<Vec<u8>> {
     Ok(places)
 }
 
-/// Whether this stands at the places of the term.
+/// Whether this is at the places of the term.
 fn stands(alloc: Global, whole: &Term, places: &[u8], found: &str) -> Result<bool> {
     match whole.at(places) {
         Some(part) => is(alloc, part, found),

@@ -7,7 +7,7 @@ use spec_core::Equation;
 use std::alloc::Global;
 use term_core::{Seq, SortId};
 
-/// The sorts of the variables `u` to `z` where none are written.
+/// The sorts of the variables `u` to `z` if none are written.
 const SORTS: &str = "111111";
 
 /// The clause of these signs. Without `=>` it has no premises, and `-` stands for no equations.

@@ -6,8 +6,8 @@ use spec_core::Equation;
 use std::alloc::Global;
 use term_core::{Seq, SymId, Term, Terms, VarId};
 
-/// The clause of this kind: with so many premises and conclusions `u = u`, or with one premise and
-/// one conclusion, whose sides have these sizes or depths from the left.
+/// The clause of this kind: with this many premises and conclusions `u = u`, or with one premise
+/// and one conclusion, whose sides have these sizes or depths from the left.
 pub fn clause(alloc: Global, kind: &str, numbers: &[&str]) -> Result<Clause> {
     match numbers {
         [premises, conclusions] if kind == "equations" => {
@@ -36,7 +36,7 @@ fn made(alloc: Global, premises: Seq<Equation>, conclusions: Seq<Equation>) -> R
     })
 }
 
-/// So many times `u = u`.
+/// This many times `u = u`.
 fn equations(alloc: Global, count: u32) -> Result<Seq<Equation>> {
     let mut made = Seq::new(alloc);
     for _ in 0..count {
@@ -67,7 +67,7 @@ fn side(alloc: Global, kind: &str, count: u32) -> Result<Term> {
     }
 }
 
-/// f(u, .., u), with so many symbols and variables.
+/// f(u, .., u), with this many symbols and variables.
 fn wide(alloc: Global, size: u32) -> Result<Term> {
     let mut args = Terms::new(alloc);
     for _ in 1..size {
@@ -76,7 +76,7 @@ fn wide(alloc: Global, size: u32) -> Result<Term> {
     Ok(Term::app(SymId(2), args))
 }
 
-/// f(.. f(u) ..), with so many levels.
+/// f(.. f(u) ..), with this many levels.
 fn deep(alloc: Global, depth: u32) -> Result<Term> {
     let mut made = Term::var(VarId(0));
     for _ in 1..depth {

@@ -4,7 +4,7 @@ use Rattle.term_core.specs.Tree.{Tree, Trees, var, app, none, some, instance, in
 use Rattle.term_core.specs.Variables.{Occurs, OccursAny}
 
 mutual
-  -- where the instances are the same, so are the entries of each variable that occurs
+  -- if the instances are the same, so are the entries of each variable that occurs
   pub agree : (t : Tree) (xs ys : List Tree) → instance xs t ≡ instance ys t → (n : ℕ) → Occurs n t → instance xs (var n) ≡ instance ys (var n)
   agree (var m) xs ys e n o = rw o e
   agree (app f ts) xs ys e n o = agrees ts xs ys (let q : app f (instances xs ts) ≡ app f (instances ys ts) = e in cc) n o

@@ -37,7 +37,7 @@ drop_past [] (suc n) h = refl
 drop_past (x ∷ xs) zero h = absurd (omega arith)
 drop_past (x ∷ xs) (suc n) h = drop_past xs n (omega arith)
 
--- the list before an item, the item and the list behind it
+-- the list before an item, the item and the list after it
 pub parted_at : {X : Type 0} (xs : List X) (i : ℕ) (x : X) → i < length xs → x ≡ get_or xs i x → take i xs ++ x ∷ drop (suc i) xs ≡ xs
 parted_at [] i x lt is = absurd (omega arith)
 parted_at (y ∷ ys) zero x lt is = ap (λ z. z ∷ ys) is
@@ -46,7 +46,7 @@ parted_at (y ∷ ys) (suc i) x lt is = ap (λ zs. y ∷ zs) (parted_at ys i x (o
 pub taken_next : {X : Type 0} (xs : List X) (i : ℕ) (x : X) → i < length xs → x ≡ get_or xs i x → take (i + 1) xs ≡ take i xs ++ x ∷ []
 taken_next xs i x lt is = take_more xs i x lt ∙ ap (λ z. take i xs ++ z ∷ []) (sym is)
 
--- what follows of an answer, where there is one
+-- what follows of an answer, if there is one
 pub if_ok_map : {T E : Type 0} (r : Result T E) (P Q : T → Type 0) → ((x : T) → P x → Q x) → IfOk r P → IfOk r Q
 if_ok_map (Ok x) P Q f h = f x h
 if_ok_map (Err e) P Q f h = tt

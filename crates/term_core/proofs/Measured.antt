@@ -61,7 +61,7 @@ joint_parts : (a b c k : ℕ) → joint_need a b c ≤ k → (a ≤ k) × (c ≤
 joint_parts a b c k h = (grind (arith, nat_tests), grind (arith, nat_tests))
 
 mutual
-  -- where a term's variables are numbered, as many are before it as it needs
+  -- if a term's variables are numbered, as many are before it as it needs
   pub numbered_needs :
       (k m : ℕ) (t : Tree) → Numbered k t m → (tree_need t ≤ k) × (m ≡ max (tree_bound t) k)
   numbered_needs k m (var n) (inl h) = (omega (arith, h.0), omega (arith, h.0, h.1))
@@ -84,7 +84,7 @@ variable_numbered :
 variable_numbered k m n h e = grind (arith, nat_tests)
 
 mutual
-  -- and where so many are, they are numbered
+  -- and if this many are, they are numbered
   pub numbered_from :
       (k m : ℕ) (t : Tree) → tree_need t ≤ k → m ≡ max (tree_bound t) k → Numbered k t m
   numbered_from k m (var n) h e = variable_numbered k m n h e

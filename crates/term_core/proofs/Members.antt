@@ -2,7 +2,7 @@
 use Rattle.std.proofs.Common.{◌≡◌, zero, suc, List, [], ◌∷◌, ◌⊎◌, inl, inr, sym, subst, arith}
 use Rattle.std.specs.List.{AllByRecursion, Contains}
 
--- the item is the first of the list, or one behind it
+-- the item is the first of the list, or one after it
 abbrev pub In : {X : Type 0} → X → List X → Type 0
 In x [] = ⊥
 In x (y ∷ ys) = (x ≡ y) ⊎ In x ys

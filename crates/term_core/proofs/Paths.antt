@@ -10,7 +10,7 @@ use Rattle.term_core.proofs.Trees.{list_of-trees_of}
 pub argument_of : (ts : List Tree) (k number : ℕ) (t : Tree) → number ≡ k + 1 → slice_get ts k ≡ Some t → IsArgument number (trees_of ts) t
 argument_of ts k number t e h = (k, e, ap (λ us. slice_get us k) (list_of-trees_of ts) ∙ h)
 
--- no argument stands behind the last one
+-- no argument comes after the last one
 pub no_argument : (ts : List Tree) (index number : ℕ) → length ts ≤ index → number ≡ index + 1 → (t : Tree) → IsArgument number (trees_of ts) t → ⊥
 no_argument ts index number past e t a =
     let within = slice_get_within ts a.0 t (ap (λ us. slice_get us a.0) (sym (list_of-trees_of ts)) ∙ a.2) in
@@ -70,7 +70,7 @@ get_exchanged ts k t h =
     let long : k < length (slice_set ts k t) = omega (arith, length-set ts k t) in
     slice_get-get_or (slice_set ts k t) k t long ∙ ap (λ u. Some u) (get_or-set_same ts k t t h)
 
--- what stands at the place of an exchanged subterm
+-- what is at the place of an exchanged subterm
 pub replacement_at : (path : List ℕ) (t new made : Tree) → IsReplaced path t new made → IsAt path made new
 replacement_at [] t new made p = sym p
 replacement_at (number ∷ path) (var n) new made p = absurd p

@@ -76,7 +76,7 @@ set_parts (y ∷ ys) (suc i) x h =
     let k : suc i + 1 ≡ suc (i + 1) = omega arith in
     ap (λ us. y ∷ us) (set_parts ys i x (omega arith)) ∙ ap (λ j. y ∷ take i ys ++ x ∷ drop j (y ∷ ys)) (sym k)
 
--- all that stands behind an index, as a loop over a part of a slice goes along it
+-- all that comes after an index, as a loop over a part of a slice goes along it
 pub whole_rest : (xs ys : List Tree) (i j : ℕ) → ys ≡ xs → length (take (length ys - (i + 1)) (drop (i + 1) ys)) ≤ j → take j (drop (i + 1) xs) ≡ drop (i + 1) xs
 whole_rest xs ys i j e h =
     let same : length ys ≡ length xs = ap (λ us. length us) e in

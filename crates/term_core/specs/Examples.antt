@@ -14,7 +14,7 @@ inner = app 6 (some (var 1) (some (var 0) none))
 abbrev pub outer : Tree
 outer = app 5 (some (var 0) (some inner none))
 
--- f(x, g([], x)), where y stood
+-- f(x, g([], x)), where y was
 abbrev pub second_open : Context
 second_open = under 5 (some (var 0) none) (under 6 none hole (some (var 0) none)) none
 
@@ -26,7 +26,7 @@ abbrev pub closed : Tree
 closed = app 6 (some constant (some constant none))
 
 pub record WorkedExamples : Type 0 where
-  -- the term itself stands at the empty path, g(y, x) at 2, and y at 2.1
+  -- the term itself is at the empty path, g(y, x) at 2, and y at 2.1
   pub whole : IsAt [] outer outer
   pub second : IsAt (2 ∷ []) outer inner
   pub below : IsAt (2 ∷ 1 ∷ []) outer (var 1)
@@ -47,7 +47,7 @@ pub record WorkedExamples : Type 0 where
   -- x is 0 and is met first, y is 1; in g(y, x) alone the first variable that is met is no 0
   pub numbered : Numbered 0 outer 2
   pub numbered_otherwise : Numbered 0 inner 2 → ⊥
-  -- both variables are below 2; g(y, x) is numbered where one variable was numbered before it
+  -- both variables are below 2; g(y, x) is numbered if one variable was numbered before it
   pub bounded : tree_bound outer ≡ 2
   pub closed_bound : tree_bound closed ≡ 0
   pub needs_none : tree_need outer ≡ 0

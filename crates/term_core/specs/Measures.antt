@@ -3,7 +3,7 @@ use Rattle.std.specs.Prelude.{ℕ, suc, ◌+◌, nat_le, max, min, if◌then◌e
 use Rattle.term_core.specs.Tree.{Tree, Trees, var, app, none, some, tree_size, sizes, tree_depth, depths}
 use Rattle.term_core.specs.declared.measures.Measure.{Measure}
 
--- one more than the greatest number of a variable, and 0 where there is none
+-- one more than the greatest number of a variable, and 0 if there is none
 abbrev mutual
   pub tree_bound : Tree → ℕ
   tree_bound (var n) = suc n
@@ -28,7 +28,7 @@ abbrev mutual
   needs none = 0
   needs (some t ts) = joint_need (tree_need t) (tree_bound t) (needs ts)
 
--- a number of 32 bits: this one, or the greatest where it is above that
+-- a number of 32 bits: this one, or the greatest if it is above that
 abbrev pub narrow : ℕ → ℕ
 narrow n = min n 4294967295
 

@@ -2,7 +2,7 @@
 use Rattle.std.specs.Prelude.{◌≡◌, ℕ, ◌+◌, List, [], ◌∷◌, Some, slice_get, slice_set}
 use Rattle.term_core.specs.Tree.{Tree, Trees, var, app, list_of, trees_of}
 
--- the argument of this number
+-- the argument with this number
 abbrev pub IsArgument : ℕ → Trees → Tree → Type 0
 IsArgument number ts t = (k : ℕ) × (number ≡ k + 1) × (slice_get (list_of ts) k ≡ Some t)
 
@@ -16,7 +16,7 @@ IsAt (number ∷ path) (app f ts) s = (t : Tree) × IsArgument number ts t × Is
 abbrev pub HasNoPlace : List ℕ → Tree → Type 0
 HasNoPlace path t = (s : Tree) → IsAt path t s → ⊥
 
--- the second arguments are the first ones with the argument of this number exchanged
+-- the second arguments are the first ones with the argument with this number exchanged
 abbrev pub IsExchanged : ℕ → Trees → Tree → Trees → Type 0
 IsExchanged number ts t us =
     (k : ℕ) × (number ≡ k + 1) × (us ≡ trees_of (slice_set (list_of ts) k t))

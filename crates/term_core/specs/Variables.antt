@@ -13,7 +13,7 @@ abbrev mutual
   occurrences_all none = []
   occurrences_all (some t ts) = occurrences t ++ occurrences_all ts
 
--- the numbers of the list, each once, where it first stands
+-- the numbers of the list, each once, where it first occurs
 abbrev pub firsts : List ℕ → List ℕ
 firsts [] = []
 firsts (n ∷ ns) = n ∷ filter (λ m. not (m == n)) (firsts ns)

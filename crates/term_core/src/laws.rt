@@ -6,7 +6,7 @@ pub fn one_place()
     ensures { OnePlace }
 {}
 
-/// What stands at the place of an exchanged subterm is the new one.
+/// What is at the place of an exchanged subterm is the new one.
 pub fn replaced_is_there()
     ensures { ReplacedIsThere }
 {}

@@ -6,7 +6,7 @@ use crate::ids::VarId;
 
 /// What is kept of terms: the number of their symbols and variables and the greatest number of them
 /// on a way down, both at most the greatest u32; one more than their greatest variable, which is 0
-/// where they have none; and how many variables have to be numbered before them for theirs to be
+/// if they have none; and how many variables have to be numbered before them for theirs to be
 /// numbered by first occurrence.
 #[derive(Clone, Copy, PartialEq, Eq)]
 pub(crate) struct Measure {

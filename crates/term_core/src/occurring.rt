@@ -4,8 +4,8 @@ ghost use Rattle.term_core.specs.Variables.{Occurs, OccursAny};
 
 use crate::tree::{Node, Term};
 
-/// Whether the variable of this number occurs in the term. A clause that no contract limits may have
-/// more variables than a term can name, so the number isn't one of 32 bits.
+/// Whether the variable with this number occurs in the term. A clause that no contract limits may
+/// have more variables than a term can name, so the number isn't one of 32 bits.
 #[cycle(occurs)]
 pub fn occurs(number: usize, term: &Term) -> bool
     ensures { IsTrue result ↔ Occurs number term.now }

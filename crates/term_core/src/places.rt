@@ -58,7 +58,7 @@ impl Term {
         argument.at(rest)
     }
 
-    /// The term with the subterm at the path exchanged for `new`. `NoSuchPlace` comes where `at`
+    /// The term with the subterm at the path exchanged for `new`. `NoSuchPlace` comes if `at`
     /// answers None.
     pub fn replace(&self, alloc: Global, path: &[u8], new: Term) -> Result<Term, ReplaceError>
         ensures replaced { IfOk result (λ made. IsReplaced path.now self.now new made) }

@@ -6,7 +6,7 @@ use crate::tree::Term;
 use std::alloc::Global;
 use std::marker::Model;
 
-/// Terms that stand elsewhere. Contracts see the list of the terms.
+/// Terms that are elsewhere. Contracts see the list of the terms.
 #[derive(Drop)]
 pub struct TermRefs<'a> {
     items: Vec<&'a Term>,
@@ -84,7 +84,7 @@ impl<'a> TermRefs<'a> {
         Ok(())
     }
 
-    /// Adds the terms of a slice. Where memory runs out, some of them may have been added.
+    /// Adds the terms of a slice. If memory runs out, some of them may have been added.
     pub fn push_all(&mut self, terms: &'a [Term]) -> Result<(), OutOfMemory>
         ensures { OnOk result (self.new ≡ self.old ++ terms.now) }
     {
@@ -94,7 +94,7 @@ impl<'a> TermRefs<'a> {
         Ok(())
     }
 
-    /// Adds the terms of references. Where memory runs out, some of them may have been added.
+    /// Adds the terms of references. If memory runs out, some of them may have been added.
     pub fn extend(&mut self, terms: &[&'a Term]) -> Result<(), OutOfMemory>
         ensures { OnOk result (self.new ≡ self.old ++ terms_of terms.now) }
     {

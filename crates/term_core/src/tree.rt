@@ -119,7 +119,7 @@ impl Terms {
         })
     }
 
-    /// The terms, which are copied where another one shares them.
+    /// The terms, which are copied if another one shares them.
     pub fn into_vec(self) -> Result<Vec<Term>, OutOfMemory>
         ensures { IfOk result (λ items. items.items ≡ self) }
     {
@@ -171,7 +171,7 @@ impl Terms {
         }
     }
 
-    /// Adds a term. Where others share the terms, these are copied.
+    /// Adds a term. If others share the terms, these are copied.
     pub fn push(&mut self, term: Term) -> Result<(), OutOfMemory>
         ensures pushed { OnOk result (self.new ≡ self.old ++ term ∷ []) }
         ensures kept { OnErr result (self.new ≡ self.old) }
@@ -232,14 +232,14 @@ impl Term {
         }
     }
 
-    /// The number of symbols and variables, or `cap` where that is less.
+    /// The number of symbols and variables, or `cap` if that is less.
     pub fn size(&self, cap: u32) -> u32
         ensures { result ≡ min (tree_size self.now) cap }
     {
         self.measure().size.min(cap)
     }
 
-    /// The number of symbols and variables on the longest way down from the root, or `cap` where
+    /// The number of symbols and variables on the longest way down from the root, or `cap` if
     /// that is less.
     pub fn depth(&self, cap: u32) -> u32
         ensures { result ≡ min (tree_depth self.now) cap }
@@ -247,14 +247,14 @@ impl Term {
         self.measure().depth.min(cap)
     }
 
-    /// One more than the greatest number of a variable, and 0 where there is none.
+    /// One more than the greatest number of a variable, and 0 if there is none.
     pub fn bound(&self) -> u64
         ensures { result ≡ tree_bound self.now }
     {
         self.measure().bound
     }
 
-    /// How many variables are numbered after the term where these many are before it, if its
+    /// How many variables are numbered after the term when this many are before it, if its
     /// variables are numbered by first occurrence.
     pub fn numbered_after(&self, before: u64) -> Option<u64>
         ensures { MatchOption result ((m : ℕ) → Numbered before self.now m → ⊥)

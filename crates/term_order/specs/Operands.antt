@@ -1,4 +1,4 @@
--- What is compared: terms as they stand, or patterns, which mean their instances by a list.
+-- What is compared: terms as they are, or patterns, which mean their instances by a list.
 use Rattle.std.specs.Prelude.{List, Bool, if◌then◌else◌}
 use Rattle.term_core.specs.Tree.{Tree, instance}
 use Rattle.term_order.specs.declared.operands.Operand.{Operand}

@@ -5,7 +5,7 @@ ghost use Rattle.term_order.specs.Operands.{meaning};
 
 use term_core::{Node, Term};
 
-/// A term that is compared: as it stands, or as a pattern, which means its instance by the list of
+/// A term that is compared: as it is, or as a pattern, which means its instance by the list of
 /// the comparison.
 #[derive(Clone, Copy)]
 pub struct Operand<'a> {

@@ -58,7 +58,7 @@ module _ (sig : Sig) where
       let rest = q.1 ∙ ap (λ k. range_with_len k b) e in
       ((p.0, q.0), (λ i. first i ++ rest i) ∙ sym (range_both from a b) ∙ ap (λ k. range_with_len from k) (sym (length-append (occurrences t) (occurrences_all ts))))
 
-  -- what is found behind the first term is found of all
+  -- what is found after the first term is found of all
   pub next_numbered :
       (from next : ℕ) (t : Tree) (ts : Trees) (found : Option ℕ) → next ≡ from + length (occurrences t) → IsNumbered sig from t →
       MatchOption found (AreNumbered sig next ts → ⊥) (λ end. AreNumbered sig next ts × (end ≡ next + length (occurrences_all ts))) →
@@ -86,7 +86,7 @@ module _ (sig : Sig) where
       let count : length (occurrences p) ≡ length is.0 = ap (λ (ns : List ℕ). length ns) is.1.numbered ∙ length-range_with_len 0 (length is.0) in
       (is.1.pattern, is.1.numbered ∙ ap (λ k. range_with_len 0 k) (sym count))
 
-  -- what is answered where the term has the sort, and where it hasn't
+  -- what is answered if the term has the sort, and if it hasn't
   pub decided :
       (s : SortId) (p : Tree) (ctx : List SortId) → ctx ≡ sorts_in sig s p → Sorted sig ctx p s →
       (found : Option ℕ) → MatchOption found (IsNumbered sig 0 p → ⊥) (λ end. IsNumbered sig 0 p × (end ≡ 0 + length (occurrences p))) →

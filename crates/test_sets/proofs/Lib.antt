@@ -1,5 +1,5 @@
 pub mod Variables
--- Patterns: the sorts of their variables, that each stands once, and the values that they cover.
+-- Patterns: the sorts of their variables, that each occurs once, and the values that they cover.
 pub mod PatternSorts
 pub mod LinearPatterns
 pub mod CoveredValues

@@ -52,7 +52,7 @@ module _ (sig : Sig) where
   variables_are_patterns from zero = tt
   variables_are_patterns from (suc count) = (tt, variables_are_patterns (from + 1) count)
 
-  -- they have the sorts of a list that stands in the context from that number on
+  -- they have the sorts of a list that is in the context from that number on
   pub variables_are_sorted :
       (ctx : List SortId) (from : ℕ) (ss : List SortId) → ((k : ℕ) → slice_get ctx (from + k) ≡ slice_get ss k) →
       SortedAll sig ctx (trees_of (variables from (length ss))) ss

@@ -1,4 +1,4 @@
--- The sorts of a pattern's variables by what stands round them, and the children that they make.
+-- The sorts of a pattern's variables by what is round them, and the children that they make.
 use Rattle.std.specs.Prelude.{ℕ, List, [], ◌∷◌, ◌++◌, Option, Some, None}
 use Rattle.term_core.specs.Tree.{Tree, Trees, var, app, none, some}
 use Rattle.term_core.specs.declared.ids.SortId.{SortId}
@@ -9,13 +9,13 @@ use Rattle.clause_core.specs.Tidied.{tidied}
 use Rattle.clause_core.specs.Patterns.{IsPatternOf}
 use Rattle.clause_core.specs.Splitting.{covered_by}
 
--- the sorts of a symbol's arguments, and none where it isn't declared
+-- the sorts of a symbol's arguments, and none if it isn't declared
 abbrev pub args_of : Option SymInfo → List SortId
 args_of (Some i) = i.args
 args_of None = []
 
--- at each occurrence of a variable from the left, the sort that its place asks for, where the whole
--- stands at a place of this sort
+-- at each occurrence of a variable from the left, the sort that its place asks for, if the whole
+-- is at a place of this sort
 abbrev mutual
   pub sorts_in : Sig → SortId → Tree → List SortId
   sorts_in sig s (var n) = s ∷ []

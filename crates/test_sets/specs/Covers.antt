@@ -1,4 +1,4 @@
--- What is answered where patterns are put for a variable of a clause.
+-- What is answered when patterns are put for a variable of a clause.
 use Rattle.std.specs.Prelude.{◌≡◌, ℕ, List, [], ◌∷◌, Any, map, zip}
 use Rattle.std.specs.List.{AllByRecursion}
 use Rattle.term_core.specs.Tree.{Tree}

@@ -10,5 +10,5 @@ use Rattle.test_sets.specs.Covers.{IsUncovered}
 pub record WorkedExamples : Type 0 where
   pub naturals : test_set_of naturals_sig nat ≡ zero_term ∷ (succ_term (var 0) ∷ [])
   pub booleans : test_set_of naturals_sig bool_sort ≡ true_term ∷ (false_term ∷ [])
-  -- where zero stands alone, succ(zero) is named
+  -- if zero stands alone, succ(zero) is named
   pub zero_alone : IsUncovered naturals_sig nat (zero_term ∷ []) (succ_term zero_term)

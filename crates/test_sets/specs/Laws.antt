@@ -1,4 +1,4 @@
--- Laws of test sets, and of what is answered where patterns are put for a variable.
+-- Laws of test sets, and of what is answered when patterns are put for a variable.
 use Rattle.std.specs.Prelude.{◌≡◌, ℕ, ◌+◌, ◌<◌, ◌≤◌, List, [], Some, Ok, Err, map, length, slice_get}
 use Rattle.std.specs.List.{AllZip}
 use Rattle.term_core.specs.Tree.{Tree}

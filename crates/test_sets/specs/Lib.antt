@@ -1,4 +1,4 @@
--- Test sets, and what is answered where patterns are put for a variable.
+-- Test sets, and what is answered when patterns are put for a variable.
 pub mod TestSets
 pub mod Covers
 pub mod Laws

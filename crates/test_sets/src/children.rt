@@ -10,7 +10,7 @@ use std::alloc::Global;
 use substitutions::Subst;
 use term_core::{OutOfMemory, SortId, Term, VarId};
 
-/// The clauses with each pattern for the variable, tidied; None where one of them passes a limit.
+/// The clauses with each pattern for the variable, tidied; None if one of them passes a limit.
 pub(crate) fn children(
     alloc: Global,
     sig: &Signature,
@@ -36,7 +36,7 @@ pub(crate) fn children(
     Ok(Some(made))
 }
 
-/// The clause with the pattern for the variable, tidied; None where it passes a limit. One that
+/// The clause with the pattern for the variable, tidied; None if it passes a limit. One that
 /// passes a limit is not built.
 fn child(
     alloc: Global,

@@ -14,9 +14,9 @@ use term_core::{Term, VarId};
 /// The clauses with each pattern for the variable, tidied, in the order of the patterns. The
 /// variables of a pattern, which count from 0, stand for fresh ones.
 ///
-/// `NotCovering` comes exactly where some value of the variable's sort is an instance of no
-/// pattern, with the value that coverage_check names, and goes before `Limit`, which comes exactly
-/// where a child passes a limit of clauses. Patterns cover by a coNP-hard question; those that
+/// `NotCovering` comes if and only if some value of the variable's sort is an instance of no
+/// pattern, with the value that coverage_check names, and goes before `Limit`. `Limit` comes if and
+/// only if a child passes a limit of clauses. Patterns cover by a coNP-hard question; those that
 /// don't overlap are quick.
 pub fn cover(
     alloc: Global,

@@ -13,7 +13,7 @@ use std::alloc::Global;
 use term_core::{Node, OutOfMemory, SortId, Term, VarId, front};
 
 /// Whether the clause has the variable, and the patterns are constructor terms of its sort, whose
-/// variables are numbered from 0 on and stand once each: then [`crate::cover`] may be asked.
+/// variables are numbered from 0 on and occur once each: then [`crate::cover`] may be asked.
 pub fn are_patterns_for(
     alloc: Global,
     sig: &Signature,
@@ -60,8 +60,8 @@ fn has_sort(sig: &Signature, ctx: &[SortId], term: &Term, sort: SortId) -> bool
     }
 }
 
-/// The number behind those of a constructor term's variables, where they are numbered from a
-/// number on and stand once each.
+/// The number after those of a constructor term's variables, if they are numbered from a
+/// number on and occur once each.
 #[cycle(numbered)]
 fn numbered(sig: &Signature, pattern: &Term, from: usize) -> Option<usize>
     ensures { MatchOption result (IsNumbered sig.now from pattern.now → ⊥)

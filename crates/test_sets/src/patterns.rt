@@ -48,7 +48,7 @@ fn rows_of(alloc: Global, patterns: &[Term]) -> Result<Vec<Terms>, OutOfMemory>
 }
 
 /// Adds the sorts of a term's variables, for each occurrence from the left the sort that its place
-/// asks for. What stands past the arguments of a symbol is left out.
+/// asks for. What comes past the arguments of a symbol is left out.
 #[cycle(push_sorts)]
 pub(crate) fn push_sorts(
     sig: &Signature,

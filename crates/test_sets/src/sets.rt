@@ -24,7 +24,7 @@ pub fn test_set(alloc: Global, sig: &Signature, sort: SortId) -> Result<Vec<Term
     Ok(made)
 }
 
-/// The symbol applied to so many variables, from 0 on.
+/// The symbol applied to this many variables, from 0 on.
 fn applied(alloc: Global, sym: SymId, arguments: usize) -> Result<Term, OutOfMemory>
     requires { arguments < 2 ^ 32 }
     ensures { IfOk result (λ made. made ≡ application sym.0 (trees_of (variables 0 arguments))) }

@@ -42,7 +42,7 @@ slice_get-append (b ∷ before) ctx n (suc by) e =
 
 module _ (sig : Sig) where
   mutual
-    -- a sorted term keeps its sort where as many variables stand before its own
+    -- a sorted term keeps its sort if as many variables come before its own
     pub sorted_shifted : (before ctx : List SortId) (by : ℕ) → length before ≡ by → (t : Tree) (s : SortId) → Sorted sig ctx t s → Sorted sig (before ++ ctx) (shifted by t) s
     sorted_shifted before ctx by e (var n) s p = slice_get-append before ctx n by e ∙ p
     sorted_shifted before ctx by e (app f ts) s p = (p.0, p.1, p.2, sorted_shifted_all before ctx by e ts p.0.args p.3)

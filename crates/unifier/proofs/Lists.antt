@@ -27,7 +27,7 @@ zip_pushed old now after xs ys i h e at is =
 pub zip_whole : (old now : List (ℕ × ℕ)) (xs ys : List ℕ) (i : ℕ) → length xs ≡ length ys → length xs ≤ i → now ≡ old ++ take i (zip xs ys) → now ≡ old ++ zip xs ys
 zip_whole old now xs ys i e h at = at ∙ ap (λ ps. old ++ ps) (take-zip_whole xs ys i e h)
 
--- one more root is another where it is the one that goes
+-- one more root is another if it is the one that goes
 module _ (from to : ℕ) (old now : List ℕ) (i : ℕ) (h : i < length old) (k : length now ≡ length old) (at : now ≡ relabelled from to (take i old) ++ drop i old) where
   read : get_or now i 0 ≡ get_or now i (get_or now i 0)
   read = get_or_default now i 0 (get_or now i 0) (omega arith)

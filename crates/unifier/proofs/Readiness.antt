@@ -55,7 +55,7 @@ module _ (graph : List Shape) (roots : List ℕ) where
       by i h (inl q) = subst (λ n. Ends graph roots (suc (marks ready)) n) (sym q) each
       by i h (inr q) = ends_later (marks ready) (suc (marks ready)) i (omega arith) (marked i h q)
 
-  -- where all are ready there is no cycle
+  -- if all are ready there is no cycle
   pub acyclic_by : (ready : List Bool) → length ready ≡ length graph → IsMarked graph roots ready → ((k : ℕ) → k < length ready → is_ready ready k ≡ true) → IsAcyclic graph roots
   acyclic_by ready long marked all i l = ends_later (marks ready) (length graph) i (omega (arith, marks_le ready)) (marked i l (all i (omega arith)))
 

@@ -27,7 +27,7 @@ occurs_built A m f g (App sym cs) h e o =
     e r.0 r.1 r.2
 
 module _ (graph : List Shape) (roots : List ℕ) where
-  -- a greater depth gives the same tree where each way down ends before
+  -- a greater depth gives the same tree if each way down ends before
   pub unfolded_deeper : (k m i : ℕ) → Ends graph roots k i → k ≤ m → unfolded graph roots m i ≡ unfolded graph roots k i
   unfolded_deeper zero m i e h = absurd e
   unfolded_deeper (suc k) zero i e h = absurd (omega arith)
@@ -107,7 +107,7 @@ module _ (graph : List Shape) (tree : ℕ → Tree) (a b : Tree) (parts : ArePar
     unifier_marks : (t : List (Option Tree)) → IsUnifier a b t → apply t (tree first) ≡ apply t (tree second)
     unifier_marks t u = ap (λ x. apply t x) one ∙ u ∙ ap (λ x. apply t x) (sym other)
 
-    -- where no marking is a model with one mark for both, the terms have no unifier
+    -- if no marking is a model with one mark for both, the terms have no unifier
     pub none_by : ((mark : ℕ → Tree) → IsModel graph mark → mark first ≡ mark second → ⊥) → HaveNoUnifier a b
     none_by h t u = h (λ i. apply t (tree i)) (instance_model graph tree parts.depicts t) (unifier_marks t u)
 

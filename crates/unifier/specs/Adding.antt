@@ -5,7 +5,7 @@ use Rattle.unifier.specs.declared.unification.graph.Shape.{Shape}
 use Rattle.unifier.specs.Graph.{AllBelow, trees_by, IsGraph, Depicts, HasOneNodeEach}
 use Rattle.unifier.specs.Parts.{IsPart, IsPartOfAny}
 
--- the arguments of each node stand before it, each variable has one node, and the nodes stand for
+-- the arguments of each node come before it, each variable has one node, and the nodes stand for
 -- these trees
 pub record IsOf (graph : List Shape) (tree : ℕ → Tree) : Type 0 where
   pub numbered : IsGraph graph

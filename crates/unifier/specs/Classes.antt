@@ -13,7 +13,7 @@ abbrev pub AreWithin : ℕ → List (ℕ × ℕ) → Type 0
 AreWithin n [] = Unit {0}
 AreWithin n (p ∷ ps) = (p.0 < n) × (p.1 < n) × AreWithin n ps
 
--- node j is an application of the symbol to as many arguments, with the same marks where classes
+-- node j is an application of the symbol to as many arguments, with the same marks if classes
 -- and pairs have one mark each
 abbrev pub IsLike : List Shape → List ℕ → List (ℕ × ℕ) → SymId → List ℕ → ℕ → Type 0
 IsLike graph roots pending f cs j =

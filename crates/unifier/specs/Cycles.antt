@@ -17,7 +17,7 @@ abbrev pub SomeArg : (ℕ → Type 0) → Shape → Type 0
 SomeArg P (Var v) = ⊥
 SomeArg P (App f cs) = (k : ℕ) × (k < length cs) × P (slice_index cs k)
 
--- each way down from the node has fewer than so many steps
+-- each way down from the node has fewer than this many steps
 abbrev pub Ends : List Shape → List ℕ → ℕ → ℕ → Type 0
 Ends graph roots zero i = ⊥
 Ends graph roots (suc k) i = EachArg (λ c. Ends graph roots k (root roots c)) (shape_at graph i)

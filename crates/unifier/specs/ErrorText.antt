@@ -1,4 +1,4 @@
--- How errors are told.
+-- How errors are reported.
 use Rattle.std.specs.Prelude.{ℕ, List, Option, Some, codes}
 use Rattle.unifier.specs.declared.shifting.ShiftError.{ShiftError}
 use Rattle.unifier.specs.declared.shifting.ShiftError.TheVariants.{TooLarge, OutOfMemory}

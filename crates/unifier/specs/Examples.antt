@@ -14,7 +14,7 @@ pub record WorkedExamples : Type 0 where
   pub relevant : IsRelevant (var 0) (var 1) (Some (var 1) ∷ [])
   pub not_relevant :
       IsRelevant (var 0) (var 1) (Some (var 1) ∷ None ∷ Some (var 3) ∷ Some (var 2) ∷ []) → ⊥
-  -- plus(x, zero) and plus(succ(y), y) have one where x is succ(zero) and y is zero
+  -- plus(x, zero) and plus(succ(y), y) have one if x is succ(zero) and y is zero
   pub sums : IsMostGeneral (plus_term (var 0) zero_term) (plus_term (succ_term (var 1)) (var 1))
       (Some (succ_term zero_term) ∷ Some zero_term ∷ [])
   -- zero and succ(x) have none (clash), and neither have x and succ(x) (occurs test)

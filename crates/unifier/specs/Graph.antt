@@ -4,7 +4,7 @@ use Rattle.term_core.specs.Tree.{Tree, Trees, var, app, none, some}
 use Rattle.unifier.specs.declared.unification.graph.Shape.{Shape}
 use Rattle.unifier.specs.declared.unification.graph.Shape.TheVariants.{Var, App}
 
--- what stands at a node
+-- what is at a node
 abbrev pub shape_at : List Shape → ℕ → Shape
 shape_at graph i = slice_index_or graph i (Var (record { 0 = 0 }))
 
@@ -28,7 +28,7 @@ abbrev pub ArgsBelow : ℕ → Shape → Type 0
 ArgsBelow n (Var v) = Unit {0}
 ArgsBelow n (App f cs) = AllBelow n cs
 
--- the arguments of each node stand before it
+-- the arguments of each node come before it
 abbrev pub IsGraph : List Shape → Type 0
 IsGraph graph = (i : ℕ) → i < length graph → ArgsBelow i (shape_at graph i)
 
@@ -36,7 +36,7 @@ IsGraph graph = (i : ℕ) → i < length graph → ArgsBelow i (shape_at graph i
 abbrev pub Depicts : List Shape → (ℕ → Tree) → Type 0
 Depicts graph tree = (i : ℕ) → i < length graph → tree i ≡ built tree (shape_at graph i)
 
--- what stands at the node is this variable
+-- what is at the node is this variable
 abbrev pub IsShapeOf : ℕ → Shape → Type 0
 IsShapeOf n (Var v) = v.0 ≡ n
 IsShapeOf n (App f cs) = ⊥

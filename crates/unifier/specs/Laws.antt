@@ -4,7 +4,7 @@ use Rattle.term_core.specs.Tree.{Tree}
 use Rattle.term_core.specs.Variables.{Occurs}
 use Rattle.unifier.specs.Shifting.{shifted}
 
--- no variable stands in a term with numbers below `by` and in one that is shifted by `by`
+-- no variable occurs in a term with numbers below `by` and in one that is shifted by `by`
 abbrev pub ShiftedAreApart : Type 0
 ShiftedAreApart =
     (by : ℕ) (a b : Tree) → ((n : ℕ) → Occurs n a → n < by) →

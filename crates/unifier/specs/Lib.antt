@@ -3,7 +3,7 @@ pub mod Shifting
 pub mod Unification
 pub mod Laws
 pub mod Examples
--- What only this crate's own contracts speak of: how errors are told,
+-- What only this crate's own contracts speak of: how errors are reported,
 pub mod ErrorText
 -- the graph of two terms,
 pub mod Graph

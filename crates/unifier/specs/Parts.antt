@@ -2,7 +2,7 @@
 use Rattle.std.specs.Prelude.{◌≡◌, ◌⊎◌}
 use Rattle.term_core.specs.Tree.{Tree, Trees, var, app, none, some}
 
--- the first tree is the second or stands in it
+-- the first tree is the second or occurs in it
 abbrev mutual
   pub IsPart : Tree → Tree → Type 0
   IsPart t (var n) = t ≡ var n

@@ -11,7 +11,7 @@ pub record AreRoots (graph : List Shape) (roots : List ℕ) : Type 0 where
   pub long : length roots ≡ length graph
   pub within : (i : ℕ) → i < length graph → root roots i < length graph
 
--- each of so many nodes is its own root
+-- each of this many nodes is its own root
 pub record AreOwn (count : ℕ) (roots : List ℕ) : Type 0 where
   pub long : length roots ≡ count
   pub own : (i : ℕ) → i < count → root roots i ≡ i

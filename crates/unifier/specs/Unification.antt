@@ -20,17 +20,17 @@ pub record IsMostGeneral (a b : Tree) (s : List (Option Tree)) : Type 0 where
   pub general :
       (t : List (Option Tree)) → IsUnifier a b t → (u : List (Option Tree)) × IsComposed s u t
 
--- the variable stands in one of the terms
+-- the variable occurs in one of the terms
 abbrev pub OccursInEither : Tree → Tree → ℕ → Type 0
 OccursInEither a b n = Occurs n a ⊎ Occurs n b
 
--- each variable with an entry stands in one of the terms, and so does each variable of an entry
+-- each variable with an entry occurs in one of the terms, and so does each variable of an entry
 abbrev pub IsRelevant : Tree → Tree → List (Option Tree) → Type 0
 IsRelevant a b s =
     (n : ℕ) (t : Tree) → entry s n ≡ Some t →
     OccursInEither a b n × ((m : ℕ) → Occurs m t → OccursInEither a b m)
 
--- where both terms have one sort, each entry has its variable's sort
+-- if both terms have one sort, each entry has its variable's sort
 abbrev pub KeepsSorts : Tree → Tree → List (Option Tree) → Type 0
 KeepsSorts a b s =
     (sig : Sig) (ctx : List SortId) (sort : SortId) →

@@ -3,7 +3,7 @@ use Rattle.std.specs.Prelude.{ℕ, suc, ◌+◌, ◌*◌, ◌==◌, if◌then◌
 use Rattle.unifier.specs.declared.unification.graph.Shape.{Shape}
 use Rattle.unifier.specs.declared.unification.graph.Shape.TheVariants.{Var, App}
 
--- one where the two are the same, and nothing otherwise
+-- one if the two are the same, and nothing otherwise
 abbrev pub one_if : ℕ → ℕ → ℕ
 one_if r k = if r == k then 1 else 0
 

@@ -40,7 +40,7 @@ impl From<OutOfMemory> for ShiftError {
 }
 
 /// The term with `by` added to the number of each variable: it has no variable in common with a
-/// term whose variables have numbers below `by`. `TooLarge` comes where a number would pass
+/// term whose variables have numbers below `by`. `TooLarge` comes if a number would pass
 /// 4,294,967,295.
 #[cycle(shift)]
 pub fn shift(alloc: Global, term: &Term, by: u32) -> Result<Term, ShiftError>

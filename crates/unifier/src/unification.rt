@@ -19,9 +19,9 @@ use term_core::{OutOfMemory, Term};
 ///
 /// The method is unification closure (Huet, 1976; Baader and Snyder, Handbook of Automated
 /// Reasoning, 2001). The nodes of both terms are put into classes: the two terms are in one class,
-/// and so are the arguments of two applications in one class, place by place. `None` comes where
-/// the applications of a class have other symbols or other numbers of arguments (clash), and where
-/// a class stands below itself (occurs test).
+/// and so are the arguments of two applications in one class, place by place. `None` comes if
+/// the applications of a class have other symbols or other numbers of arguments (clash), and if
+/// a class is below itself (occurs test).
 ///
 /// Up to there the time is quadratic in the number of symbols of both terms, and no term is made.
 /// The entries are trees, which may be exponentially larger than the terms. Their list has a place

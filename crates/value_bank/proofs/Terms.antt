@@ -90,7 +90,7 @@ term_there cells p bank lt = term_below cells bank (suc p) p (omega arith) lt
 pub same_cell : (cells : List Cell) (p f g : ℕ) (ps qs : List ℕ) → slice_get cells p ≡ Some (cell f ps) → slice_get cells p ≡ Some (cell g qs) → (f ≡ g) × (ps ≡ qs)
 same_cell = same_entry
 
--- where a cell is added that refers to earlier ones, and each cell is there once, the cells are a bank
+-- if a cell is added that refers to earlier ones, and each cell is there once, the cells are a bank
 pub bank_added : (cells new now : List Cell) (f : ℕ) (ps : List ℕ) → cells ≡ now → IsBank cells →
     AreBelow (length now) ps → IsAdded cells new (cell f ps) → AreShared new →
     IsBank new × (length new < 2 ^ 32)
@@ -111,6 +111,6 @@ bank_added cells new now f ps view bank below added shared =
               (subst (λ xs. AreBelow (length cells) xs) (ap (λ (c : Cell). c.args) a.1) below')
         ]
 
--- the terms at two places are the same exactly where the places are
+-- the terms at two places are the same if and only if the places are
 pub same_places : (cells : List Cell) (p q : ℕ) (s t : Tree) → IsBank cells → IsTerm cells p s → IsTerm cells q t → (p ≡ q) ↔ (s ≡ t)
 same_places cells p q s t bank a b = (λ e. one_term_at cells q s t (subst (λ x. IsTerm cells x s) e a) b, λ e. one_place_of cells p q t bank (subst (λ x. IsTerm cells p x) e a) b)

@@ -19,7 +19,7 @@ node_term = app 4 (some (succ_term zero_term) (some (succ_term zero_term) none))
 
 pub record WorkedExamples : Type 0 where
   pub shared : IsTerm three_cells 2 node_term
-  -- no other term stands there, and no term stands behind the last cell
+  -- no other term is there, and no term comes after the last cell
   pub other : IsTerm three_cells 2 (succ_term zero_term) → ⊥
   pub outside : IsTerm three_cells 3 zero_term → ⊥
   -- two cells of zero are no bank, and neither is a cell that refers to itself

@@ -75,7 +75,7 @@ impl Bank {
         self.cells.at(place)
     }
 
-    /// The place of the symbol with arguments at these places. A cell is added where none is the same.
+    /// The place of the symbol with arguments at these places. A cell is added if none is the same.
     #[inline(always)]
     pub fn add(&mut self, sym: u32, args: &[u32]) -> Result<u32, OutOfMemory>
         requires { AreBelow (length self.old) args.now }

@@ -16,7 +16,7 @@ pub fn one_place()
     ensures { OnePlace }
 {}
 
-/// Where cells are added, a place keeps its term.
+/// When cells are added, a place keeps its term.
 pub fn keeps_terms()
     ensures { KeepsTerms }
 {}

@@ -9,7 +9,7 @@ use std::alloc::Global;
 use term_core::{OutOfMemory, SymId, Term, Terms};
 
 /// The most symbols of a term that is read from a bank. The term of a few cells can be larger than
-/// any memory, since an argument that stands twice is one cell.
+/// any memory, since an argument that occurs twice is one cell.
 pub const TERM_SYMBOLS: usize = 10_000;
 
 impl Bank {
@@ -32,7 +32,7 @@ impl Bank {
     }
 
     /// The places of the symbols of the term at a place, each before those of its arguments, of
-    /// which the last one comes first; or None where there are more than 10,000.
+    /// which the last one comes first; or None if there are more than 10,000.
     fn order(&self, alloc: Global, place: u32) -> Result<Option<Vec<u32>>, OutOfMemory>
         requires { place < length self.now }
         ensures { IfOk result (IsOrderOr self.now place) }

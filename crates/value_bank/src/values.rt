@@ -9,7 +9,7 @@ use std::alloc::Global;
 use term_core::{Node, OutOfMemory, Term, front};
 
 impl Bank {
-    /// The place of a ground term, whose cells are added where they aren't there. It calls itself as
+    /// The place of a ground term, whose cells are added if they aren't there. It calls itself as
     /// deep as the term is.
     pub fn value(&mut self, alloc: Global, value: &Term) -> Result<ValueId, OutOfMemory>
         requires { IsGround value.now }

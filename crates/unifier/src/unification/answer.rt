@@ -10,7 +10,7 @@ use std::alloc::Global;
 use substitutions::Subst;
 use term_core::{OutOfMemory, Term, Terms};
 
-/// Each variable becomes the term of its class's root, and stays as it is where it is the root.
+/// Each variable becomes the term of its class's root, and stays as it is if it is the root.
 pub(crate) fn entries(alloc: Global, graph: &[Shape], roots: &[usize]) -> Result<Subst, OutOfMemory>
     requires graph { IsGraph graph.now }
     requires variables { HasOneNodeEach graph.now }

@@ -12,7 +12,7 @@ use term_core::OutOfMemory;
 
 /// The least classes of nodes that have both of these nodes in one class, and with two
 /// applications their arguments, place by place. For each node comes the root of its class, which
-/// is an application where the class has one. `None` comes where two applications of a class have
+/// is an application if the class has one. `None` comes if two applications of a class have
 /// other symbols or other numbers of arguments.
 pub(crate) fn close(
     alloc: Global,
@@ -50,7 +50,7 @@ fn own_roots(alloc: Global, count: usize) -> Result<Vec<usize>, OutOfMemory>
 }
 
 /// Joins the classes of the two nodes, and leaves the pairs of their roots' arguments to be joined.
-/// `false` comes where the roots have other symbols or other numbers of arguments.
+/// `false` comes if the roots have other symbols or other numbers of arguments.
 fn join(
     graph: &[Shape],
     roots: &mut Vec<usize>,
@@ -91,7 +91,7 @@ fn join(
     }
 }
 
-/// Adds the pairs of what stands at one place of both lists.
+/// Adds the pairs of what is at one place of both lists.
 fn push_pairs(
     pending: &mut Vec<(usize, usize)>,
     xs: &[usize],

@@ -8,8 +8,8 @@ use crate::unification::graph::Shape;
 use std::alloc::Global;
 use term_core::OutOfMemory;
 
-/// The occurs test: whether no node stands below itself, where the roots of its arguments' classes
-/// stand below a node. A node is ready when what stands below it is, and rounds mark the nodes that
+/// The occurs test: whether no node is below itself, where the roots of its arguments' classes
+/// are below a node. A node is ready when what is below it is, and rounds mark the nodes that
 /// are ready until one finds none.
 pub(crate) fn is_acyclic(
     alloc: Global,

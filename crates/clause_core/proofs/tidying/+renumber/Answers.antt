@@ -39,7 +39,7 @@ renumber-renumber_all-requires t c =
     let view : app c.in-App-node.field-0.0 (trees_of ts) ≡ c.args.term = ap tree_of (sym c.in-App-node.is) ∙ c.term.view_is in
     (omega (arith, ap weight view, list_weight_is ts, ap list_weight (c.in_ok-into_vec-in-App-node.ensures ∙ c.in-App-node.args-is)), tt)
 
--- the term that is taken out is the one that was there at first
+-- the term that is taken out is the one that was there before
 taken_out : (now before : List Tree) (i : ℕ) (t there : Tree) → i < length now → length now ≡ length before → drop i now ≡ drop i before → t ≡ there → there ≡ get_or now i there → t ≡ get_or before i t
 taken_out now before i t there lt same left is at =
     is ∙ at ∙ ap (λ d. get_or now i d) (sym is) ∙ next_left now before i t lt (omega (arith, lt, same)) left

@@ -76,7 +76,7 @@ pass_arguments-returns-in-Some-2 t c =
     passes_arguments n u ts others first k old base new c.in-Some-2.left r passed.0 passed.1 h)
     c.pass_arguments-in-Some-2.ensures
 
--- a first argument whose size tells that the index is behind it
+-- a first argument whose size tells that the index is after it
 pub pass_arguments-returns-in-Some : goal.pass_arguments-returns-in-Some
 pass_arguments-returns-in-Some t c =
     let ts = c.args.terms.now in

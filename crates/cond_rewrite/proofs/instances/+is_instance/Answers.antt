@@ -6,7 +6,7 @@ use Rattle.substitutions.specs.Substitution.{apply}
 use Rattle.substitutions.proofs.Instances.{apply_all-trees_of}
 use Rattle.cond_rewrite.proofs.instances.+is_instance.Goals as goal
 
--- an application is an instance where its arguments are
+-- an application is an instance if its arguments are
 applications :
     (s : List (Option Tree)) (p t : Tree) (f g : ℕ) (patterns terms : List Tree) (r : Bool) → app f (trees_of patterns) ≡ p → app g (trees_of terms) ≡ t → g ≡ f →
     IsTrue r ↔ (terms ≡ map (apply s) patterns) → IsTrue r ↔ (t ≡ apply s p)

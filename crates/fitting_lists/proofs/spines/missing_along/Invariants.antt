@@ -1,4 +1,4 @@
--- So many are left of those that are asked for as of those that stand there.
+-- As many are left of those that are asked for as of those that are there.
 use Rattle.std.proofs.Common.{◌≡◌, ◌≤◌, ◌+◌, ◌-◌}
 use Rattle.term_core.specs.Tree.{trees_of}
 use Rattle.fitting_lists.specs.Spines.{last_run}

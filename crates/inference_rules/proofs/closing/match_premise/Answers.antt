@@ -4,7 +4,7 @@ use Rattle.clause_core.specs.Equations.{IsEither}
 use Rattle.clause_core.proofs.OneAnswer.{forth, back}
 use Rattle.inference_rules.proofs.closing.match_premise.Goals as goal
 
--- an equation is another one, and so where both are the same as these
+-- an equation is another one, and so if both are the same as these
 either_forth : {e d f g : Equation} → e ≡ f → d ≡ g → IsEither e d → IsEither f g
 either_forth {d = d} {f = f} p q h = forth (λ x. IsEither f x) q (forth (λ x. IsEither x d) p h)
 

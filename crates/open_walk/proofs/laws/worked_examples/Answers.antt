@@ -64,7 +64,7 @@ plus_costs : (ts : Trees) (v : Tree) (n : ℕ) → OpenGives naturals (app 4 ts)
 plus_costs ts v n (open_built low all) = absurd (omega arith)
 plus_costs ts v n (open_called number rule values all at opens is gs right cost) = omega arith
 
--- and has none where its first argument is a variable
+-- and has none if its first argument is a variable
 first_is : (k : ℕ) (ts vs : Trees) (n : ℕ) → OpenGivesAll naturals (some (var k) ts) vs n → (us : Trees) × (vs ≡ some (var k) us)
 first_is k ts vs n (more_open_terms {v} {vs = us} one more cost) = (us, ap (λ t. some t us) (var_gives k v _ one))
 

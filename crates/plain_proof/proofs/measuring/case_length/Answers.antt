@@ -10,7 +10,7 @@ use Rattle.plain_proof.proofs.NarrowTerms.{case_narrow}
 use Rattle.plain_proof.proofs.Lengths.{case_outside, case_no_left, case_no_right, case_too_long, case_refused, case_by, side_in, case_of_symbol, within_in}
 use Rattle.plain_proof.proofs.measuring.case_length.Goals as goal
 
--- an item stays where more items follow
+-- an item stays when more items follow
 longer : (xs ys : List SortId) (n : ℕ) (s : SortId) → slice_get xs n ≡ Some s → slice_get (xs ++ ys) n ≡ Some s
 longer [] ys n s at = absurd (let q : None ≡ Some s = at in cc)
 longer (x ∷ xs) ys zero s at = at

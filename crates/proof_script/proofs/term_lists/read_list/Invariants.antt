@@ -5,7 +5,7 @@ use Rattle.proof_script.proofs.term_lists.read_list.Given as goal
 abbrev pub decreases-loop-made : goal.decreases-loop-made
 decreases-loop-made l = length l.rest
 
--- the terms that were read, each with `, ` behind it, and what each list at the front goes on with
+-- the terms that were read, each with `, ` after it, and what each list at the front goes on with
 abbrev pub invariant-loop-made : goal.invariant-loop-made
 invariant-loop-made l =
     record {

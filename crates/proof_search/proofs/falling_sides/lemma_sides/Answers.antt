@@ -9,7 +9,7 @@ use Rattle.proof_search.specs.FallingSides.{Permutes}
 use Rattle.proof_search.proofs.FallingSteps.{falling_variables, side_given}
 use Rattle.proof_search.proofs.falling_sides.lemma_sides.Goals as goal
 
--- the variables of both sides, where each side has them all
+-- the variables of both sides, if each side has them all
 both_variables :
     (count : ℕ) (e : Equation) → AreVariables count (e.left ∷ []) →
     AreVariables count (e.right ∷ []) → AreVariables count (both_sides e)

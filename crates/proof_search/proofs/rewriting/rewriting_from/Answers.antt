@@ -53,7 +53,7 @@ passed_side says false candidate is = tt
 only_one : (e d : Equation) → (e ∷ []) ≡ (d ∷ []) → e ≡ d
 only_one e d is = cc
 
--- where the test of the instances says no, the term doesn't fall
+-- if the test of the instances says no, the term doesn't fall
 none_under :
     (above : Tree → Tree → Type 0) (told : Bool) (list by : List Tree)
     (from to own other term : Tree) →

@@ -1,4 +1,4 @@
--- What is told is right of the steps before this one.
+-- The last uses so far are right for the steps before this one.
 use Rattle.std.proofs.Common.{◌≡◌, ◌<◌, ◌≤◌, ℕ, Some, length}
 use Rattle.std.specs.Prelude.{slice_get, slice_index_or}
 use Rattle.clause_core.specs.declared.steps.Step.{Step}

@@ -4,7 +4,7 @@ use Rattle.report_reader.specs.Behind.{IsBehind}
 use Rattle.report_reader.specs.Stages.{proving, report_size}
 use Rattle.report_reader.proofs.claims.read_steps.Given as goal
 
--- so many steps were read, behind the same lines
+-- this many steps were read, after the same lines
 abbrev pub invariant-loop-node : goal.invariant-loop-node
 invariant-loop-node l =
     record {

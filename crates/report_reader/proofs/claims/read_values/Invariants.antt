@@ -4,7 +4,7 @@ use Rattle.report_reader.specs.Behind.{IsBehind}
 use Rattle.report_reader.specs.Stages.{refuting, report_size}
 use Rattle.report_reader.proofs.claims.read_values.Given as goal
 
--- so many values were read, behind the same lines
+-- this many values were read, after the same lines
 abbrev pub invariant-loop-value : goal.invariant-loop-value
 invariant-loop-value l =
     record {

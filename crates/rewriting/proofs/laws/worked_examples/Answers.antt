@@ -17,7 +17,7 @@ use Rattle.rewriting.proofs.OneRun.{one_normal}
 use Rattle.spec_core.proofs.SortedNaturals.{well_sorted}
 use Rattle.rewriting.proofs.laws.worked_examples.Goals as goal
 
--- a term is stuck where neither left side fits
+-- a term is stuck if neither left side fits
 stuck : (t : Tree) → ((s : List (Option Tree)) → apply s plus_zero_rule.left ≡ t → ⊥) → ((s : List (Option Tree)) → apply s plus_succ_rule.left ≡ t → ⊥) → IsStuck naturals t
 stuck t a b number u w = by w.listed.0 w.rule w.listed.2 w.entries w.left
   where

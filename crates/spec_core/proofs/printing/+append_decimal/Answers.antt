@@ -5,7 +5,7 @@ use Rattle.spec_core.proofs.Decimals.{decimal_ones, decimal_step}
 use Rattle.spec_core.proofs.printing.+append_decimal.Goals as goal
 use Rattle.spec_core.proofs.printing.+append_decimal.Goals.{then-number-ge10+in_ok-append_decimal, else-number-ge10}
 
--- the last digit stands behind those of the tenth, if there are any
+-- the last digit comes after those of the tenth, if there are any
 pub returns : goal.returns
 returns t c =
     let last : List ℕ = (48 + c.args.number % 10) ∷ [] in

@@ -105,7 +105,7 @@ commented =
     } in
     with_chars (λ cs. (r : List ℕ) × Scans (size cs) cs ts r × IsLastGap r) (97 ∷ rest) (ascii (97 ∷ rest) refl) ([], (rest, letter_first 5 rest refl (ends 35 (lit< tt) refl), ([], second, refl)), inl nothing)
 
--- a fault behind the name a and a space
+-- a fault after the name a and a space
 behind_letter : (x : ℕ) (xs : List ℕ) → list_all (λ b. nat_lt b 128) (97 ∷ 32 ∷ x ∷ xs) ≡ true → skip_gaps false (x ∷ xs) ≡ x ∷ xs → first_token (x ∷ xs) ≡ None → IsTextFault (97 ∷ 32 ∷ x ∷ xs) 2
 behind_letter x xs a s n =
     let cs = 97 ∷ 32 ∷ x ∷ xs in

@@ -29,7 +29,7 @@ told_yes {order = order} spec own report answer is told =
     by_own_order (λ above. Tells above spec report Yes) spec own
     (subst (λ (a : Answer). Tells (above_by order) spec report a) is told)
 
--- a line that can't continue is told
+-- a line that can't continue is reported
 fault_told :
     (IsYes : Spec → Report → List ℕ → Type 0) (spec : Spec) (bytes : List ℕ) (error : ReportError) →
     TellsFault spec.sig bytes error → (reply : Ending) (line : ℕ) → error ≡ Line line →

@@ -1,4 +1,4 @@
--- What matching finds is the only list, and where a side has no match there is none.
+-- What matching finds is the only list, and if a side has no match there is none.
 use Rattle.std.proofs.Common.{◌∷◌, [], subst}
 use Rattle.term_core.specs.References.{terms_of}
 use Rattle.matching.specs.Extending.{BindsAll}

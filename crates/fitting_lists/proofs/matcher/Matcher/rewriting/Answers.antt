@@ -1,4 +1,4 @@
--- What matching finds is the only list, and where it finds nothing there is none.
+-- What matching finds is the only list, and if it finds nothing there is none.
 use Rattle.std.proofs.Common.{◌∷◌, []}
 use Rattle.term_core.specs.References.{terms_of}
 use Rattle.fitting_lists.proofs.TermLists.{first_fails, one_pattern, no_list, only_list}
