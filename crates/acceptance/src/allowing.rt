@@ -1,3 +1,6 @@
+//! `allowed`: flags of strict nodes from the last node down, then the first node with what isn't
+//! allowed.
+
 ghost use Rattle.std.specs.Prelude.{◌≡◌, ◌↔◌, ◌+◌, ◌<◌, IfOk, IsTrue, length};
 ghost use Rattle.acceptance.specs.Strict.{first_child, Strict, NodeIsAllowed};
 ghost use Rattle.acceptance.specs.AllowedAnswers.{IsWholeBlock, TellsAllowed, TellsStrict, FallsBy, AllowedBy, ChildrenFallBy, ReferencesFallBy, ChildrenAreAllowed, ReferencesAllowedBy};

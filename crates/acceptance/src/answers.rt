@@ -1,3 +1,5 @@
+//! What `allowed` answers.
+
 /// Whether the children and the references of a block's nodes are allowed.
 #[derive(Clone, Copy, Debug, PartialEq, Eq)]
 pub enum Allowed {

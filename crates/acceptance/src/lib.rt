@@ -1,14 +1,19 @@
 //! When a report is accepted, and where it is first refused.
 //!
-//! It stands on clause_core for the steps, their table and the types of reports, and on spec_core
-//! for goals and verdicts. What is accepted is said in `specs/Strict.antt`, `specs/Blocks.antt`,
-//! `specs/Claims.antt` and `specs/Accepting.antt`, in this order: which children and references of
-//! a block's nodes are allowed, when steps prove a clause, on which goals claims are, and when a
-//! report of claims is accepted. `specs/Refusals.antt` has the tests of a report in their order,
-//! each with the line and the reason that it tells. The layers above use that a report is accepted
-//! or has one first refusal, and never both ([`one_verdict`]), and that [`allowed`] tells the first
-//! node of a block at which something isn't allowed. The worked examples take the order of
-//! sample_specs.
+//! Uses clause_core for the steps, their table and the types of reports, and spec_core for goals
+//! and verdicts; its worked examples take the order of sample_specs. `specs/Strict.antt`,
+//! `specs/Blocks.antt`, `specs/Claims.antt` and `specs/Accepting.antt`, in this order, say what
+//! is accepted: which children and references of a block's nodes are allowed, when steps prove a
+//! clause, on which goals claims are, and when a report of claims is accepted.
+//! `specs/Refusals.antt` has the tests of a report in their order, each with its line and reason.
+//!
+//! Proved: A report on a well sorted specification is accepted or has one first refusal, with its
+//! line and reason, and never both (`one_verdict`). `allowed`: All exactly where each child and
+//! each reference of a block is allowed, else the first node where one isn't. What the steps of a
+//! block make meets what `allowed` requires, if each node has its step (`blocks_are_whole`).
+//! `worked_examples`.
+//!
+//! Tested: Reports by hand, through the program.
 #![tactic(auto)]
 
 mod allowing;

@@ -1,12 +1,16 @@
-//! The admitted specification that a file's bytes stand for, or the line of their first fault; and
-//! the term that bytes stand for over a signature, or their line.
+//! From a file's bytes to an admitted specification, or to the line of their first fault.
 //!
-//! It stands on spec_syntax, which reads bytes, on sort_check, which has numbers for their names, and
-//! on spec_admit, which admits by the order that it is given: the specification's own
-//! (spec_order's `specs/Orders.antt`). `specs/Meanings.antt` says what bytes stand for, and
-//! `specs/Refusals.antt` and `specs/AdmitLines.antt` which line tells which fault. The program above
-//! uses the contracts of [`specification`] and [`ground_term`]: what they answer is what the bytes
-//! stand for, and what they refuse has the line of its first fault.
+//! Uses spec_syntax, which reads bytes, sort_check, which has numbers for their names, and
+//! spec_admit, which admits by the specification's own order (spec_order's `specs/Orders.antt`).
+//! `specs/Meanings.antt` says what bytes stand for, and `specs/Refusals.antt` and
+//! `specs/AdmitLines.antt` which line reports which fault.
+//!
+//! Proved: `specification`: the raw specification that the bytes of a file derive, and what this
+//! stands for, which is well sorted and admitted by its own order, with that order. Else the line
+//! of the text's first fault, or of the first fault of admission. `ground_term`: the sorted term
+//! without variables that bytes stand for over a signature, else the line of their first fault.
+//!
+//! Tested: Refusals byte by byte, through the program.
 #![tactic(auto)]
 
 mod admission;

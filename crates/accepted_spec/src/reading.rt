@@ -1,3 +1,5 @@
+//! From bytes to an accepted specification or a term, or to a refusal.
+
 ghost use Rattle.std.specs.Prelude.{◌≡◌, ◌≤◌, IfOk, IfErr, [], length};
 ghost use Rattle.term_core.specs.declared.ids.SortId.{SortId};
 ghost use Rattle.spec_core.specs.Sorts.{Sorted};

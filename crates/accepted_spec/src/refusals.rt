@@ -1,3 +1,5 @@
+//! Lines of refusal.
+
 ghost use Rattle.std.specs.Prelude.{◌≡◌, ◌++◌, IfOk, OnOk, codes};
 ghost use Rattle.std.specs.Fmt.{decimal};
 ghost use Rattle.spec_grammar.specs.Limits.{limit_word as word_of_limit};

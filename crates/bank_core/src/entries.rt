@@ -1,3 +1,5 @@
+//! `Entries`: heads with arguments, the heads and the arguments apart.
+
 ghost use Rattle.std.specs.Prelude.{◌≡◌, ◌<◌, ◌-◌, ◌∷◌, ◌++◌, [], Some, OnOk, OnErr, length};
 ghost use Rattle.std.specs.Prelude.{take, slice_get};
 ghost use Rattle.bank_core.specs.Entries.{entry};

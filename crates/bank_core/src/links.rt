@@ -1,3 +1,5 @@
+//! `Links`: chains of entries by hashes, and their growth.
+
 ghost use Rattle.std.specs.Prelude.{◌≡◌, ◌≤◌, ◌<◌, ◌-◌, ◌^◌, ℕ, suc, [], ◌∷◌, ◌++◌, IfOk, OnOk};
 ghost use Rattle.std.specs.Prelude.{OnErr, length};
 ghost use Rattle.bank_core.specs.Links.{HasHash, IsLast, IsIn, AreLinked, place_of};

@@ -1,3 +1,5 @@
+//! `Part`: what is compared and taken into a hash, as a trait.
+
 ghost use Rattle.std.specs.Prelude.{◌≡◌, ℕ, ◌↔◌, IsTrue};
 ghost use Rattle.bank_core.specs.Hashing.{stirred_by};
 

@@ -1,3 +1,5 @@
+//! `Table`: entries with their links.
+
 ghost use Rattle.std.specs.Prelude.{◌≡◌, ◌<◌, ◌∷◌, ◌++◌, [], Some, IsTrue, ◌↔◌, IfOk, OnOk};
 ghost use Rattle.std.specs.Prelude.{OnErr, MatchOption, length, slice_get};
 ghost use Rattle.bank_core.specs.Entries.{entry, IsNowhere, IsAdded, AreShared};

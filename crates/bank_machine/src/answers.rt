@@ -1,3 +1,5 @@
+//! What an evaluation answers.
+
 use value_bank::ValueId;
 
 /// What an evaluation over a bank found within its budget.

@@ -1,3 +1,5 @@
+//! Which rule a call uses.
+
 ghost use Rattle.std.specs.Prelude.{IfOk};
 ghost use Rattle.spec_core.specs.WellSorted.{IsWellSorted};
 ghost use Rattle.bank_machine.specs.Calls.{IsCallAt, IsFound};

@@ -1,3 +1,5 @@
+//! `Machine::run`: moves until the value is there or the budget is spent.
+
 ghost use Rattle.std.specs.Prelude.{ℕ, ◌≤◌, ◌+◌, List, IfOk, length};
 ghost use Rattle.term_core.specs.Tree.{Tree, instance};
 ghost use Rattle.term_core.specs.declared.ids.SortId.{SortId};

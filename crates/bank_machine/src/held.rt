@@ -1,3 +1,5 @@
+//! A frame that waits.
+
 /// A frame that waits: where its slots begin, where its code goes on, and what was left of the
 /// budget when the call began that it waits for.
 #[derive(Clone, Copy)]

@@ -1,3 +1,5 @@
+//! A table of calls whose values are known.
+
 ghost use Rattle.std.specs.Prelude.{◌≡◌, ◌↔◌, List, None, IfOk, OnOk, OnErr, IfSome, IsTrue};
 ghost use Rattle.spec_core.specs.declared.records.Spec.{Spec};
 ghost use Rattle.value_bank.specs.Cells.{Cell};

@@ -1,11 +1,18 @@
 //! A machine that evaluates over a bank of shared values, with its pending work on a vector.
 //!
-//! It stands on term_core, spec_core, value_bank, and on rule_code, by which a [`Machine`] holds a
+//! Uses term_core, spec_core, value_bank and rule_code. By the latter a [`Machine`] holds a
 //! specification compiled once, and the code of the terms that are evaluated. A state is a frame
-//! and the frames that wait for its value (`specs/States.antt`), and each move keeps what the state
-//! gives, less its cost. The layers above use [`Machine::run`]: the value and its cost by
-//! evaluation, or Spent exactly where no value has a cost within the budget. A [`KeptCalls`] beside
-//! the bank keeps what calls gave, from one run to the next.
+//! and the frames that wait for its value (`specs/States.antt`), and each move keeps what the
+//! state gives, less its cost. A [`KeptCalls`] beside the bank keeps what calls gave, from one
+//! run to the next.
+//!
+//! Proved: `Machine::run`: evaluation over a bank. It answers a value at its cost within the
+//! budget, and Spent exactly where no value has such a cost, if left sides don't overlap and
+//! groups are whole. A kept value is that of its call and costs what the call costs, also after
+//! want of memory (`AreRight`). How many cells a run adds at most, from the code and the budget
+//! (`most_added`). The laws of its moves, both ways.
+//!
+//! Tested: Costs by hand, at and below the budget, through the program.
 #![tactic(auto)]
 
 mod answers;

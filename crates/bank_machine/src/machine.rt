@@ -1,3 +1,5 @@
+//! `Machine`: a specification compiled once.
+
 ghost use Rattle.std.specs.Prelude.{◌≡◌, ◌≤◌, ◌<◌, ◌+◌, ℕ, [], IfOk, length};
 ghost use Rattle.term_core.specs.Variables.{Occurs};
 ghost use Rattle.spec_core.specs.TermText.{SymbolsAreInRange};

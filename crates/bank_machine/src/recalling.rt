@@ -1,3 +1,5 @@
+//! Calls that are entered, and values that are kept.
+
 ghost use Rattle.std.specs.Prelude.{ℕ, List, ◌≡◌, ◌<◌, ◌+◌, ◌^◌, Some, IfOk, slice_get};
 ghost use Rattle.spec_core.specs.WellSorted.{IsWellSorted};
 ghost use Rattle.rule_code.specs.Code.{call as call_step};

@@ -1,3 +1,5 @@
+//! One move.
+
 ghost use Rattle.std.specs.Prelude.{ℕ, suc, List, ◌≡◌, ◌<◌, ◌≤◌, ◌+◌, ◌^◌, Some, IfOk, length, slice_get};
 ghost use Rattle.spec_core.specs.WellSorted.{IsWellSorted};
 ghost use Rattle.value_bank.specs.Cells.{AddsCells};

@@ -1,3 +1,5 @@
+//! What a move answers.
+
 /// What one move of the machine comes to.
 #[derive(Clone, Copy)]
 pub(crate) enum Turn {

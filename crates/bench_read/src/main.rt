@@ -1,6 +1,12 @@
 //! Reads a file's specification and counts its declarations, for the figures of `bench/run`.
 //!
-//! It uses spec_syntax, and promises nothing beyond being safe.
+//! Uses spec_syntax.
+//!
+//! Proved: It is safe and ends.
+//!
+//! Tested: Its lines on a small file.
+//!
+//! Neither: Figures.
 #![tactic(auto)]
 
 use anyhow::{Result, bail};

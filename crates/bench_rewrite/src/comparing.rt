@@ -1,3 +1,5 @@
+//! Clauses that differ in one side or in all, compared.
+
 ghost use Rattle.std.specs.Prelude.{IfOk};
 ghost use Rattle.clause_core.specs.Comparing.{SidesAreTestable};
 

@@ -1,9 +1,14 @@
-//! Normalizes the left side of a file's first goal, or compares two clauses without a file, for
-//! the figures of `bench/run`.
+//! Normal forms, and clauses that are compared, for the figures of `bench/run`.
 //!
-//! It uses spec_syntax, sort_check, path_order, clause_core and rewriting, and promises nothing
-//! beyond being safe. The words are `normalize FILE BUDGET TIMES` or `compare
-//! one|all EQUATIONS TIMES`.
+//! Uses spec_syntax, sort_check, path_order, clause_core and rewriting. It normalizes the left
+//! side of a file's first goal, or compares two clauses without a file. The words are `normalize
+//! FILE BUDGET TIMES` or `compare one|all EQUATIONS TIMES`.
+//!
+//! Proved: It is safe and ends.
+//!
+//! Tested: Its lines on a small file.
+//!
+//! Neither: Figures.
 #![tactic(auto)]
 
 mod comparing;
@@ -65,7 +70,7 @@ fn specification(alloc: Global, bytes: &[u8]) -> Result<Spec>
     }
 }
 
-/// How many uses the left side of the first goal's first conclusion takes. It is normalized this
+/// How many uses the left side of the first goal's first conclusion takes, which is normalized so
 /// many times.
 fn normalized(alloc: Global, spec: &Spec, budget: u32, times: u32) -> Result<u64>
     requires fine { IsWellSorted spec.now }

@@ -1,12 +1,18 @@
-//! Sorts a file's specification, searches for counterexamples of its goals, evaluates a term over
-//! it, compares its left sides, asks whether they match all values or compares its rules' sides in
-//! the path ordering, or compares terms without a file, for the figures of `bench/run`.
+//! Sorting, searches, evaluation, left sides and orderings, for the figures of `bench/run`.
 //!
-//! It builds on spec_syntax, sort_check, ground_eval, refuter, overlap_check, coverage_check,
-//! path_order and kbo_order, and promises nothing beyond being safe. The words are
-//! `search FILE DEPTH TRIES`, `eval FILE TERM BUDGET TIMES`, `above SHAPE SIZE TIMES` with `deep`,
-//! `paired`, `wide` or `weights` as shape, or `MODE FILE TIMES` with the mode `sort`, `overlap`,
-//! `cover` or `order`.
+//! Uses spec_syntax, sort_check, ground_eval, refuter, overlap_check, coverage_check, path_order
+//! and kbo_order. `search FILE DEPTH TRIES` searches for counterexamples of a file's goals, and
+//! `eval FILE TERM BUDGET TIMES` evaluates a term. `MODE FILE TIMES` with the mode `sort` sorts
+//! the specification, with `overlap` compares its left sides, with `cover` asks whether they
+//! match all values, and with `order` compares its rules' sides in the path ordering. `above
+//! SHAPE SIZE TIMES` compares terms without a file; the shape is `deep`, `paired`, `wide` or
+//! `weights`.
+//!
+//! Proved: It is safe and ends.
+//!
+//! Tested: Its lines on a small file.
+//!
+//! Neither: Figures.
 #![tactic(auto)]
 
 mod towers;

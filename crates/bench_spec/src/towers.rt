@@ -1,3 +1,5 @@
+//! Terms with equal heads at each level, in either ordering.
+
 ghost use Rattle.std.specs.Prelude.{◌≡◌, ◌∷◌, [], IfOk};
 
 use anyhow::{Result, bail};

@@ -1,3 +1,5 @@
+//! `apart`: the clauses of the children that a step makes, and the links without them.
+
 ghost use Rattle.std.specs.Prelude.{◌≡◌, IfOk};
 ghost use Rattle.acceptance.specs.Blocks.{clauses_of};
 ghost use Rattle.block_links.specs.Links.{links_of, without_sides};

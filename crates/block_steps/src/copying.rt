@@ -1,3 +1,5 @@
+//! Copies of steps and places.
+
 ghost use Rattle.std.specs.Prelude.{◌≡◌, IfOk};
 
 use clause_core::{Place, Step};

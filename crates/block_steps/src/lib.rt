@@ -1,12 +1,15 @@
-//! A block that is being made: its nodes so far, and the links from those whose steps are taken.
+//! A block that is being made: its nodes so far, and the links of those whose steps are taken.
 //!
-//! It stands on inference_rules, whose `children` takes a step, on block_links, which parts clauses
-//! from links, and on spec_admit for an admitted specification. The layers above take the steps of
-//! a block one after the other ([`TakenSteps::take`]), or add what a step makes where they have it
-//! ([`TakenSteps::add`]), and take the last one back ([`TakenSteps::take_back`]). [`copy_step`]
-//! and [`copy_place`] copy what a line of a block says. `specs/Taken.antt` says what taking is.
-//! That the lines of accepted reports have symbols in range, as the printers of proof_script ask,
-//! is proved in `proofs/AcceptedInRange.antt`.
+//! Uses inference_rules, whose `children` takes a step, block_links, which parts clauses from
+//! links, and spec_admit for an admitted specification. `specs/Taken.antt` says what taking is.
+//! [`copy_step`] and [`copy_place`] copy what a line of a block says. The lines of accepted
+//! reports have symbols in range, as the printers of proof_script ask
+//! (`proofs/AcceptedInRange.antt`).
+//!
+//! Proved: `TakenSteps::take`, for every order: the children that the next node's step makes by
+//! the table are added as nodes with their links, or the reason for which the step is refused.
+//! `add`: the same of what a step makes. `take_back`: the last link and as many nodes as it has
+//! children are gone, or nothing if there is no link.
 #![tactic(auto)]
 
 mod copying;

@@ -1,3 +1,5 @@
+//! `ClaimedGoals`: the goals that the claims so far are on.
+
 ghost use Rattle.std.specs.Prelude.{◌≡◌, ◌<◌, ◌^◌, ◌++◌, ℕ, List, [], ◌∷◌, Some, false, IfOk, OnOk, IsTrue, length, slice_get, slice_index_or};
 ghost use Rattle.clause_core.specs.declared.reports.Claim.{Claim as ClaimOf};
 ghost use Rattle.spec_core.specs.declared.records.Spec.{Spec as SpecOf};

@@ -1,8 +1,13 @@
-//! The goals that the claims so far are on, by their numbers.
+//! The goals that the claims so far are on, and which of them are proved.
 //!
-//! It stands on acceptance, which says what claims are on and what they prove. The layers above go
-//! along the claims of a report: [`ClaimedGoals`] says whether a goal has a claim, and keeps the
-//! numbers of the goals that are proved, which a later claim may use (`specs/Tracking.antt`).
+//! Uses acceptance, which says what claims are on and what they prove. The crates above go along
+//! the claims of a report. A later claim may use the goals that are proved
+//! (`specs/Tracking.antt`).
+//!
+//! Proved: `ClaimedGoals`: which goals of a well sorted specification have a claim, and the
+//! numbers of those that are proved, after any claims, one claim after the other.
+//!
+//! Tested: Reports with two claims on a goal, through the program.
 #![tactic(auto)]
 
 mod goals;

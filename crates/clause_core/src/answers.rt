@@ -1,3 +1,5 @@
+//! What a step makes, and why it isn't defined.
+
 ghost use Rattle.std.specs.Prelude.{◌≡◌};
 ghost use Rattle.clause_core.specs.declared.answers.RewriteError.TheVariants.{OutOfMemory as out_of_memory};
 

@@ -1,3 +1,5 @@
+//! `compare`: sides cancel in pairs, then the test on what is left.
+
 ghost use Rattle.std.specs.Prelude.{◌≡◌, List, ◌++◌, ◌↔◌, Some, IfOk, OnOk, IsTrue, MatchOption, Contains, slice_get};
 ghost use Rattle.term_core.specs.Tree.{Tree};
 ghost use Rattle.term_core.specs.References.{terms_of};

@@ -1,3 +1,5 @@
+//! Equations as written or swapped, among others, by their numbers, and others in their place.
+
 ghost use Rattle.std.specs.Prelude.{◌≡◌, ◌↔◌, IsTrue, IfOk, MatchOption};
 ghost use Rattle.clause_core.specs.Equations.{IsEither, Among, IsIdentity};
 ghost use Rattle.clause_core.specs.NumberedEquations.{EquationAt, equations as equations_of, with_equations as with_other_equations, exchanged as exchanged_clause};

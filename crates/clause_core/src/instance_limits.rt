@@ -1,3 +1,5 @@
+//! Limits of instances that aren't built.
+
 ghost use Rattle.std.specs.Prelude.{◌≡◌, ◌≤◌, ◌↔◌, IsTrue, List, map, min};
 ghost use Rattle.term_core.specs.Tree.{trees_of, tree_size, sizes, tree_depth, depths};
 ghost use Rattle.term_core.specs.declared.ids.SortId.{SortId as Sort};

@@ -1,3 +1,5 @@
+//! `instance`: a clause with terms for its variables.
+
 ghost use Rattle.std.specs.Prelude.{◌≡◌, IfOk, map};
 ghost use Rattle.clause_core.specs.ClauseInstances.{equation_instance, clause_instance};
 

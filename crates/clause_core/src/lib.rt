@@ -1,27 +1,38 @@
-//! Admitted specifications, clauses with what proofs ask of them, and the steps of proofs with the
-//! table that says what each of them makes of a clause.
+//! Admitted specifications, clauses, and the table that says what each proof step makes of a
+//! clause.
 //!
-//! It builds on term_core, spec_core, substitutions and term_order; its worked examples take the
-//! order of sample_specs. A specification is admitted, by an order on terms, where its definitions
-//! are complete, don't overlap and end (`specs/Admitted.antt`). All here holds for any order.
-//! `specs/Ranks.antt` says by which ranks proofs descend: each use of a rule ranks lower
-//! ([`rules_rank_lower`]).
+//! Uses term_core, spec_core, substitutions and term_order; its worked examples take the order of
+//! sample_specs. A specification is admitted, by an order on terms, if its definitions are
+//! complete, don't overlap and end (`specs/Admitted.antt`). All here holds for any order.
+//! `specs/Ranks.antt` says by which ranks proofs descend.
 //!
-//! A [`Clause`] in a proof keeps limits (`specs/Limits.antt`), has its variables numbered by first
-//! occurrence (`specs/Tidied.antt`), and compares with another by the multisets of all sides
-//! (`specs/Comparing.antt`). The layers above use that [`tidy`], [`into_tidied`],
-//! [`tidied_within`], [`of_goal`], [`instance`], [`within`], [`instance_within`] and [`compare`]
-//! are exact against these, and that a tidied clause keeps limits, sorts and failing instances
-//! ([`tidying_laws`]).
+//! A [`Clause`] in a proof keeps limits (`specs/Limits.antt`), has its variables numbered by
+//! first occurrence (`specs/Tidied.antt`), and compares with another one by the multisets of all
+//! sides (`specs/Comparing.antt`).
 //!
-//! The table of steps stands in `specs/` in its order, a file for each kind of step and a
-//! definition of a few lines for each row: the conditions one after the other, each with the reason
-//! for which the step isn't defined where it isn't met, and then the children and the references.
+//! The table of steps is in `specs/`, in its order: a file for each kind of step, and a
+//! definition of a few lines for each row. A row has its conditions one after the other, each
+//! with the reason that an unmet one gives, and then the children and the references.
 //! `specs/Says.antt` says once for all rows what a row answers, and `specs/Steps.antt` gives each
-//! step its row. The layers above, which take steps, check blocks of them and search for them, are
-//! exact against this table. They use that a step has one answer ([`one_answer`]), and that places
-//! of clauses are paths in their sides ([`places_agree`]). [`Report`] and its parts are what these
-//! layers hand on.
+//! step its row. The crates above take steps, check blocks of them and search for them, and are
+//! exact against this table. [`Report`] and its parts are what these crates exchange.
+//!
+//! Proved: What is asked of an admitted specification, on naturals with addition and five
+//! neighbours that aren't admitted (`worked_examples`). Each use of a rule of a well sorted,
+//! admitted specification ranks lower, in every ground context and for every order
+//! (`rules_rank_lower`). Clauses, each exactly: `tidy`, `into_tidied` and `of_goal` answer the
+//! tidied clause, and `tidied_within` that or that it passes the limits. `instance` answers the
+//! instance, `within` whether the limits of a clause in a proof hold, and `compare` how the
+//! multisets of all sides compare. A tidied clause is tidied, stays so, keeps limits and sorts,
+//! and has the failing instances of the clause (`tidying_laws`). Two clauses compare in one way
+//! (`one_relation`). `instance_within` says the same limits of an instance that isn't built. An
+//! equation by its number and a term at a place are found exactly where they are there, and other
+//! equations or another term put in (`clause_examples`). The table: a step at a node has at most
+//! one answer, what it makes or the first condition of its row that isn't met (`one_answer`, for
+//! every order, over a well sorted specification). A place of a clause is a path in a side
+//! (`places_agree`). What the table says at small clauses (`table_examples`, `step_examples`).
+//!
+//! Tested: Cases of each call by hand, with the limits at and past each number (term_cases).
 #![tactic(auto)]
 
 mod answers;

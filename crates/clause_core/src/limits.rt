@@ -1,3 +1,5 @@
+//! `within`: whether a clause keeps the limits of clauses in proofs.
+
 ghost use Rattle.std.specs.Prelude.{◌↔◌, IsTrue};
 ghost use Rattle.clause_core.specs.Limits.{IsWithin};
 

@@ -1,3 +1,5 @@
+//! The term at a place of a clause, and another one in it.
+
 ghost use Rattle.std.specs.Prelude.{◌≡◌, IfOk, MatchOption};
 ghost use Rattle.term_core.specs.Tree.{Tree};
 ghost use Rattle.term_core.specs.Places.{IsAt, IsReplaced};

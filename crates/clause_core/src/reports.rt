@@ -1,3 +1,5 @@
+//! Reports, claims and their outcomes, and why a report isn't accepted.
+
 use crate::answers::Why;
 use crate::steps::Block;
 use term_core::{Name, Seq, Term};

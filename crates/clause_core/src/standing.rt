@@ -1,3 +1,5 @@
+//! One walk of a clause for its size, its depth and its numbering.
+
 ghost use Rattle.std.specs.Prelude.{◌≡◌, ◌+◌, ◌≤◌, ◌↔◌, IsTrue, MatchOption};
 ghost use Rattle.term_core.specs.Tree.{trees_of, tree_size, sizes, tree_depth, depths};
 ghost use Rattle.term_core.specs.Variables.{occurrences, occurrences_all};

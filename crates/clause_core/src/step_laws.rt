@@ -1,3 +1,5 @@
+//! The laws of the table of steps.
+
 ghost use Rattle.clause_core.specs.TableExamples.{TableExamples};
 ghost use Rattle.clause_core.specs.StepExamples.{StepExamples};
 ghost use Rattle.clause_core.specs.StepLaws.{AllPlacesAgree, OneAnswer};

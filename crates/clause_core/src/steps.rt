@@ -1,3 +1,5 @@
+//! Places in clauses, steps and blocks.
+
 use term_core::{Name, Seq, Term, VarId};
 
 /// A term in a clause: a premise or a conclusion by its number, which counts from 1, its left or

@@ -1,3 +1,5 @@
+//! `tidied_within` and `into_tidied`, which don't copy a tidied clause.
+
 ghost use Rattle.std.specs.Prelude.{◌≡◌, IfOk};
 ghost use Rattle.clause_core.specs.Tidied.{tidied, IsTidiedWithin};
 

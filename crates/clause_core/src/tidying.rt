@@ -1,3 +1,5 @@
+//! `tidy` and `of_goal`, in one pass over a table of old numbers.
+
 ghost use Rattle.std.specs.Prelude.{◌≡◌, ◌==◌, IfOk, OnOk, map, position};
 ghost use Rattle.term_core.specs.Tree.{trees_of};
 ghost use Rattle.term_core.specs.Variables.{occurrences, occurrences_all};

@@ -1,3 +1,5 @@
+//! `asked`: the variable that the calls of a clause ask for.
+
 ghost use Rattle.std.specs.Prelude.{◌≡◌, [], ◌∷◌, IfOk, option_map, option_to_list};
 ghost use Rattle.term_core.specs.Tree.{app, trees_of};
 ghost use Rattle.clause_core.specs.Clauses.{sides_of};

@@ -1,12 +1,13 @@
-//! The places of a clause in the order in which steps are tried at them, and the variable that the
-//! calls of a clause ask for.
+//! The places of a clause in the order of trying, and the variable that its calls ask for.
 //!
-//! It stands on clause_core, of which it takes clauses and places. `specs/Spots.antt` lists the
-//! places, each with its term, and `specs/Asked.antt` says which variable is asked for: one whose
-//! value a rule looks at before it fits. The layer above, which lists the steps that a node may
-//! take, uses that [`Spots`] and [`asked`] are exact against these, that each place of the list is
-//! there ([`places_are_there`]), and that what is asked for is a variable of the clause
-//! ([`asked_is_variable`]).
+//! Uses the clauses and places of clause_core. `specs/Spots.antt` lists the places, each with its
+//! term. `specs/Asked.antt` says which variable is asked for: one whose value a rule looks at
+//! before it fits.
+//!
+//! Proved: `Spots`: the places of a clause in the order in which steps are tried at them, each
+//! with its term. `asked`: the first variable that the first place asks for, or that none does.
+//! Both are exact. Each place of the list is there (`places_are_there`), and what is asked for is
+//! a variable of the clause (`asked_is_variable`). `worked_examples`.
 #![tactic(auto)]
 
 mod demand;

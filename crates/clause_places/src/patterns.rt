@@ -1,3 +1,5 @@
+//! The variable at whose path a left side of a function has a constructor.
+
 ghost use Rattle.std.specs.Prelude.{◌≡◌, [], Some, None, IfOk, MatchOption};
 ghost use Rattle.term_core.specs.Tree.{trees_of};
 ghost use Rattle.clause_places.specs.Asked.{is_call_of as is_call, constructor_at, variable_paths, variable_paths_from};

@@ -1,3 +1,5 @@
+//! `Spots`: the places of a clause in their order.
+
 ghost use Rattle.std.specs.Prelude.{◌≡◌, ◌<◌, IfOk, length};
 ghost use Rattle.clause_places.specs.Spots.{spots as spots_in, spot_of_index};
 ghost use Rattle.clause_places.specs.Numbers.{NumbersFit};

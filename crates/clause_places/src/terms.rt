@@ -1,3 +1,5 @@
+//! The terms at the places of a clause, in one list, and how many are in each side.
+
 ghost use Rattle.std.specs.Prelude.{◌≡◌, ◌++◌, [], IfOk, OnOk, map, length};
 ghost use Rattle.std.specs.List.{flat_map};
 ghost use Rattle.clause_core.specs.Clauses.{sides_of};

@@ -1,3 +1,5 @@
+//! The place of an index, sought along equations, sides and terms.
+
 ghost use Rattle.std.specs.Prelude.{◌≡◌, ◌+◌, ◌≤◌, ◌++◌, IfOk, IfSome, true, false, length, map};
 ghost use Rattle.std.specs.List.{AllByRecursion};
 ghost use Rattle.term_core.specs.Tree.{trees_of};

@@ -1,3 +1,5 @@
+//! The simple command of each command word.
+
 ghost use Rattle.std.specs.Prelude.{◌≡◌, IfOk, false};
 ghost use Rattle.clap.specs.Words.{app_of, rule_of};
 ghost use Rattle.command_line.specs.Entries.{app_taking, rule_of_argument};

@@ -1,3 +1,5 @@
+//! Arguments, and what is read of their matches.
+
 ghost use Rattle.std.specs.Prelude.{◌≡◌, ◌↔◌, ◌<◌, ◌^◌, IsTrue, false};
 ghost use Rattle.clap.specs.Words.{found_of, rows_of, rule_of};
 ghost use Rattle.command_line.specs.Rules.{flag_rule, number_rule, numeral_rule, word_rule};

@@ -1,3 +1,5 @@
+//! How far a search goes.
+
 ghost use Rattle.std.specs.Prelude.{◌≡◌};
 ghost use Rattle.command_line.specs.Usual.{usual_bounds};
 

@@ -1,3 +1,5 @@
+//! The command that words ask for.
+
 ghost use Rattle.std.specs.Prelude.{◌≡◌, IfOk, map, string_bytes};
 ghost use Rattle.clap.specs.Words.{found_of, rows_of};
 ghost use Rattle.command_line.specs.Tasks.{AreBounds, AreProofBounds};

@@ -1,11 +1,15 @@
-//! What the words of a call ask for: a command word, after which the words are read by `clap`.
+//! What the words of a call ask for, read by `clap` after the command word.
 //!
-//! It stands on term_core and on `clap`, of which each command word has one simple command
-//! (`specs/Apps.antt`). One table has the commands, with what each takes (`src/table.rt`), and
-//! the usage line has their words in its order. The layer above uses that [`request_of`] answers
-//! the one thing that the words ask for (`specs/Tasks.antt`), or that they ask for nothing: so it
-//! is wherever `clap` finds a fault in the words or help is asked. No text of `clap` comes out of
-//! this crate.
+//! Uses term_core and `clap`, which has one simple command for each command word
+//! (`specs/Apps.antt`). One table has the commands, with what each takes (`table.rt`), and the
+//! usage line has their words in its order. No text of `clap` leaves this crate.
+//!
+//! Proved: `request_of` answers a command, or a number of goals, exactly where `clap` finds no
+//! fault in the words after a known command word. The answer has their words and numbers, usual
+//! ones included (`specs/Tasks.antt`). Otherwise it answers none, also if help is asked for.
+//! Words ask for one task at most (`one_request`). `worked_examples`.
+//!
+//! Tested: Lists of words, in all orders of options (command_line_tests).
 #![tactic(auto)]
 
 mod apps;

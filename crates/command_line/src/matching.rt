@@ -1,3 +1,5 @@
+//! Words read by `clap`, or refused.
+
 ghost use Rattle.std.specs.Prelude.{◌≡◌, IfOk, MatchOption, map, string_bytes};
 ghost use Rattle.clap.specs.Words.{app_of, found_of, rows_of};
 ghost use Rattle.command_line.specs.FlatApps.{IsFlat};

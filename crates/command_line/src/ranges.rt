@@ -1,3 +1,5 @@
+//! Numbers of options, and the usual ones.
+
 /// The numbers that an option takes.
 #[derive(Clone, Copy, Debug, PartialEq, Eq)]
 pub struct NumberRange {

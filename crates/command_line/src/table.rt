@@ -1,3 +1,5 @@
+//! The table of commands, with their words, arguments and the usage line.
+
 ghost use Rattle.std.specs.Prelude.{◌≡◌, ◌≢◌, MatchOption};
 ghost use Rattle.command_line.specs.Entries.{IsEntry, NamesNone};
 ghost use Rattle.std.specs.List.{AllByRecursion};

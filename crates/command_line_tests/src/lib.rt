@@ -1,8 +1,12 @@
 //! Tests of command_line: what lists of words ask for.
 //!
-//! The definitions there say it by `clap`'s own meaning of a simple command, so these tables show
-//! that this meaning is the one that is wanted. They stand in a crate of their own, since a crate
-//! with tests is proved once more with them.
+//! The definitions of command_line say it by `clap`'s own meaning of a simple command. These
+//! tables show that this meaning is the one that is wanted. They have a crate of their own, since
+//! a crate with tests is proved once more with them.
+//!
+//! Proved: It is safe and ends.
+//!
+//! Tested: Lists of words, and options in all orders.
 #![tactic(auto)]
 
 #[cfg(test)]

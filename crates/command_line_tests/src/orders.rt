@@ -1,3 +1,5 @@
+//! Options in all orders.
+
 use crate::tellings::asked;
 use std::alloc::{AllocError, Global};
 use std::process::Abort;

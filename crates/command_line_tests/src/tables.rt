@@ -1,3 +1,5 @@
+//! Lines of words and what they ask.
+
 use crate::tellings::asked;
 use std::alloc::Global;
 use std::process::Abort;

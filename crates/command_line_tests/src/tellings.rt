@@ -1,3 +1,5 @@
+//! What is asked, as text.
+
 use command_line::{Command, Request, request_of};
 use std::alloc::{AllocError, Global};
 use std::test::Fail;

@@ -1,3 +1,5 @@
+//! `case_rewrite`: each rule of one left side, with its guards as further premises.
+
 ghost use Rattle.std.specs.Prelude.{Ok, IfOk};
 ghost use Rattle.std.specs.Result.{IfErr};
 ghost use Rattle.spec_core.specs.WellSorted.{IsWellSorted};

@@ -1,3 +1,5 @@
+//! The clause with another term at the place, tidied and within the limits.
+
 ghost use Rattle.std.specs.Prelude.{◌≡◌, ◌<◌, ◌++◌, IfOk, MatchOption, map};
 ghost use Rattle.term_core.specs.Tree.{trees_of, tree_size, sizes};
 ghost use Rattle.substitutions.specs.Substitution.{apply};

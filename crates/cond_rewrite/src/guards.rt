@@ -1,3 +1,5 @@
+//! The instances of guards, and whether they are among the premises.
+
 ghost use Rattle.std.specs.Prelude.{◌≡◌, ◌↔◌, IsTrue};
 ghost use Rattle.std.specs.List.{AllByRecursion};
 ghost use Rattle.spec_core.specs.declared.records.Guard.{Guard as GuardRecord};

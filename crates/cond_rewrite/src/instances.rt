@@ -1,3 +1,5 @@
+//! Instances of right sides and guards that aren't too large, and `is_instance`.
+
 ghost use Rattle.std.specs.Prelude.{◌≡◌, ◌<◌, ◌↔◌, IsTrue, IfOk, MatchOption, map};
 ghost use Rattle.term_core.specs.Tree.{tree_size};
 ghost use Rattle.substitutions.specs.Substitution.{apply};

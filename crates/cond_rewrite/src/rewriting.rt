@@ -1,3 +1,5 @@
+//! `rewrite_at`: one rule whose guards are among the premises.
+
 ghost use Rattle.std.specs.Prelude.{[], ◌∷◌, Ok, IfOk};
 ghost use Rattle.std.specs.Result.{IfErr};
 ghost use Rattle.spec_core.specs.WellSorted.{IsWellSorted};

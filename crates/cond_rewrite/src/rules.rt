@@ -1,3 +1,5 @@
+//! A rule by its number, and its match at a place.
+
 ghost use Rattle.std.specs.Prelude.{◌≡◌, MatchOption};
 ghost use Rattle.clause_core.specs.RuleInstances.{RuleAt};
 

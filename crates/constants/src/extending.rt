@@ -1,3 +1,5 @@
+//! `with_constants`: the specification with further constants.
+
 ghost use Rattle.std.specs.Prelude.{IfOk};
 ghost use Rattle.std.specs.List.{AllByRecursion};
 ghost use Rattle.spec_core.specs.Sig.{IsSort};

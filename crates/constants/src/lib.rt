@@ -1,10 +1,14 @@
-//! A specification with further constants: constructors without arguments, one for each variable of
-//! a goal, behind the other constructors.
+//! A specification with further constants: constructors without arguments, one for each of some
+//! sorts.
 //!
-//! It stands on term_core and spec_core. Evaluation of a goal in which some variables have no value is
-//! evaluation over such a specification, with a constant for each of them. The layers above use that
-//! [`with_constants`] and [`shifted_goal`] are exact against `specs/Shifted.antt`, and that the new
-//! specification keeps what the old one has ([`no_overlap_is_kept`], [`whole_groups_are_kept`]).
+//! Uses term_core and spec_core. Evaluation of a goal in which some variables have no value is
+//! evaluation over such a specification, with a constant for each of these variables.
+//! `specs/Shifted.antt` says what the specification with constants is.
+//!
+//! Proved: `with_constants`: the specification with a constant of each of these sorts after its
+//! constructors, ordered by number and well sorted. `shifted_goal`: the goal over it. Values stay
+//! values, and sorts are kept. Left sides that don't overlap and groups that are whole stay so
+//! (`no_overlap_is_kept`, `whole_groups_are_kept`). `worked_examples`.
 #![tactic(auto)]
 
 mod extending;

@@ -1,3 +1,5 @@
+//! Names that no symbol has, and copies of symbols.
+
 ghost use Rattle.std.specs.Prelude.{◌≡◌, ◌≤◌, ◌<◌, ◌+◌, ◌-◌, ◌++◌, ◌^◌, IfOk, Some, drop, length, slice_get, take};
 ghost use Rattle.spec_core.specs.Sig.{names_of};
 ghost use Rattle.constants.specs.Marks.{marks, marks_from, marked_constants, AreWithin};

@@ -1,3 +1,5 @@
+//! Rules and goals with the numbers of the extended signature.
+
 ghost use Rattle.std.specs.Prelude.{◌≡◌, IfOk, map};
 ghost use Rattle.constants.specs.Shifted.{shifted_equation, shifted_guard, shifted_rule, shifted_goal as goal_with_numbers};
 

@@ -1,3 +1,5 @@
+//! The signature with the constants.
+
 ghost use Rattle.std.specs.Prelude.{◌≡◌, ◌<◌, ◌+◌, ◌^◌, ℕ, IfOk, length};
 ghost use Rattle.std.specs.List.{AllByRecursion};
 ghost use Rattle.spec_core.specs.Sig.{IsSort};

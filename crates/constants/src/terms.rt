@@ -1,3 +1,5 @@
+//! Terms with the numbers of the extended signature.
+
 ghost use Rattle.std.specs.Prelude.{◌≡◌, ◌≤◌, ◌+◌, ◌^◌, IfOk, OnErr, map};
 ghost use Rattle.constants.specs.Shifted.{shifted_number, shifted};
 

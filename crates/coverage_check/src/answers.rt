@@ -1,3 +1,5 @@
+//! What `covers` and `tree` answer.
+
 use term_core::Terms;
 
 /// Whether rows of patterns cover the values of their sorts.

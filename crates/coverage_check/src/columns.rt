@@ -1,3 +1,5 @@
+//! The columns of rows.
+
 ghost use Rattle.std.specs.Prelude.{◌≡◌, ◌↔◌, ◌<◌, ◌++◌, List, IfOk, IsTrue, MatchOption, length, map};
 ghost use Rattle.std.specs.List.{AllByRecursion, Any};
 ghost use Rattle.term_core.specs.Tree.{Tree};

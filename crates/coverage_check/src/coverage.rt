@@ -1,3 +1,5 @@
+//! `covers`: whether rows match all values.
+
 ghost use Rattle.std.specs.Prelude.{◌≡◌, IfOk};
 ghost use Rattle.std.specs.List.{AllByRecursion};
 ghost use Rattle.term_core.specs.Tree.{var as variable};

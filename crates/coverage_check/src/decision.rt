@@ -1,3 +1,5 @@
+//! Whether values are missing, by the column at which most rows have a symbol.
+
 ghost use Rattle.std.specs.Prelude.{◌<◌, ℕ, IfOk, MatchOption};
 ghost use Rattle.std.specs.List.{AllByRecursion};
 ghost use Rattle.coverage_check.specs.Columns.{symbols_at};

@@ -1,3 +1,5 @@
+//! The rows of a function.
+
 ghost use Rattle.std.specs.Prelude.{◌≡◌, ◌++◌, IfOk, OnOk};
 ghost use Rattle.spec_core.specs.WellSorted.{IsWellSorted};
 ghost use Rattle.spec_core.specs.Linear.{LeftSidesAreLinear};

@@ -1,10 +1,19 @@
-//! Whether rows of patterns cover the values of their sorts, and whether the guards of a group of
-//! rules form a complete decision tree.
+//! Whether rows of patterns match all values, and whether guards form a complete decision tree.
 //!
-//! It stands on term_core and spec_core. The layers above use that [`covers`] and [`tree`] are
-//! exact against the definitions (`specs/Values.antt`, `specs/GroupTree.antt`), that the missing
-//! values that [`covers`] answers are the one list that `specs/Named.antt` names, and that [`tree`]
-//! decides whether the group of a left side is whole ([`tree_decides_groups`]).
+//! Uses term_core and spec_core. `specs/Values.antt` and `specs/GroupTree.antt` say what is
+//! asked, and `specs/Named.antt` which missing values are named.
+//!
+//! Proved: `covers`: that each list of values matches some row of linear patterns, or values that
+//! match none, which are the ones named in the order of constructors. `tree`: whether the guards
+//! of some rules form a complete decision tree, in both directions. `rows_of`: the rows of a
+//! function's left sides, which match what these match. What is named is missing, and one list is
+//! named (`one_named`). A row of linear patterns admits its instances (`admits_instances`).
+//! `tree`, asked of the rules with a left side, decides whether the left side's group is whole
+//! (`tree_decides_groups`). `worked_examples`.
+//!
+//! Tested: Groups and functions by hand, through the program.
+//!
+//! Neither: Time, which may be exponential if rows overlap.
 #![tactic(auto)]
 
 mod answers;

@@ -1,3 +1,5 @@
+//! Rows opened at a constructor.
+
 ghost use Rattle.std.specs.Prelude.{◌≡◌, ◌++◌, IfOk, OnOk, replicate};
 ghost use Rattle.term_core.specs.Tree.{var as variable};
 ghost use Rattle.term_core.specs.References.{terms_of};

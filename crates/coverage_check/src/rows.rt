@@ -1,3 +1,5 @@
+//! Rows of patterns that are kept elsewhere.
+
 ghost use Rattle.std.specs.Prelude.{◌≡◌, ◌↔◌, ◌<◌, IfOk, IsTrue, length};
 ghost use Rattle.std.specs.List.{AllByRecursion};
 ghost use Rattle.term_core.specs.References.{terms_of};

@@ -1,3 +1,5 @@
+//! Two sides and two terms, side by side along last arguments, before they are matched.
+
 ghost use Rattle.std.specs.Prelude.{◌≡◌, List, IsTrue};
 ghost use Rattle.term_core.specs.Tree.{Tree, trees_of, instance, instances};
 ghost use Rattle.term_core.specs.Measure.{weight, list_weight};

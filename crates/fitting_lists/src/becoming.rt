@@ -1,3 +1,5 @@
+//! `may_become` and `heads_agree`: what can't become a term.
+
 ghost use Rattle.std.specs.Prelude.{◌≡◌, List, IsTrue};
 ghost use Rattle.term_core.specs.Tree.{Tree, trees_of, instance, instances};
 

@@ -1,3 +1,5 @@
+//! `leading`: the first equation in which all variables of a clause are.
+
 ghost use Rattle.std.specs.Prelude.{◌≡◌, IfOk};
 ghost use Rattle.fitting_lists.specs.Leading.{HasSpines, IsFirstWithAll, IsPlace};
 

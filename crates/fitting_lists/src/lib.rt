@@ -1,18 +1,27 @@
-//! Lists of terms for the variables of a clause that is referred to.
+//! Lists of terms for the variables of a clause that a step refers to.
 //!
-//! It stands on clause_core, of whose clauses it speaks, and on matching, whose bindings its own
-//! matcher keeps. Which lists are tried for a clause stands in `specs/Fitting.antt`, as questions
-//! for a list (`specs/Questions.antt`): by a fitting list the leading equation of the clause
-//! becomes an equation of the clause here, by a rewriting list a side of its only conclusion
-//! becomes the term at a place. The layers above use that [`leading`] and [`has_all_variables`] are
-//! exact against these, and that a [`Matcher`] finds the only list, as references into the terms,
-//! or that there is none (`specs/Answering.antt`): it is used again from try to try, so that tries
-//! allocate nothing. [`copies`] copies what it found, and [`fitting_terms`] is one try with the
-//! copies. [`may_become`] goes by symbols alone, and [`heads_agree`] by those near the roots: where
-//! they differ, there is no list. A [`Spine`] keeps what stands along a term's last arguments, by
-//! which most of what cannot fit is told without a walk (`specs/Spines.antt`). That each question
-//! has at most one answer stands in `proofs/Determined.antt`, and that sorted clauses meet the
-//! premise of these calls in `proofs/Variables.antt`.
+//! Uses clauses of clause_core, and bindings of matching, which its own matcher keeps.
+//! `specs/Fitting.antt` says which lists are tried for a clause, as questions for a list
+//! (`specs/Questions.antt`, `specs/Answering.antt`). By a fitting list the leading equation of
+//! the clause becomes an equation of the clause at hand. By a rewriting list a side of its only
+//! conclusion becomes the term at a place.
+//!
+//! A [`Matcher`] is used again from try to try, so tries allocate nothing. [`fitting_terms`] is
+//! one try with copies. [`may_become`] goes by symbols alone, and [`heads_agree`] by those near
+//! the roots. A [`Spine`] keeps what is along a term's last arguments, by which most of what
+//! can't fit is found without a walk (`specs/Spines.antt`). Each question has at most one answer
+//! (`proofs/Determined.antt`), and sorted clauses meet the premise of these calls
+//! (`proofs/Variables.antt`).
+//!
+//! Proved: `leading`: the first equation in which all variables of a clause are.
+//! `has_all_variables`: whether a term has them all. `Matcher`: the only list of terms by which
+//! an equation or a side becomes another one, as references, or that there is none, each exactly,
+//! whatever it was used for before. `copies`: the same terms. `may_become`, of terms and of
+//! spines (`spines_may_become`), and `heads_agree`: no only where no list makes the pattern the
+//! term. `Spine::missing`, exactly, and 0 if some list does (`nothing_is_missing`).
+//! `worked_examples`.
+//!
+//! Neither: That `may_become` and `heads_agree` say no.
 #![tactic(auto)]
 
 mod along;

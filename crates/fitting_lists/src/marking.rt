@@ -1,3 +1,5 @@
+//! Marks for the variables that a walk along a term meets.
+
 ghost use Rattle.std.specs.Prelude.{◌≡◌, ℕ, ◌↔◌, false, IsTrue, IfOk, replicate};
 ghost use Rattle.term_core.specs.Tree.{trees_of};
 ghost use Rattle.term_core.specs.Variables.{Occurs, OccursAny};

@@ -1,3 +1,5 @@
+//! `Matcher`: tries for the only list, in room that is used again.
+
 ghost use Rattle.std.specs.Prelude.{◌≡◌, [], ◌∷◌, IfOk};
 ghost use Rattle.term_core.specs.References.{terms_of};
 ghost use Rattle.fitting_lists.specs.Answering.{AreVariables, IsOnlyAnswer};

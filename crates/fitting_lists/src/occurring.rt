@@ -1,3 +1,5 @@
+//! Whether all variables of a clause occur in terms.
+
 ghost use Rattle.std.specs.Prelude.{◌≡◌, [], ◌∷◌, IfOk};
 ghost use Rattle.fitting_lists.specs.Fitting.{both_sides, has_all};
 

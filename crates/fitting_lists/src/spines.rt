@@ -1,3 +1,5 @@
+//! `Spine`: a term's root symbol along last arguments, and what ends this.
+
 ghost use Rattle.std.specs.Prelude.{◌≡◌, ◌↔◌, ◌<◌, ◌-◌, IsTrue, IfOk, MatchResult};
 ghost use Rattle.term_core.specs.Tree.{app, trees_of};
 ghost use Rattle.term_core.specs.Measure.{list_weight};

@@ -1,3 +1,5 @@
+//! `copies` of what was found, and one try with the copies.
+
 ghost use Rattle.std.specs.Prelude.{◌≡◌, [], ◌∷◌, IfOk};
 ghost use Rattle.term_core.specs.References.{terms_of};
 ghost use Rattle.fitting_lists.specs.Answering.{AreVariables, IsOnlyAnswer};

@@ -1,3 +1,5 @@
+//! What an evaluation answers.
+
 use term_core::Term;
 
 /// What an evaluation found within its budget.

@@ -1,3 +1,5 @@
+//! The sides of equations, in order, over a bank.
+
 ghost use Rattle.std.specs.Prelude.{◌≡◌, ◌≤◌, ◌+◌, ◌*◌, ℕ, List, IfOk, length};
 ghost use Rattle.std.specs.List.{AllByRecursion};
 ghost use Rattle.term_core.specs.Tree.{Tree};

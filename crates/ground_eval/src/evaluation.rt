@@ -1,3 +1,5 @@
+//! `eval` and `verdict`: one evaluation, and one verdict of a goal.
+
 ghost use Rattle.std.specs.Prelude.{◌≡◌, ◌≢◌, ℕ, IfOk, Some, [], slice_get};
 ghost use Rattle.term_core.specs.declared.ids.SortId.{SortId};
 ghost use Rattle.spec_core.specs.Sorts.{Sorted};

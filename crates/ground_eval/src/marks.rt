@@ -1,3 +1,5 @@
+//! Which cells of a bank lead to a constant.
+
 ghost use Rattle.std.specs.Prelude.{◌≡◌, ◌↔◌, ◌⊎◌, ◌+◌, ◌<◌, ◌≤◌, ℕ, List, IfOk, IsTrue, length};
 ghost use Rattle.term_core.specs.Tree.{Tree, Trees};
 ghost use Rattle.value_bank.specs.Cells.{Cell, IsTerm, AreTerms};

@@ -1,3 +1,5 @@
+//! The sides of equations in which some variables have no value.
+
 ghost use Rattle.std.specs.Prelude.{◌≤◌, ◌+◌, ◌*◌, List, IfOk, length};
 ghost use Rattle.spec_core.specs.WellSorted.{IsWellSorted};
 ghost use Rattle.spec_core.specs.declared.records.Equation.{Equation};

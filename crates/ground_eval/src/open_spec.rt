@@ -1,3 +1,5 @@
+//! The specification with constants, and the goal with its numbers.
+
 ghost use Rattle.std.specs.Prelude.{◌≡◌, ◌≤◌, ◌++◌, ℕ, List, IfOk, Some, MatchOption, length, slice_get};
 ghost use Rattle.std.specs.List.{AllByRecursion};
 ghost use Rattle.term_core.specs.declared.ids.SortId.{SortId};

@@ -1,3 +1,5 @@
+//! A goal's sides, compiled once, and the verdict if all variables have values.
+
 ghost use Rattle.std.specs.Prelude.{◌≡◌, ◌≤◌, ◌+◌, ℕ, List, IfOk, length};
 ghost use Rattle.term_core.specs.Tree.{Tree, trees_of, sizes};
 ghost use Rattle.term_core.specs.declared.ids.SortId.{SortId};

@@ -1,3 +1,5 @@
+//! A call of `run` on files in memory, and how it ended.
+
 use io_core::{MemFiles, MemSink, Sink};
 use spike_cli::{Status, run};
 use std::alloc::Global;

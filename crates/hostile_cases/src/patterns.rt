@@ -1,3 +1,5 @@
+//! Texts by patterns: a piece a number of times, and a mark at a place.
+
 use std::alloc::Global;
 use std::test::Fail;
 

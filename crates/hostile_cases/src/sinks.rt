@@ -1,3 +1,5 @@
+//! A sink that takes one byte a call, and a writer that is interrupted.
+
 ghost use Rattle.std.specs.Prelude.{Some};
 
 use crate::calls::one_number;

@@ -1,3 +1,5 @@
+//! The files that the calls read, and what is written of them.
+
 /// A specification without declarations, of which `prove` writes a report without claims.
 pub const EMPTY: &str = "spike 1\n";
 

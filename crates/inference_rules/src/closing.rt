@@ -1,3 +1,5 @@
+//! `trivial`, `match` and `absurd`; whether two terms clash.
+
 ghost use Rattle.std.specs.Prelude.{◌↔◌, IsTrue};
 ghost use Rattle.term_core.specs.Tree.{trees_of};
 ghost use Rattle.spec_core.specs.declared.records.Spec.{Spec as SpecOf};

@@ -1,3 +1,5 @@
+//! `cover`, by test_sets.
+
 ghost use Rattle.clause_core.specs.Clauses.{ClauseIsSorted};
 ghost use Rattle.clause_core.specs.Splitting.{cover_row};
 ghost use Rattle.inference_rules.specs.Answers.{AnsweredAlone};

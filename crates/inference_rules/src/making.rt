@@ -1,3 +1,5 @@
+//! The end of each row: children are tidied, related and counted, within the limits.
+
 ghost use Rattle.std.specs.Prelude.{◌≡◌, ◌↔◌, ℕ, List, Ok, [], ◌∷◌, IfOk, IsTrue, length, map};
 ghost use Rattle.std.specs.List.{AllByRecursion, AllZip};
 ghost use Rattle.term_core.specs.Tree.{Tree};

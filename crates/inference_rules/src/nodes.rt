@@ -1,3 +1,5 @@
+//! Nodes, and why a step makes nothing.
+
 ghost use Rattle.std.specs.Prelude.{◌≡◌};
 ghost use Rattle.inference_rules.specs.Reasons.{error_of_rewriting, error_of_covering};
 ghost use Rattle.inference_rules.specs.declared.nodes.StepError.TheVariants.{OutOfMemory as out_of_memory};

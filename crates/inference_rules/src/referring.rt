@@ -1,3 +1,5 @@
+//! Nodes and goals that a step refers to, and their instances.
+
 ghost use Rattle.std.specs.Prelude.{◌≡◌, ◌⊎◌, ◌↔◌, [], Some, IsTrue, IfOk, MatchOption, MatchResult, Contains, slice_get};
 ghost use Rattle.spec_core.specs.declared.records.Goal.{Goal as GoalOf};
 ghost use Rattle.clause_core.specs.ClauseInstances.{clause_instance};

@@ -1,3 +1,5 @@
+//! `context`, `hyp` and `lemma`.
+
 ghost use Rattle.std.specs.Prelude.{◌≡◌, [], IfOk, MatchOption, Contains};
 ghost use Rattle.std.specs.List.{AllZip};
 ghost use Rattle.spec_core.specs.declared.records.Spec.{Spec as SpecOf};

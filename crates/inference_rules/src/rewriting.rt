@@ -1,3 +1,5 @@
+//! `rule` and `case`, by cond_rewrite.
+
 ghost use Rattle.std.specs.Prelude.{◌≡◌, [], ◌∷◌, IfOk};
 ghost use Rattle.spec_core.specs.WellSorted.{IsWellSorted};
 ghost use Rattle.clause_core.specs.Rewriting.{rule_row};

@@ -1,3 +1,5 @@
+//! `decompose`, `clash` and `drop`.
+
 ghost use Rattle.std.specs.Prelude.{◌≡◌, ◌∷◌, [], true, IfOk, MatchOption, map};
 ghost use Rattle.term_core.specs.Tree.{trees_of};
 ghost use Rattle.spec_core.specs.declared.records.Equation.{Equation as EquationOf};

@@ -1,3 +1,5 @@
+//! `solve`.
+
 ghost use Rattle.std.specs.Prelude.{◌↔◌, ℕ, IsTrue, MatchOption};
 ghost use Rattle.term_core.specs.Tree.{Tree, trees_of};
 ghost use Rattle.term_core.specs.Variables.{Occurs, OccursAny};

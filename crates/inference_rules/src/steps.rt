@@ -1,3 +1,5 @@
+//! `children`: what a step makes at a node.
+
 ghost use Rattle.std.specs.Prelude.{◌≡◌, ◌<◌, ℕ, List, [], Some, IfOk, Contains, length, slice_get};
 ghost use Rattle.term_core.specs.Tree.{Tree};
 ghost use Rattle.spec_core.specs.WellSorted.{IsWellSorted};

@@ -1,3 +1,5 @@
+//! `subsume` and `by-lemma`.
+
 ghost use Rattle.std.specs.Prelude.{◌↔◌, ℕ, List, [], IsTrue, IfOk, MatchResult, Contains};
 ghost use Rattle.std.specs.List.{AllByRecursion};
 ghost use Rattle.spec_core.specs.declared.records.Equation.{Equation as EquationOf};

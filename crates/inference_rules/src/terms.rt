@@ -1,3 +1,5 @@
+//! Lists of terms for the variables of a clause.
+
 ghost use Rattle.std.specs.Prelude.{◌≡◌, ◌↔◌, Some, IfOk, IsTrue, map};
 ghost use Rattle.term_core.specs.Tree.{Tree, trees_of};
 ghost use Rattle.spec_core.specs.Sorts.{Sorted, SortedAll};

@@ -1,3 +1,5 @@
+//! The system's files and output.
+
 ghost use Rattle.std.specs.Prelude.{◌≡◌, ◌≤◌, ◌<◌, ℕ, [], None, length, IfOk, IfSome, IsTrue};
 
 use crate::asked::add_name;

@@ -1,3 +1,5 @@
+//! The names that a store was asked for.
+
 ghost use Rattle.std.specs.Prelude.{◌≡◌, OnOk, OnErr};
 ghost use Rattle.io_core.specs.Asked.{AddsName};
 

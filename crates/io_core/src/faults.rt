@@ -1,3 +1,5 @@
+//! Why a read or a write failed.
+
 ghost use Rattle.std.specs.Prelude.{◌≡◌};
 ghost use Rattle.io_core.specs.declared.faults.ReadError.{ReadError};
 ghost use Rattle.io_core.specs.declared.faults.WriteError.{WriteError};

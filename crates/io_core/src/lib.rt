@@ -1,10 +1,19 @@
-//! Files to read and sinks to write to, as two traits whose contracts say what each call did.
+//! Files to read and sinks to write to, as traits whose contracts say what each call did.
 //!
-//! It stands on `term_core`, for names, lists and want of memory. The layers above are generic
-//! over [`Files`] and [`Sink`], write by [`write_all`], and use that a failure comes only where
-//! the object counted a fault. [`MemFiles`], [`SureFiles`], [`MemSink`] and [`SureSink`] are exact
-//! stand-ins in memory. [`StdFiles`] and [`StdSink`] reach the system: what they read and wrote is
-//! told by no contract, so they are kept to a few lines.
+//! Uses names, lists and want of memory of term_core. The crates above are generic over [`Files`]
+//! and [`Sink`], and write by [`write_all`]. A failure comes only if the object counted a fault.
+//! [`MemFiles`], [`SureFiles`], [`MemSink`] and [`SureSink`] do the same in memory, exactly.
+//! [`StdFiles`] and [`StdSink`] reach the system. No contract says what they read and wrote, so
+//! they have a few lines each.
+//!
+//! Proved: Each clause of `Files` and `Sink`, for the stores and sinks in memory; `write_all`;
+//! what the constructors hold.
+//!
+//! Tested: `StdFiles` and `StdSink` on a file that the test writes. An interrupted call is made
+//! again up to a hundred times. Reads and writes of the system that fail are reported as such,
+//! through the program (`tests/faults`).
+//!
+//! Neither: What the system's files hold, and that the adapters recognize long files rightly.
 #![tactic(auto)]
 
 mod adapters;

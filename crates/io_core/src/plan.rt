@@ -1,3 +1,5 @@
+//! Which calls of a store or sink in memory are to fail.
+
 ghost use Rattle.std.specs.Prelude.{◌≡◌, ◌↔◌, IsTrue};
 ghost use Rattle.io_core.specs.Count.{IsCount};
 ghost use Rattle.io_core.specs.CallPlan.{FailsNext, planned, called, faulted};

@@ -1,3 +1,5 @@
+//! Tests of the stores and sinks.
+
 use super::*;
 use std::alloc::Global;
 use std::test::Fail;

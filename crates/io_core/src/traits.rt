@@ -1,3 +1,5 @@
+//! `Files` and `Sink` with their contracts, and `write_all`.
+
 ghost use Rattle.std.specs.Prelude.{◌≡◌, ◌≢◌, ◌≤◌, ◌<◌, ◌⊎◌, ℕ, List, [], Option, length, take, IfOk, IfErr, IfSome, OnOk, OnErr, IsOk, IsErrOf};
 ghost use Rattle.io_core.specs.Asked.{AddsName};
 ghost use Rattle.io_core.specs.Count.{IsCount, Rose};

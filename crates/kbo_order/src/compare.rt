@@ -1,3 +1,5 @@
+//! Two terms in step: their sums, and whether one is above the other.
+
 ghost use Rattle.std.specs.Prelude.{◌≡◌, ◌↔◌, ℕ, length, IsTrue, MatchOption, if◌then◌else◌};
 ghost use Rattle.term_core.specs.References.{terms_of};
 ghost use Rattle.term_core.specs.Tree.{Tree, Trees, some as before, list_of, trees_of};

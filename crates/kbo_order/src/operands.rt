@@ -1,3 +1,5 @@
+//! Lists of what is compared, and the root of a term.
+
 ghost use Rattle.std.specs.Prelude.{◌≡◌, List, [], ◌∷◌, length, MatchOption};
 ghost use Rattle.term_core.specs.References.{terms_of};
 ghost use Rattle.term_core.specs.Tree.{Tree};

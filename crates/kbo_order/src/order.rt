@@ -1,3 +1,5 @@
+//! `Kbo`: the ordering by weights, its tests and its ranks.
+
 ghost use Rattle.std.specs.Prelude.{◌≡◌, ◌≤◌, ◌↔◌, IsTrue};
 ghost use Rattle.term_core.specs.References.{terms_of};
 ghost use Rattle.term_core.specs.Tree.{instance, tree_size};

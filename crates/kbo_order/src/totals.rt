@@ -1,3 +1,5 @@
+//! The weight of a term, and how often it has a variable.
+
 ghost use Rattle.std.specs.Prelude.{◌≡◌, ℕ, ◌+◌, ◌<◌, ◌^◌, MatchOption};
 ghost use Rattle.term_core.specs.References.{terms_of};
 ghost use Rattle.term_core.specs.Tree.{trees_of, var as variable};

@@ -1,3 +1,5 @@
+//! The variables of a term by number.
+
 ghost use Rattle.term_core.specs.References.{terms_of};
 ghost use Rattle.term_core.specs.Tree.{trees_of};
 ghost use Rattle.term_order.specs.Operands.{meaning};

@@ -1,3 +1,5 @@
+//! `load_text`: the generated text.
+
 ghost use Rattle.std.specs.Prelude.{◌≡◌, ◌≤◌, ◌++◌, IfOk, OnOk};
 ghost use Rattle.std.specs.Fmt.{decimal};
 ghost use Rattle.spec_printing.specs.Printed.{printed, equation_printed, goal_line};

@@ -1,3 +1,5 @@
+//! `bind`: what a pattern and a term add to the bindings.
+
 ghost use Rattle.std.specs.Prelude.{◌≡◌, IfOk, IsTrue, List, Option};
 ghost use Rattle.term_core.specs.Tree.{Tree, trees_of, var as variable};
 ghost use Rattle.substitutions.specs.Substitution.{apply, apply_all};

@@ -1,3 +1,5 @@
+//! `Bindings`: references to the terms of the variables that were met.
+
 ghost use Rattle.std.specs.Prelude.{◌≡◌, [], None, IfOk, OnOk, replicate};
 ghost use Rattle.std.specs.Option.{option_copied};
 ghost use Rattle.term_core.specs.References.{terms_of};

@@ -1,11 +1,14 @@
-//! Matching a pattern with a term.
+//! Whether a term is an instance of a pattern, and by which substitution.
 //!
-//! It stands on substitutions, and so on terms. A match binds each variable of the pattern to a
-//! part of the term, by reference. What makes a pattern a term stands in `specs/Matching.antt`, and
-//! what a match adds to the terms that were bound before it in `specs/Extending.antt`. The layers
-//! above use that [`matches`] answers None exactly where there is no such substitution, and that
-//! [`fits`] tells whether there is one without a copy. Who makes many tries, or matches several
-//! patterns one after the other, keeps [`Bindings`] and calls [`bind`].
+//! Uses substitutions. A match binds each variable of the pattern to a part of the term, by
+//! reference (`specs/Matching.antt`). For many tries, or several patterns one after the other,
+//! keep [`Bindings`] and call [`bind`] (`specs/Extending.antt`).
+//!
+//! Proved: `matches`: the substitution of the pattern's variables, and None exactly where there
+//! is none. `fits`: whether there is one, without a copy. `bind`: the same beside the terms of
+//! variables that were met before, as `Bindings` keep them by reference. `worked_examples`.
+//!
+//! Tested: Pairs of terms by hand (term_cases).
 #![tactic(auto)]
 
 mod binding;

@@ -1,3 +1,5 @@
+//! `matches` and `fits`.
+
 ghost use Rattle.std.specs.Prelude.{IfOk, IfSome};
 ghost use Rattle.std.specs.Option.{IfNone};
 ghost use Rattle.matching.specs.Matching.{IsMatch, HasNoMatch, Fits};

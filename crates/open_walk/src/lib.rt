@@ -1,11 +1,17 @@
-//! The walk of a verdict where some variables have no value.
+//! The walk of a verdict in which some variables have no value.
 //!
-//! It stands on term_core and spec_core, and has definitions and laws alone. An unfixed variable
-//! stands for itself: evaluation goes on over terms of constructors and variables
-//! (`specs/OpenGives.antt`), and the walk of a verdict ends where its sides are the same or
-//! different whatever the variables are (`specs/OpenVerdict.antt`). The layers above use that such
-//! a verdict is the verdict of every list of values that goes on with the fixed ones, and that
-//! evaluation with open variables is evaluation with a constant for each of them.
+//! Uses term_core and spec_core, and has definitions and laws alone. An unfixed variable means
+//! itself: evaluation goes on over terms of constructors and variables (`specs/OpenGives.antt`).
+//! The walk of a verdict ends if its sides are the same or different whatever the variables are
+//! (`specs/OpenVerdict.antt`).
+//!
+//! Proved: What evaluation over terms with variables gives is given under all values
+//! (`instances_give`), and of terms without variables it is evaluation
+//! (`closed_terms_give_the_same`). A verdict of the walk is the verdict of each list of values
+//! that goes on with the fixed ones (`open_verdicts_hold`), and it stays if some more variables
+//! get values (`open_instances_give`, `open_verdicts_stay`). It is evaluation with a constant for
+//! each variable, both ways (`open_gives_with_constants`, `constants_give_openly`).
+//! `worked_examples`.
 #![tactic(auto)]
 
 mod laws;

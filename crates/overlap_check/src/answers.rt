@@ -1,3 +1,5 @@
+//! What `linear` and `overlap` answer.
+
 use term_core::{Seq, Term, VarId};
 
 /// Whether some rule has a variable twice on its left side.

@@ -1,3 +1,5 @@
+//! Left sides that differ at one place, before any unification.
+
 ghost use Rattle.std.specs.Prelude.{IsTrue};
 ghost use Rattle.term_core.specs.Tree.{trees_of};
 ghost use Rattle.overlap_check.specs.Clashes.{HaveNoCommonInstance, HaveNoCommonInstances};

@@ -1,3 +1,5 @@
+//! Values that two left sides match.
+
 ghost use Rattle.std.specs.Prelude.{◌≡◌, ℕ, ◌++◌, IfOk, OnOk, Some, MatchOption, List, map};
 ghost use Rattle.term_core.specs.Tree.{Tree, Trees, trees_of, app as application};
 ghost use Rattle.spec_core.specs.Small.{AreSmall};

@@ -1,8 +1,15 @@
 //! Whether the rules of a specification are linear, and whether their left sides overlap.
 //!
-//! It stands on term_core, spec_core, substitutions and unifier. The layers above use the contracts
-//! of [`linear`] and [`overlap`]: each answer that is fine says spec_core's property of the left
-//! sides, and any other names the first rule or the first pair of rules that breaks it.
+//! Uses term_core, spec_core, substitutions and unifier.
+//!
+//! Proved: `linear`: that all left sides are linear, or the first rule with a variable twice on
+//! its left side, and the least such variable. `overlap`: that there is no overlap, or the first
+//! pair of rules with different left sides that some values match both, with the values that are
+//! named for it. One list of values is named at most (`one_naming`), a specification has one
+//! answer of each kind (`one_answer`), and left sides overlap where two rules are named
+//! (`both_overlap`). `worked_examples`.
+//!
+//! Tested: Rules by hand, through the program.
 #![tactic(auto)]
 
 mod answers;

@@ -1,3 +1,5 @@
+//! `linear`: the first rule with a variable twice on its left side.
+
 ghost use Rattle.std.specs.Prelude.{◌≤◌, ℕ, IfOk, MatchOption};
 ghost use Rattle.term_core.specs.Tree.{trees_of};
 ghost use Rattle.spec_core.specs.Linear.{IsLinear};

@@ -1,3 +1,5 @@
+//! `overlap`: the first pair of left sides that overlap.
+
 ghost use Rattle.std.specs.Prelude.{◌<◌, IfOk, MatchOption, length};
 ghost use Rattle.term_core.specs.Tree.{trees_of};
 ghost use Rattle.spec_core.specs.WellSorted.{IsWellSorted};

@@ -1,14 +1,21 @@
-//! Orders on terms, by which specifications are admitted and proofs descend.
+//! The lexicographic path ordering, with levels and statuses of symbols.
 //!
-//! It builds on term_core, and for its ranks on longest_chains. [`TermOrder`] is an order with its
-//! test, its ranks and their laws (`specs/Laws.antt`). [`Lpo`] is the lexicographic path ordering
-//! (`specs/Above.antt`): each symbol has a level, which is its precedence, and a status, which orders
-//! its arguments (`specs/Arranged.antt`). A ground term's rank is the longest chain down from it
-//! (`specs/Rank.antt`) in the ordering within a bound (`specs/Bounded.antt`). The layers above use
-//! the trait alone. One of its tests compares terms, the other one the instances of terms by a list,
-//! without building them. What a test finds to be above is so, and it finds it in terms of up to
-//! 4,294,967,295 symbols and variables. Being above is kept by substitutions, parts and contexts, and
-//! ranks fall along it.
+//! Uses term_core, implements term_order's [`TermOrder`](term_order::TermOrder), and has its
+//! ranks by longest_chains. In [`Lpo`] each symbol has a level, which is its precedence, and a
+//! status, which orders its arguments (`specs/Above.antt`, `specs/Arranged.antt`). A ground
+//! term's rank is the longest chain down from it (`specs/Rank.antt`) in the ordering within a
+//! bound (`specs/Bounded.antt`).
+//!
+//! Proved: `Lpo` is a `TermOrder`. `Lpo::greater` is true exactly where the three cases of the
+//! lexicographic path ordering hold, by the levels and statuses of its precedence, whatever the
+//! sizes. `Lpo::with` and `Lpo::by_number` have the precedence that they are made with. Levels
+//! and statuses that are written out by number order terms as numbers do (`orders_by_number`).
+//! Finitely many terms are below each one within a bound (`finitely_many_below`), and a bound of
+//! at least the smaller term's depth bounds nothing (`same_within_depth`). `worked_examples`,
+//! `rank_examples`.
+//!
+//! Tested: Thirty pairs of terms by number and forty by levels and statuses, by hand. Equal heads
+//! don't double the work, on towers of a hundred levels (term_cases).
 #![tactic(auto)]
 
 mod laws;

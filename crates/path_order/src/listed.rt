@@ -1,3 +1,5 @@
+//! Terms in the order of a status, or as written.
+
 ghost use Rattle.std.specs.Prelude.{◌≡◌, ◌<◌, ◌+◌, IsTrue, length, get_or, drop, map};
 ghost use Rattle.term_core.specs.Tree.{Tree};
 ghost use Rattle.term_core.specs.Precedence.{is_status};

@@ -1,3 +1,5 @@
+//! Lists of what is compared.
+
 ghost use Rattle.std.specs.Prelude.{◌≡◌, ◌<◌, ◌+◌, ℕ, List, IsTrue, [], length, get_or, drop, map};
 ghost use Rattle.term_core.specs.Tree.{Tree};
 ghost use Rattle.term_core.specs.Precedence.{is_status};

@@ -1,3 +1,5 @@
+//! `Lpo`: the lexicographic path ordering with levels and statuses, its tests and its ranks.
+
 ghost use Rattle.std.specs.Prelude.{◌≡◌, ◌≤◌, ◌↔◌, List, IsTrue, if◌then◌else◌, length, map, option_map};
 ghost use Rattle.term_core.specs.References.{terms_of};
 ghost use Rattle.std.specs.Option.{IfSome};

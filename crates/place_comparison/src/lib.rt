@@ -1,12 +1,12 @@
-//! Comparing a clause with what it becomes where a place of it holds another term, and testing that
-//! for the limits.
+//! Clauses that differ at one place: how they compare, and whether the second is within the
+//! limits.
 //!
-//! It stands on clause_core, of which it takes clauses, their places and how clauses compare, and
-//! on term_order, whose orders keep what is above in each context. `specs/AtPlaces.antt` says how
-//! terms compare: two clauses that differ at one place compare as the two terms there do
-//! ([`place_decides`]). The layers above, which replace a term at a place, use that
-//! [`relation_at`] takes the relation of the two clauses from the two terms alone, and that
-//! [`within_at`] tests before the second clause is built whether it is within the limits.
+//! Uses clauses, their places and comparison of clause_core, and term_order, whose orders keep
+//! what is above in each context. `specs/AtPlaces.antt` says how terms compare.
+//!
+//! Proved: A clause compares with the one whose place holds another term as the two terms there
+//! do, for every order (`place_decides`). `relation_at`: that relation, from the terms alone.
+//! `within_at`: whether the second clause is within the limits, exactly, before it is built.
 #![tactic(auto)]
 
 mod laws;

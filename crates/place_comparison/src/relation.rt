@@ -1,3 +1,5 @@
+//! `relation_at`: how two clauses that differ at a place compare.
+
 ghost use Rattle.std.specs.Prelude.{◌≡◌};
 ghost use Rattle.clause_core.specs.declared.clauses.Clause.{Clause as ClauseOf};
 ghost use Rattle.clause_core.specs.declared.steps.Place.{Place as PlaceOf};

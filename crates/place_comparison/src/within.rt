@@ -1,3 +1,5 @@
+//! `within_at`: whether a clause with another term at a place is within the limits.
+
 ghost use Rattle.std.specs.Prelude.{◌≡◌, ◌↔◌, ◌≤◌, IsTrue, min};
 ghost use Rattle.term_core.specs.Tree.{trees_of, sizes};
 ghost use Rattle.clause_core.specs.Clauses.{sides_of};

@@ -1,3 +1,5 @@
+//! The kinds of steps that a node may take, in their order.
+
 ghost use Rattle.std.specs.Prelude.{◌≡◌, [], ◌∷◌, IfOk, MatchOption};
 ghost use Rattle.spec_core.specs.declared.records.Equation.{Equation as EquationOf};
 ghost use Rattle.spec_core.specs.WellSorted.{IsWellSorted};

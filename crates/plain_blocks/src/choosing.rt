@@ -1,3 +1,5 @@
+//! The chosen step of a node, with what it makes.
+
 ghost use Rattle.std.specs.Prelude.{◌≡◌, ◌<◌, Some, IfOk, IfSome, length, slice_get};
 ghost use Rattle.spec_core.specs.WellSorted.{IsWellSorted};
 ghost use Rattle.clause_core.specs.declared.clauses.Clause.{Clause as ClauseOf};

@@ -1,3 +1,5 @@
+//! `plain`: the block of the first variable with a plain proof.
+
 ghost use Rattle.std.specs.Prelude.{◌≡◌, ◌≤◌, ℕ, Some, IfOk, slice_get};
 ghost use Rattle.plain_blocks.specs.Plain.{IsPlainAnswer};
 

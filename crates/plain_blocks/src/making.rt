@@ -1,3 +1,5 @@
+//! A block, node by node.
+
 ghost use Rattle.std.specs.Prelude.{IfOk};
 ghost use Rattle.spec_core.specs.WellSorted.{IsWellSorted, GoalIsSorted};
 ghost use Rattle.plain_proof.specs.FirstPlain.{HasPlain};

@@ -1,3 +1,5 @@
+//! The step that splits the variable.
+
 ghost use Rattle.std.specs.Prelude.{◌≡◌, ◌==◌, IfOk, position};
 ghost use Rattle.term_core.specs.Tree.{app as application, some, none};
 ghost use Rattle.term_core.specs.declared.ids.VarId.{VarId as VarIdOf};

@@ -1,3 +1,5 @@
+//! A side with a constructor of fresh variables for a variable.
+
 ghost use Rattle.std.specs.Prelude.{◌≡◌, ◌+◌, ◌<◌, ◌^◌, IfOk};
 ghost use Rattle.term_core.specs.Tree.{Tree, app as application, trees_of};
 ghost use Rattle.substitutions.specs.Substitution.{apply};

@@ -1,3 +1,5 @@
+//! How two normal forms close.
+
 ghost use Rattle.std.specs.Prelude.{◌≡◌, ◌↔◌, ◌≤◌, ℕ, IfOk, IsTrue, MatchOption, Some, slice_get, length};
 ghost use Rattle.term_core.specs.Tree.{app as application, trees_of};
 ghost use Rattle.term_core.specs.declared.ids.SortId.{SortId};

@@ -1,3 +1,5 @@
+//! Whether two terms are the sides of a sorted instance of an equation.
+
 ghost use Rattle.std.specs.Prelude.{◌≡◌, ◌↔◌, ◌≤◌, ℕ, IfOk, IsTrue, Some, slice_get, length};
 ghost use Rattle.term_core.specs.Tree.{app as application, some, none};
 ghost use Rattle.term_core.specs.declared.ids.SortId.{SortId};

@@ -1,13 +1,16 @@
-//! Plain proofs: which goals follow by the cases of one variable, the normal forms of both sides
-//! and instances of the goal itself.
+//! Plain proofs: which goals follow by the cases of one variable, normal forms and the goal
+//! itself.
 //!
-//! It stands on rewriting, whose leftmost-innermost uses bring the sides to their normal forms, on
-//! clause_core, whose limits each clause on the way keeps, and on matching and test_sets.
-//! `specs/PlainProofs.antt` says what a plain proof of a goal on a variable is, and how long:
-//! there is one length at most ([`one_length`]). The layers above use that [`first_plain`] is
-//! exact: it names the first variable with a plain proof of at most a given length, and answers
-//! None exactly where no variable has one. For such a goal the table of steps says that `cover` of
-//! the variable by its test set makes the cases ([`first_steps`]).
+//! Uses rewriting, whose leftmost-innermost uses bring the sides to their normal forms,
+//! clause_core, whose limits each clause on the way keeps, matching and test_sets.
+//! `specs/PlainProofs.antt` says what a plain proof of a goal on a variable is, and how long.
+//!
+//! Proved: `first_plain`: the first variable, in the goal's order, on which the goal has a plain
+//! proof of at most a length up to 1,000, and None exactly where no variable has one. A goal has
+//! plain proofs of one length at most on a variable (`one_length`). The step `cover` by the test
+//! set makes the cases (`first_steps`). `worked_examples`.
+//!
+//! Tested: Goals by hand, through the program.
 #![tactic(auto)]
 
 mod cases;

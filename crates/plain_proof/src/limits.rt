@@ -1,3 +1,5 @@
+//! Whether two sides are within the limits of a clause.
+
 ghost use Rattle.std.specs.Prelude.{◌↔◌, IfOk, IsTrue};
 ghost use Rattle.plain_proof.specs.Limits.{AreWithin};
 

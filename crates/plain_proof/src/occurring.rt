@@ -1,3 +1,5 @@
+//! Whether a variable occurs in an equation.
+
 ghost use Rattle.std.specs.Prelude.{◌↔◌, ◌⊎◌, IsTrue};
 ghost use Rattle.term_core.specs.Variables.{Occurs};
 

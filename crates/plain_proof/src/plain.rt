@@ -1,3 +1,5 @@
+//! `first_plain`: the first variable with a plain proof.
+
 ghost use Rattle.std.specs.Prelude.{◌≡◌, ◌≤◌, IfOk, length as length_of};
 ghost use Rattle.spec_core.specs.WellSorted.{IsWellSorted, GoalIsSorted, sorts_of as sorts_of_variables};
 ghost use Rattle.plain_proof.specs.CaseAnswers.{HasSort, IsFirstCovered};

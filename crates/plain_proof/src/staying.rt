@@ -1,3 +1,5 @@
+//! A side's normal form, one use at a time, with each clause on the way within the limits.
+
 ghost use Rattle.std.specs.Prelude.{◌≡◌, IfOk};
 ghost use Rattle.spec_core.specs.WellSorted.{IsWellSorted};
 ghost use Rattle.term_core.specs.Tree.{Tree};

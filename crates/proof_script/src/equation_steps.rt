@@ -1,3 +1,5 @@
+//! Steps that name equations.
+
 ghost use Rattle.std.specs.Prelude.{MatchOption, codes};
 ghost use Rattle.spec_core.specs.Sig.{Sig};
 ghost use Rattle.spec_core.specs.Declarations.{IsDeclared};

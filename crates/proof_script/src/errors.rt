@@ -1,3 +1,5 @@
+//! Why a line isn't read as a step.
+
 use std::error::Error;
 use std::fmt;
 use term_core::OutOfMemory;

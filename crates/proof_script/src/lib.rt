@@ -1,11 +1,17 @@
 //! The text of a report, both ways: lines of words, one spelling for each report.
 //!
-//! It stands on clause_core, whose reports and steps it writes, and on spec_text for names. The
-//! folder `specs/` says what the text of each step, claim and report is, which reports have a text,
-//! and which line of some bytes is the first that can't continue: by the texts of reports alone,
-//! apart from any reader. The layers above use that [`print_report`] and [`print_claim`] write these
-//! texts, that [`read_step`] reads the line of a step, and that the readers of words are exact against
-//! `specs/LineWords.antt`.
+//! Uses clause_core, whose reports and steps it writes, and spec_text for names. `specs/` says
+//! what the text of each step, claim and report is, which reports have a text, and which line of
+//! some bytes is the first that can't continue. It says so by the texts of reports alone, apart
+//! from any reader. The readers of words are exact against `specs/LineWords.antt`.
+//!
+//! Proved: `print_report`, `print_claim`, `print_header`: the text of a report, of a claim and of
+//! the first two lines. A text has one report, and lists of claims are read in one way
+//! (`one_report`). Bytes have one faulty line at most, and a report's text none (`one_fault`).
+//! `read_step`: the step whose line the bytes are and which may be in a report, or that there is
+//! none, in both directions. `worked_examples`, `fault_examples`, `refused_steps`.
+//!
+//! Tested: Lines of each step and claim, through the program.
 #![tactic(auto)]
 
 mod equation_steps;

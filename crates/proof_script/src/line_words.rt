@@ -1,3 +1,6 @@
+//! The next line of a text, and the next word of a line: numbers, variables, equations, sides and
+//! names.
+
 ghost use Rattle.std.specs.Prelude.{◌≡◌, ◌++◌, ℕ, List, Bool, false, IfOk, MatchOption, codes};
 ghost use Rattle.spec_core.specs.Sig.{Sig};
 ghost use Rattle.proof_script.specs.Faults.{IsOneLine};

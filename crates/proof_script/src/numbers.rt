@@ -1,3 +1,5 @@
+//! Numbers that are read.
+
 ghost use Rattle.std.specs.Prelude.{ℕ, MatchOption};
 ghost use Rattle.proof_script.specs.Reading.{IsNumber};
 

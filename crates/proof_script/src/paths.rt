@@ -1,3 +1,5 @@
+//! Argument numbers of a place.
+
 ghost use Rattle.std.specs.Prelude.{ℕ, List, IfOk, MatchOption};
 ghost use Rattle.proof_script.specs.PathText.{IsArgumentAt, IsPath};
 

@@ -1,3 +1,5 @@
+//! Steps with places.
+
 ghost use Rattle.std.specs.Prelude.{◌∷◌, [], ℕ, IfOk, MatchOption, codes};
 ghost use Rattle.spec_core.specs.Sig.{Sig};
 ghost use Rattle.spec_core.specs.Declarations.{IsDeclared};

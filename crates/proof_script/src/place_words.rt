@@ -1,3 +1,5 @@
+//! The place that comes next.
+
 ghost use Rattle.std.specs.Prelude.{◌≡◌, ◌++◌, Bool, ℕ, List, IfOk, MatchOption, codes};
 ghost use Rattle.spec_core.specs.Sig.{Sig};
 ghost use Rattle.clause_core.specs.declared.steps.Place.{Place as AnyPlace};

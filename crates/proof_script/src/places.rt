@@ -1,3 +1,5 @@
+//! Equations by their words.
+
 ghost use Rattle.std.specs.Prelude.{◌≡◌, ℕ, Bool, MatchOption};
 ghost use Rattle.proof_script.specs.Reading.{IsEquation, IsIndex};
 

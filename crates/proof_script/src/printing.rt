@@ -1,3 +1,5 @@
+//! `print_report` and `print_claim`.
+
 ghost use Rattle.std.specs.Prelude.{◌≡◌, ◌++◌, ℕ, List, IfOk, OnOk, flat_map, map};
 ghost use Rattle.std.specs.List.{AllByRecursion};
 ghost use Rattle.proof_script.specs.Words.{line_text, lines_text};

@@ -1,3 +1,5 @@
+//! `read_step`: the step of a line.
+
 ghost use Rattle.std.specs.Prelude.{◌≡◌, Err, IfOk, MatchOption};
 ghost use Rattle.spec_core.specs.Declarations.{IsDeclared};
 ghost use Rattle.clause_core.specs.declared.steps.Step.{Step as AnyStep};

@@ -1,3 +1,5 @@
+//! The only word of a line.
+
 ghost use Rattle.std.specs.Prelude.{◌∷◌, [], ℕ, List, Bool, IfOk, MatchOption};
 ghost use Rattle.spec_core.specs.Sig.{Sig};
 ghost use Rattle.spec_core.specs.Declarations.{IsDeclared};

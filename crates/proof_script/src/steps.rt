@@ -1,3 +1,5 @@
+//! The line of a step.
+
 ghost use Rattle.std.specs.Prelude.{◌≡◌, ◌++◌, OnOk};
 ghost use Rattle.proof_script.specs.Words.{line_text};
 ghost use Rattle.proof_script.specs.Steps.{step_line};

@@ -1,3 +1,5 @@
+//! Lists of terms and patterns in brackets.
+
 ghost use Rattle.std.specs.Prelude.{ℕ, List, IfOk, MatchOption};
 ghost use Rattle.term_core.specs.Tree.{Tree};
 ghost use Rattle.spec_core.specs.Declarations.{IsDeclared};

@@ -1,3 +1,5 @@
+//! Steps with terms.
+
 ghost use Rattle.std.specs.Prelude.{IfOk, MatchOption, codes};
 ghost use Rattle.spec_core.specs.Declarations.{IsDeclared};
 ghost use Rattle.clause_core.specs.declared.steps.Step.{Step as AnyStep};

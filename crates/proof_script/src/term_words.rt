@@ -1,3 +1,5 @@
+//! The term or the list that comes next.
+
 ghost use Rattle.std.specs.Prelude.{ℕ, List, IfOk, MatchOption};
 ghost use Rattle.term_core.specs.Tree.{Tree};
 ghost use Rattle.spec_core.specs.Declarations.{IsDeclared};

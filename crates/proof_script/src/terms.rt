@@ -1,3 +1,5 @@
+//! Terms and patterns that are read.
+
 ghost use Rattle.std.specs.Prelude.{◌≡◌, ◌++◌, ◌↔◌, [], ◌∷◌, ℕ, List, IfOk, IsTrue, MatchOption};
 ghost use Rattle.term_core.specs.Tree.{Tree, Trees, var as variable, trees_of, list_of};
 ghost use Rattle.term_core.specs.Variables.{occurrences, occurrences_all};

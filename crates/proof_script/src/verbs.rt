@@ -1,3 +1,5 @@
+//! The sixteen words that step lines begin with.
+
 ghost use Rattle.std.specs.Prelude.{◌≡◌, MatchOption};
 ghost use Rattle.clause_core.specs.declared.steps.Step.{Step as AnyStep};
 ghost use Rattle.proof_script.specs.Steps.{step_line};

@@ -1,3 +1,5 @@
+//! What the search finds.
+
 use clause_core::Block;
 
 /// What the search for a routine proof finds.

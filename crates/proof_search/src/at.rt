@@ -1,3 +1,5 @@
+//! A node whose step is sought, and one call of the table there.
+
 ghost use Rattle.std.specs.Prelude.{◌≡◌, ◌↔◌, ◌<◌, IsTrue, IfOk, length};
 ghost use Rattle.std.specs.List.{AllByRecursion};
 ghost use Rattle.clause_core.specs.declared.answers.Child.{Child as ChildOf};

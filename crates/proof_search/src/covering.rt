@@ -1,3 +1,5 @@
+//! The entry `cover`.
+
 ghost use Rattle.std.specs.Prelude.{◌≡◌, IfOk};
 ghost use Rattle.routine_proof.specs.Entries.{cover, demanded_covers};
 ghost use Rattle.proof_search.specs.Taking.{IsAt, IsFound};

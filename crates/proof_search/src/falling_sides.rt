@@ -1,3 +1,5 @@
+//! Which sides of a clause's only conclusion may fall.
+
 ghost use Rattle.std.specs.Prelude.{◌≡◌, ◌↔◌, IsTrue, [], ◌∷◌, IfOk, MatchOption};
 ghost use Rattle.spec_core.specs.declared.records.Equation.{Equation as EquationOf};
 ghost use Rattle.fitting_lists.specs.Answering.{AreVariables};

@@ -1,3 +1,5 @@
+//! `guided`: the goal of a number, and the starts of a goal.
+
 ghost use Rattle.std.specs.Prelude.{◌≡◌, ◌<◌, ◌↔◌, Some, IsTrue, IfOk, length, slice_get};
 ghost use Rattle.std.specs.Option.{IfSome};
 ghost use Rattle.spec_core.specs.declared.records.Goal.{Goal as GoalOf};

@@ -1,3 +1,5 @@
+//! Which equation of a node leads.
+
 ghost use Rattle.proof_search.specs.Leading.{IsLeading};
 ghost use Rattle.fitting_lists.specs.Leading.{IsPlace};
 

@@ -1,21 +1,28 @@
-//! Routine proofs, found: for each start of a goal the one block that can be routine, and of these
-//! the first that is a proof. Where the block without a split begins with the cover of a variable,
+//! The search for a routine proof: the first one of a goal over lemmas.
+//!
+//! Uses routine_proof, which says what routine blocks and proofs are. The specification comes
+//! with the order that admits it (`Admitted` of spec_admit). `children` of inference_rules takes
+//! steps, acceptance says when they prove a clause, and proof_script how long a claim's text is.
+//! For each start of a goal it builds the one block that can be routine, and of these it answers
+//! the first that is a proof. If the block without a split begins with the cover of a variable,
 //! the split at this variable is the same start, and is passed over.
 //!
-//! It stands on spec_admit, whose `Admitted` is a specification with the order that admits it, on
-//! routine_proof, which says what routine blocks and proofs are, on inference_rules, whose
-//! `children` takes steps, on acceptance, which says when steps prove a clause, and on proof_script
-//! for the length of a claim's text. The layers above use [`guided`]: it answers the first routine
-//! proof of a goal over some lemmas, or that there is none. The claim that a block which it finds
-//! proves the goal is accepted after claims that prove the lemmas.
+//! `choosing.rt` finds the step that a node takes. It goes through the entries of the list in
+//! their order; each kind has a file. What can't fit is passed over before the table of steps is
+//! asked: rules of another function, clauses whose symbols differ, and a side of an equation that
+//! the other side is above. What each node would ask again is found once: which equation of a
+//! node leads, when the node is added, and of a lemma, for a whole goal (`leading_places.rt`);
+//! which sides of lemmas may fall, for a whole goal, and of node 0, when a block begins
+//! (`falling_sides.rt`). A lemma that permutes, as plus(x, y) = plus(y, x), rewrites from its
+//! left side alone.
 //!
-//! `choosing` finds the step that a node takes: it goes through the entries of the list in their
-//! order, of which each kind has a file. What cannot fit is passed over before the table of steps
-//! is asked: rules of another function, clauses whose symbols differ, and a side of an equation
-//! that the other side is above. What each node asks anew is found once: which equation of a node
-//! leads, when the node is added, and of a lemma, for a whole goal (`leading_places`); which sides
-//! of lemmas may fall, for a whole goal, and of node 0, when a block begins (`falling_sides`). A
-//! lemma that permutes, as plus(x, y) = plus(y, x), rewrites from its left side alone.
+//! Proved: `guided`, for every order: the first routine proof of an admitted specification's goal
+//! over lemmas, with at most a given number of nodes, and Unfinished exactly where it has none.
+//! The claim that its block proves the goal is accepted after any claims that prove the lemmas
+//! and aren't on the goal.
+//!
+//! Tested: Goals by hand, and goals at random beside a plain program in Python (`tests/compare`),
+//! through the program.
 #![tactic(auto)]
 
 mod answers;

@@ -1,3 +1,5 @@
+//! The entries that name an equation by its number.
+
 ghost use Rattle.std.specs.Prelude.{◌≡◌, IfOk, length};
 ghost use Rattle.clause_core.specs.Limits.{IsWithin};
 ghost use Rattle.routine_proof.specs.Entries.{matches};

@@ -1,3 +1,5 @@
+//! Whether the block of a start is a proof.
+
 ghost use Rattle.std.specs.Prelude.{IfOk};
 ghost use Rattle.spec_core.specs.WellSorted.{GoalIsSorted};
 ghost use Rattle.clause_core.specs.Limits.{IsWithin};

@@ -1,3 +1,5 @@
+//! The entries `subsume` and `by-lemma`.
+
 ghost use Rattle.std.specs.Prelude.{◌≡◌, [], ◌∷◌, IfOk, length};
 ghost use Rattle.clause_core.specs.Clauses.{ClauseIsSorted};
 ghost use Rattle.fitting_lists.specs.Answering.{AreVariables};

@@ -1,3 +1,5 @@
+//! The entries `hyp` and `lemma`.
+
 ghost use Rattle.std.specs.Prelude.{◌≡◌, ◌≤◌, Bool, true, IsTrue, IfOk};
 ghost use Rattle.term_core.specs.References.{terms_of};
 ghost use Rattle.clause_core.specs.Clauses.{ClauseIsSorted};

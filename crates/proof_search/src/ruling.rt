@@ -1,3 +1,5 @@
+//! The entries `rule` and `case`.
+
 ghost use Rattle.std.specs.Prelude.{◌≡◌, ℕ, suc, IsTrue, IfOk, map};
 ghost use Rattle.std.specs.Option.{IfSome};
 ghost use Rattle.clause_core.specs.RuleInstances.{RuleAt, IsInstance};

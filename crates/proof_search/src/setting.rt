@@ -1,3 +1,6 @@
+//! What stays the same for a goal: lemmas as clauses, the table of rules, and which of them may
+//! fit.
+
 ghost use Rattle.std.specs.Prelude.{◌≡◌, suc, IfOk, MatchOption, map};
 ghost use Rattle.spec_core.specs.WellSorted.{IsWellSorted};
 ghost use Rattle.clause_core.specs.RuleInstances.{RuleAt, IsInstance};

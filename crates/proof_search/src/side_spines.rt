@@ -1,3 +1,5 @@
+//! The spines of an equation's sides, and whether they may become others.
+
 ghost use Rattle.std.specs.Prelude.{◌≡◌, ◌↔◌, IsTrue, IfOk};
 ghost use Rattle.proof_search.specs.SideSpines.{side_spines, listed_spines, SidesMayBecome, MayBecomeEither};
 ghost use Rattle.proof_search.specs.Leading.{kept_spines};

@@ -1,3 +1,5 @@
+//! The block of a start, node by node.
+
 ghost use Rattle.std.specs.Prelude.{◌<◌, ◌^◌, IfOk, length};
 ghost use Rattle.descent.specs.SortedChildren.{IsNode};
 ghost use Rattle.inference_rules.specs.Answers.{clauses_of};

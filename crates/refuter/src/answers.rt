@@ -1,3 +1,5 @@
+//! What a search answers.
+
 use term_core::Terms;
 
 /// What a search answers.

@@ -1,3 +1,5 @@
+//! `count`: how many values a sort has.
+
 ghost use Rattle.std.specs.Prelude.{◌≡◌, ◌<◌, ◌≤◌, ◌+◌, ◌-◌, ◌*◌, ◌^◌, ℕ, [], ◌∷◌, IfOk, min, length, slice_index};
 ghost use Rattle.std.specs.List.{AllByRecursion};
 ghost use Rattle.spec_core.specs.Sig.{IsSort, SortsAreInRange};

@@ -1,3 +1,5 @@
+//! By depth and sort, the fewest symbols of a value.
+
 ghost use Rattle.std.specs.Prelude.{◌≡◌, ◌<◌, ◌+◌, ◌^◌, ℕ, IfOk, OnOk, MatchBool, min, length, sum};
 ghost use Rattle.std.specs.List.{AllByRecursion};
 ghost use Rattle.term_core.specs.declared.ids.SortId.{SortId};

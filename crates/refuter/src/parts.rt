@@ -1,3 +1,5 @@
+//! What is known of substitutions that begin alike, and how many were looked at.
+
 use ground_eval::Verdict;
 use term_core::Terms;
 

@@ -1,3 +1,5 @@
+//! `search`, and how many substitutions begin alike.
+
 ghost use Rattle.std.specs.Prelude.{◌≡◌, ◌+◌, ℕ, [], IfOk, OnOk, Some, length, slice_get};
 ghost use Rattle.std.specs.List.{AllByRecursion};
 ghost use Rattle.spec_core.specs.Sig.{IsSort, SortsAreInRange};

@@ -1,3 +1,5 @@
+//! What is kept beside a bank.
+
 ghost use Rattle.std.specs.Prelude.{List};
 ghost use Rattle.value_bank.specs.Cells.{Cell};
 ghost use Rattle.ground_eval.specs.Opened.{Partial};

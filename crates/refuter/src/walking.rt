@@ -1,3 +1,5 @@
+//! The walk over substitutions that begin alike.
+
 ghost use Rattle.std.specs.Prelude.{◌≡◌, ◌+◌, ◌*◌, ◌^◌, ◌<◌, ◌≤◌, ◌++◌, max, List, Some, None, IfOk, OnOk, IfSome, length, slice_get};
 ghost use Rattle.term_core.specs.Tree.{Tree, trees_of};
 ghost use Rattle.term_core.specs.declared.ids.SortId.{SortId as SortIdOf};

@@ -1,3 +1,5 @@
+//! Whether a report is accepted, and why the tests stop.
+
 ghost use Rattle.std.specs.Prelude.{◌≡◌};
 ghost use Rattle.replay_check.specs.declared.answers.Stop.TheVariants.{OutOfMemory as out_of_memory};
 

@@ -1,3 +1,5 @@
+//! Whether steps prove a goal.
+
 ghost use Rattle.std.specs.Prelude.{◌≡◌, ℕ, List, Some, Contains, slice_get};
 ghost use Rattle.clause_core.specs.declared.reports.Claim.{Claim as ClaimOf};
 ghost use Rattle.clause_core.specs.Tidied.{goal_clause};

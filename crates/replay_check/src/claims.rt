@@ -1,3 +1,5 @@
+//! The claims of a report in their order, and one claim.
+
 ghost use Rattle.std.specs.Prelude.{◌≡◌, ◌↔◌, ℕ, List, Some, IsTrue, MatchOption, length, slice_get};
 ghost use Rattle.spec_core.specs.declared.records.Goal.{Goal as GoalOf};
 ghost use Rattle.clause_core.specs.declared.reports.Claim.{Claim as ClaimOf};

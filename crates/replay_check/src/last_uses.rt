@@ -1,3 +1,5 @@
+//! The last step that refers to each node.
+
 ghost use Rattle.std.specs.Prelude.{◌≡◌, IfOk, length};
 ghost use Rattle.replay_check.specs.Kept.{referred, TellLastUses};
 

@@ -1,3 +1,5 @@
+//! Clauses that no later step needs.
+
 ghost use Rattle.std.specs.Prelude.{◌<◌, length};
 ghost use Rattle.replay_check.specs.Kept.{IsNeededBehind, LetsGo};
 

@@ -1,3 +1,5 @@
+//! Numbers of lines.
+
 ghost use Rattle.std.specs.Prelude.{◌≡◌, ◌+◌, suc, IfOk};
 ghost use Rattle.acceptance.specs.Refusals.{lines_of};
 

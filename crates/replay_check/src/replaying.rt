@@ -1,3 +1,5 @@
+//! `replay`: whether a report is accepted, or its first refusal.
+
 ghost use Rattle.std.specs.Prelude.{IfOk};
 ghost use Rattle.replay_check.specs.Tells.{Tells};
 

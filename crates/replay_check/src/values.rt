@@ -1,3 +1,5 @@
+//! Whether a goal fails under values.
+
 ghost use Rattle.std.specs.Prelude.{◌≡◌, ◌↔◌, ℕ, List, Some, IfOk, IsTrue, slice_get};
 ghost use Rattle.term_core.specs.Tree.{trees_of};
 ghost use Rattle.spec_core.specs.Sorts.{IsValue, IsBuilt, AreBuilt};

@@ -1,3 +1,5 @@
+//! The lines of a yes and of a no, and the words of a reason.
+
 ghost use Rattle.std.specs.Prelude.{◌≡◌, ◌++◌, IfOk, OnOk, codes};
 ghost use Rattle.std.specs.Fmt.{decimal};
 ghost use Rattle.reply_lines.specs.Lines as lines_of;

@@ -1,3 +1,5 @@
+//! A claim with its lines.
+
 ghost use Rattle.std.specs.Prelude.{◌≡◌, ◌≤◌, ◌+◌, [], ℕ, List, MatchResult, length};
 ghost use Rattle.spec_core.specs.Declarations.{IsDeclared};
 ghost use Rattle.clause_core.specs.declared.reports.Report.{Report as AnyReport};

@@ -1,3 +1,5 @@
+//! Why bytes aren't read as a report.
+
 use std::error::Error;
 use std::fmt;
 use term_core::OutOfMemory;

@@ -1,3 +1,5 @@
+//! The first line of a claim.
+
 ghost use Rattle.std.specs.Prelude.{◌≡◌, ◌++◌, [], ℕ, List, Bool, IfOk, MatchOption, codes};
 ghost use Rattle.spec_core.specs.Sig.{Sig};
 ghost use Rattle.spec_core.specs.Declarations.{IsDeclared};

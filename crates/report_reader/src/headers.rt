@@ -1,3 +1,5 @@
+//! The two lines that a report begins with.
+
 ghost use Rattle.std.specs.Prelude.{ℕ, List, [], MatchOption, MatchResult};
 ghost use Rattle.spec_core.specs.Sig.{Sig};
 ghost use Rattle.spec_core.specs.Declarations.{IsDeclared};

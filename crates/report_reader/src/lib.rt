@@ -1,10 +1,12 @@
-//! The reader of reports.
+//! The reader of reports, exact with the first faulty line.
 //!
-//! It stands on proof_script, whose readers of words and steps it puts together, and whose
-//! definitions it meets: which bytes are a report's text, and which line of other bytes is the first
-//! that can't continue. A text is read line by line in one pass. The layers above use the contract
-//! of [`read_report`], which is exact in both directions, since no text of a report has a faulty
-//! line.
+//! Uses proof_script, whose readers of words and steps it puts together, and whose definitions it
+//! meets. A text is read line by line in one pass.
+//!
+//! Proved: `read_report`: the report whose text the bytes are, or the first line that can't
+//! continue, which is there exactly where the bytes are no report's text.
+//!
+//! Tested: Reports byte by byte, with faults of each line, through the program.
 #![tactic(auto)]
 
 mod claims;

@@ -1,3 +1,5 @@
+//! The lines of a text that are left.
+
 ghost use Rattle.std.specs.Prelude.{◌≡◌, ◌≤◌, ◌<◌, ◌+◌, ◌*◌, ◌^◌, MatchResult, length};
 
 use crate::errors::ReportError;

@@ -1,3 +1,5 @@
+//! `read_report`: the report of bytes, or their first faulty line.
+
 ghost use Rattle.std.specs.Prelude.{MatchResult};
 ghost use Rattle.spec_core.specs.Declarations.{IsDeclared};
 ghost use Rattle.proof_script.specs.Texts.{IsReportText};

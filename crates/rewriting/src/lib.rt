@@ -1,8 +1,13 @@
 //! Normal forms of terms by the rules without guards.
 //!
-//! It stands on matching. The layers above use that [`normalize`] finds the leftmost-innermost uses
-//! of a term, each with its place and its rule, and answers Spent exactly where there are more of
-//! them than the budget ([`one_answer`]). Who normalizes many terms makes one [`Rewriter`].
+//! Uses matching. For many terms, make one [`Rewriter`].
+//!
+//! Proved: `normalize`: the chain of leftmost-innermost uses of unguarded rules to a normal form,
+//! with places and rules, within the budget, or Spent exactly where it is longer. A term has one
+//! normal form by one chain (`one_normal_form`), and one answer for a budget (`one_answer`).
+//! `worked_examples`.
+//!
+//! Tested: Terms by hand (step_cases).
 #![tactic(auto)]
 
 mod first;

@@ -1,3 +1,5 @@
+//! `normalize`, and what it answers.
+
 ghost use Rattle.std.specs.Prelude.{IfOk};
 ghost use Rattle.spec_core.specs.WellSorted.{IsWellSorted};
 ghost use Rattle.rewriting.specs.Narrow.{IsNarrow};

@@ -1,3 +1,5 @@
+//! `Rewriter`, which normalizes many terms.
+
 ghost use Rattle.std.specs.Prelude.{◌≡◌, IfOk};
 ghost use Rattle.spec_core.specs.RuleTables.{numbers_of};
 

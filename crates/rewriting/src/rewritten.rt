@@ -1,3 +1,5 @@
+//! One use of a rule at the root.
+
 ghost use Rattle.std.specs.Prelude.{◌≡◌, IfOk, List, Option};
 ghost use Rattle.term_core.specs.Tree.{Tree};
 ghost use Rattle.spec_core.specs.Sig.{Sig};

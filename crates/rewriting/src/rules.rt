@@ -1,3 +1,5 @@
+//! The first rule without guards that fits a root.
+
 ghost use Rattle.std.specs.Prelude.{IfOk};
 ghost use Rattle.spec_core.specs.WellSorted.{IsWellSorted};
 ghost use Rattle.rewriting.specs.Found.{IsFound};

@@ -1,3 +1,5 @@
+//! The place and the uses so far.
+
 ghost use Rattle.std.specs.Prelude.{◌≡◌, OnOk, [], ◌∷◌, ◌++◌};
 
 use std::alloc::Global;

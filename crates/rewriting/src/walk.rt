@@ -1,3 +1,5 @@
+//! Arguments from the left, then uses at the root.
+
 ghost use Rattle.std.specs.Prelude.{◌≡◌, ◌≤◌, IfOk, IfSome, length};
 ghost use Rattle.std.specs.List.{AllByRecursion};
 ghost use Rattle.spec_core.specs.WellSorted.{IsWellSorted};

@@ -1,3 +1,5 @@
+//! A step with what it makes.
+
 use clause_core::{Children, Step};
 
 /// A step at a node, with what it makes there.

@@ -1,3 +1,5 @@
+//! The code of a right side or a test.
+
 ghost use Rattle.std.specs.Prelude.{◌≡◌, ◌≤◌, ◌<◌, ◌+◌, ℕ, Some, IfOk, length, slice_get};
 ghost use Rattle.term_core.specs.Variables.{Occurs};
 ghost use Rattle.spec_core.specs.TermText.{SymbolsAreInRange};

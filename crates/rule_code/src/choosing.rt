@@ -1,3 +1,5 @@
+//! The place at which the most rules have a symbol.
+
 use crate::symbols::Path;
 use spec_core::Rule;
 use std::alloc::Global;

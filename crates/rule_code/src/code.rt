@@ -1,3 +1,5 @@
+//! Instructions in one list.
+
 ghost use Rattle.std.specs.Prelude.{◌≡◌, ◌<◌, ◌+◌, ◌^◌, ◌∷◌, ◌++◌, [], Some, OnOk, OnErr, length, slice_get};
 ghost use Rattle.rule_code.specs.Instructions.{instruction};
 

@@ -1,3 +1,5 @@
+//! Which left sides may match a call: one look at each place.
+
 ghost use Rattle.std.specs.Prelude.{◌≡◌, ℕ, List};
 ghost use Rattle.term_core.specs.Tree.{Tree, trees_of};
 ghost use Rattle.spec_core.specs.declared.records.Rule.{Rule};

@@ -1,3 +1,5 @@
+//! Which rules go on after a test.
+
 ghost use Rattle.std.specs.Prelude.{◌≡◌, ◌↔◌, ℕ, List, IfOk, IsTrue, length};
 ghost use Rattle.term_core.specs.Tree.{Tree, app as application, trees_of};
 ghost use Rattle.spec_core.specs.declared.records.Rule.{Rule as SpecRule};

@@ -1,3 +1,5 @@
+//! A function's decision tree, node by node, within its room.
+
 ghost use Rattle.std.specs.Prelude.{◌<◌, ◌≤◌, ℕ, List, IfOk, length};
 ghost use Rattle.rule_code.specs.DecisionTrees.{IsTree, AreNodes, AreTrees};
 ghost use Rattle.rule_code.specs.Growing.{IsPut, Grow};

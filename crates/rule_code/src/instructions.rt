@@ -1,3 +1,5 @@
+//! An instruction.
+
 /// What an instruction does with its slots.
 #[derive(Clone, Copy)]
 pub enum Kind {

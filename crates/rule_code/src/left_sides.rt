@@ -1,3 +1,5 @@
+//! Left sides as tests of slots.
+
 ghost use Rattle.std.specs.Prelude.{◌≡◌, ◌<◌, ◌↔◌, ℕ, Some, IfOk, IsTrue, length, slice_get};
 ghost use Rattle.term_core.specs.Tree.{var as variable};
 ghost use Rattle.spec_core.specs.WellSorted.{RuleIsSorted};

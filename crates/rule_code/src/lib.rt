@@ -1,13 +1,21 @@
 //! The rules of a specification, compiled once into straight code over slots.
 //!
-//! It stands on term_core, spec_core and value_bank. [`compile_rules`] makes a [`RuleCode`] of each
-//! rule: its left side as tests of slots ([`LeftSide`]), its guards and its right side as blocks of
-//! a [`Code`] (`specs/Compiled.antt`, `specs/Blocks.antt`), and for each guard the rules that go on
-//! with an answer of its test. [`grow_trees`] makes a [`DecisionTree`] of each function's rules.
-//! What code gives is a recursion over it by the definition of evaluation (`specs/Code.antt`), and
-//! what the code of a term gives is what the term gives (`specs/Laws.antt`). The machine above
-//! compiles by the contracts of [`compile_rules`], [`grow_trees`] and [`emit_body`], and finds the
-//! rule of a call by those of [`DecisionTree::rules_for`] and [`LeftSide::matches`].
+//! Uses term_core, spec_core and value_bank. [`compile_rules`] makes a [`RuleCode`] of each rule
+//! (`specs/Compiled.antt`). It has the left side as tests of slots ([`LeftSide`]), the guards and
+//! the right side as blocks of a [`Code`] (`specs/Blocks.antt`), and for each guard the rules
+//! that go on with an answer of its test. [`grow_trees`] makes a [`DecisionTree`] of each
+//! function's rules. What code gives is a recursion over it by the definition of evaluation
+//! (`specs/Code.antt`, `specs/Laws.antt`).
+//!
+//! Proved: `compile_rules`, `emit_body`: the code of each rule, with at most as many instructions
+//! for all rules as `rules_length` says, and the code of a term. What the code of a term gives is
+//! what the term gives, at its cost, both ways (`code_is_right`, `code_is_whole`).
+//! `LeftSide::matches`: whether a left side is the call with values at some places
+//! (`tests_match`, `tests_decide`, `repeats_decide`). `grow_trees`, `DecisionTree::rules_for`:
+//! some of a function's rules, among them all whose left sides are the call (`AreLeft`).
+//! `Branch::answered`: which rule goes on with the answer of a test, or that there is none.
+//!
+//! Neither: At which places a tree looks, and how many rules it leaves.
 #![tactic(auto)]
 
 mod blocks;

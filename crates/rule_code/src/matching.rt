@@ -1,3 +1,5 @@
+//! Left sides against slots.
+
 ghost use Rattle.std.specs.Prelude.{◌≡◌, ◌<◌, ◌≤◌, ◌↔◌, ℕ, List, Some, IfOk, IsTrue, drop, length, slice_get};
 ghost use Rattle.term_core.specs.Tree.{Tree, trees_of};
 ghost use Rattle.spec_core.specs.declared.records.Rule.{Rule};

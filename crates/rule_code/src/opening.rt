@@ -1,3 +1,5 @@
+//! The tests of one left side.
+
 ghost use Rattle.std.specs.Prelude.{◌≡◌, ◌++◌, [], IfOk};
 ghost use Rattle.rule_code.specs.Matching.{Opens};
 

@@ -1,3 +1,5 @@
+//! The code of a rule.
+
 ghost use Rattle.std.specs.Prelude.{◌≡◌, ◌≤◌, ◌<◌, ◌+◌, Some, IfOk, length, slice_get};
 ghost use Rattle.spec_core.specs.declared.records.Rule.{Rule};
 ghost use Rattle.spec_core.specs.WellSorted.{IsWellSorted};

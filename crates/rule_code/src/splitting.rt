@@ -1,3 +1,5 @@
+//! A node's rules by the symbols at a place.
+
 ghost use Rattle.std.specs.Prelude.{◌≡◌, ◌<◌, ◌^◌, ◌↔◌, false, Some, IfOk, IsTrue};
 ghost use Rattle.rule_code.specs.Growing.{CanBeWanted, AreThose, NoneHas, AreParts};
 

@@ -1,3 +1,5 @@
+//! The symbol at a place of a left side, and of a call.
+
 ghost use Rattle.std.specs.Prelude.{◌≡◌, List, Some, slice_get};
 ghost use Rattle.term_core.specs.Tree.{Tree, trees_of};
 ghost use Rattle.spec_core.specs.declared.records.Rule.{Rule as SpecRule};

@@ -1,3 +1,5 @@
+//! Tests of slots.
+
 /// Whether the value of a slot is this symbol with this many arguments, which then become the next
 /// slots.
 #[derive(Clone, Copy)]

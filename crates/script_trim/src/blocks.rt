@@ -1,3 +1,5 @@
+//! The block of a claim that is trimmed, and a closing step that fits a node.
+
 use clause_core::{Children, Step};
 use inference_rules::Node;
 

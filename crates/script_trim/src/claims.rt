@@ -1,3 +1,5 @@
+//! Claim by claim, each as long as it has a cut.
+
 ghost use Rattle.std.specs.Prelude.{◌≡◌, ℕ, Some, IfOk, slice_get};
 ghost use Rattle.acceptance.specs.Accepting.{IsAccepted};
 ghost use Rattle.script_trim.specs.Kept.{kept_report, IsKept};

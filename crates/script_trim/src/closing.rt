@@ -1,3 +1,5 @@
+//! Whether a step is a closing step.
+
 ghost use Rattle.std.specs.Prelude.{◌≡◌, ◌↔◌, ◌≤◌, ℕ, Some, IsTrue, IfOk, Contains, length, slice_get};
 ghost use Rattle.term_core.specs.Tree.{var as variable};
 ghost use Rattle.spec_core.specs.declared.records.Goal.{Goal as GoalOf};

@@ -1,3 +1,5 @@
+//! Copies of claims and lists of steps.
+
 ghost use Rattle.std.specs.Prelude.{◌≡◌, IfOk};
 
 use block_steps::copy_step;

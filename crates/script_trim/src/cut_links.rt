@@ -1,3 +1,5 @@
+//! The links of a block that is cut, and whether they are allowed.
+
 ghost use Rattle.std.specs.Prelude.{◌≡◌, ◌↔◌, ℕ, ◌<◌, List, Bool, Some};
 ghost use Rattle.std.specs.Prelude.{IfOk, IsTrue, length, map, slice_get};
 ghost use Rattle.clause_core.specs.declared.answers.Child.{Child as ChildOf};

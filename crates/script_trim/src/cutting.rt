@@ -1,3 +1,5 @@
+//! Whether a closing step could close a node, and the block that is left.
+
 ghost use Rattle.std.specs.Prelude.{◌≡◌, ◌↔◌, ℕ, ◌<◌, ◌≤◌, List, Some, IfOk, IsTrue, MatchOption};
 ghost use Rattle.std.specs.Prelude.{length, map, slice_get, slice_set};
 ghost use Rattle.std.specs.List.{AllByRecursion};

@@ -1,3 +1,5 @@
+//! The first cut of a claim.
+
 ghost use Rattle.std.specs.Prelude.{◌≡◌, ◌<◌, IfOk, length};
 ghost use Rattle.std.specs.List.{AllByRecursion};
 ghost use Rattle.acceptance.specs.Strict.{first_child};

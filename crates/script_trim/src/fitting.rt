@@ -1,3 +1,5 @@
+//! The closing steps that are defined at a node.
+
 ghost use Rattle.std.specs.Prelude.{◌≡◌, ◌<◌, ◌≤◌, ◌^◌, [], ◌∷◌, Some, IfOk, IsTrue, OnOk};
 ghost use Rattle.std.specs.Prelude.{Contains, MatchOption, length, map, slice_get, take};
 ghost use Rattle.spec_core.specs.declared.records.Goal.{Goal as GoalOf};

@@ -1,3 +1,5 @@
+//! Which nodes stay, and what flags keep of a vector.
+
 ghost use Rattle.std.specs.Prelude.{◌≡◌, ◌≢◌, ◌↔◌, ◌++◌, ◌<◌, ◌^◌, List, Bool, Some, IfOk, OnOk};
 ghost use Rattle.std.specs.Prelude.{IsTrue, length, replicate, slice_get, slice_set};
 ghost use Rattle.acceptance.specs.AllowedAnswers.{IsWholeBlock};

@@ -1,3 +1,5 @@
+//! The cut by a given closing step.
+
 ghost use Rattle.std.specs.Prelude.{◌≡◌, ◌<◌, ◌≤◌, List, IfOk, MatchOption, length, take};
 ghost use Rattle.clause_core.specs.declared.steps.Step.{Step as StepOf};
 ghost use Rattle.acceptance.specs.Accepting.{IsAccepted};

@@ -1,3 +1,5 @@
+//! The block of a claim before any cut.
+
 ghost use Rattle.std.specs.Prelude.{◌≡◌, ◌↔◌, ◌<◌, ◌≤◌, ℕ, List, [], ◌∷◌, Some, false, IfOk};
 ghost use Rattle.std.specs.Prelude.{IsTrue, Contains, length, map, slice_get};
 ghost use Rattle.clause_core.specs.declared.answers.Children.{Children as ChildrenOf};

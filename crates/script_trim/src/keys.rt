@@ -1,3 +1,5 @@
+//! Numbers by which most clauses are found to differ.
+
 ghost use Rattle.std.specs.Prelude.{◌≡◌, ◌↔◌, IsTrue, IfOk, Contains, map};
 ghost use Rattle.term_core.specs.Tree.{trees_of};
 ghost use Rattle.script_trim.specs.Keys.{stirred, hashed, hashed_all, both_hashed, equation_key as key_of_equation, key_of, MayClose};

@@ -1,3 +1,5 @@
+//! The clauses of goals, with their keys, and which goals are proved.
+
 ghost use Rattle.std.specs.Prelude.{◌≡◌, ◌++◌, [], ◌∷◌, IfOk, OnOk};
 ghost use Rattle.script_trim.specs.Trying.{AreLemmas};
 

@@ -1,18 +1,26 @@
-//! Accepted reports made shorter without a search.
+//! Accepted reports made shorter, without a search.
 //!
-//! A closing step closes a node without a choice of terms (`specs/Closing.antt`). Where it could
-//! close a node that has children, what descends from the node is cut (`specs/Cut.antt`), and the
-//! report that is left is accepted (`specs/Trimmed.antt`). The crate builds on block_steps, which
-//! takes the steps of a claim, on claimed_goals, on inference_rules, whose `children` decides whether
-//! a closing step is defined, on acceptance and block_links, which say what is allowed, and on
-//! proof_script for the text of a claim. The layers above use that [`cut`] is exact, and that [`trim`]
-//! answers the one report to which first cuts lead, which has the same claims and no node left that
-//! could be closed.
+//! Uses block_steps, which takes the steps of a claim, and claimed_goals. `children` of
+//! inference_rules decides whether a closing step is defined, acceptance and block_links say what
+//! is allowed, and proof_script has the text of a claim. A closing step closes a node without a
+//! choice of terms (`specs/Closing.antt`). If it could close a node that has children, what
+//! descends from the node is cut (`specs/Cut.antt`), and the report that is left is accepted
+//! (`specs/Trimmed.antt`).
 //!
 //! A claim's steps are taken once. Whether a closing step fits a node is asked of the node alone
 //! (`fitting.rt`), and by keys most clauses are passed over (`keys.rt`, `lone_nodes.rt`). Whether
-//! the block may be cut there is a matter of its links (`cut_links.rt`). That this decides a cut is
-//! the law [`tests_decide`]; so no report is replayed for a cut.
+//! the block may be cut there is a matter of its links (`cut_links.rt`). So no report is replayed
+//! for a cut.
+//!
+//! Proved: `cut`, for every order: the steps that are left of a proved claim of an accepted
+//! report if the closing step could close the node, and None exactly where it couldn't. `trim`:
+//! the one report to which first cuts lead. It has the same claims and is accepted, no claim has
+//! more nodes, and no node with children could be closed. Tests at one node decide a cut
+//! (`tests_decide`), and cuts end at one report (`cuts_trim`). It is said what a block that is
+//! cut makes (`cut_blocks`). Claims don't touch one another (`claims_are_apart`). The trimmed
+//! report of a text has a text (`trimmed_reports_stand`). `worked_examples`.
+//!
+//! Tested: Reports by hand, and reports at random (`tests/compare`), through the program.
 #![tactic(auto)]
 
 mod blocks;

@@ -1,3 +1,5 @@
+//! The nodes that no other node has a key in common with.
+
 ghost use Rattle.std.specs.Prelude.{◌≡◌, ℕ, Some, true, false, IfOk, IfSome, IsTrue, length, map};
 ghost use Rattle.std.specs.Prelude.{nat_eq, slice_get};
 ghost use Rattle.std.specs.HashSet.{contains};

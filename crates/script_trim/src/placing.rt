@@ -1,3 +1,5 @@
+//! A claim with the goals that are proved before it.
+
 use crate::lemmas::Lemmas;
 use clause_core::Report;
 

@@ -1,3 +1,5 @@
+//! Whether a clause as it is says no less than another one.
+
 ghost use Rattle.std.specs.Prelude.{◌⊎◌, ◌↔◌, IsTrue};
 ghost use Rattle.std.specs.List.{AllByRecursion};
 ghost use Rattle.spec_core.specs.declared.records.Equation.{Equation as EquationOf};

@@ -1,3 +1,5 @@
+//! How many bytes a claim has at most.
+
 ghost use Rattle.std.specs.Prelude.{◌≡◌, ◌+◌, ◌<◌, ◌≤◌, [], ◌∷◌, Some, IfOk, length, slice_get};
 ghost use Rattle.clause_core.specs.declared.reports.Claim.{Claim as ClaimOf};
 ghost use Rattle.proof_script.specs.Claims.{claim_text};

@@ -1,3 +1,5 @@
+//! `cut` and `trim`.
+
 ghost use Rattle.std.specs.Prelude.{◌<◌, IfOk, length};
 ghost use Rattle.acceptance.specs.Accepting.{IsAccepted};
 ghost use Rattle.script_trim.specs.Trimmed.{LeadsTo, ProvedClaim, TellsCut, Trims};

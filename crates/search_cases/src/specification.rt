@@ -1,3 +1,5 @@
+//! A text, read and sorted.
+
 ghost use Rattle.std.specs.Prelude.{IfOk};
 ghost use Rattle.spec_core.specs.WellSorted.{IsWellSorted};
 

@@ -1,3 +1,5 @@
+//! `claim_on`: the claim that a search gives.
+
 ghost use Rattle.std.specs.Prelude.{◌≡◌, ℕ, Some, IfOk, slice_get};
 ghost use Rattle.spec_core.specs.WellSorted.{IsWellSorted};
 ghost use Rattle.spec_core.specs.Overlap.{NoOverlap};

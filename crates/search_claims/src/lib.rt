@@ -1,10 +1,14 @@
-//! The claims of a report that searches for counterexamples give, one for each goal.
+//! The claims that searches for counterexamples give, one for each goal.
 //!
-//! It stands on refuter for the search, on clause_core for the types of reports, on proof_script for
-//! their text and on acceptance for when they are accepted. `specs/Claims.antt` says what the claim
-//! on a goal is. The layers above use that [`claim_on`] gives this claim, and that a report of such
-//! claims on all goals has a text ([`search_reports_stand`]) and is accepted
-//! ([`search_reports_are_accepted`]). What holds of one claim, whoever makes it, stands in `proofs/`.
+//! Uses refuter for the search, clause_core for the types of reports, proof_script for their
+//! text, and acceptance for when they are accepted. `specs/Claims.antt` says what the claim on a
+//! goal is. What holds of one claim, whoever makes it, is in `proofs/`.
+//!
+//! Proved: `claim_on`: the claim that the search gives of a goal. What a search refutes is shown,
+//! and may be in a report. A report of such claims on all goals has a text
+//! (`search_reports_stand`) and is accepted (`search_reports_are_accepted`).
+//!
+//! Tested: Reports by hand, through the program.
 #![tactic(auto)]
 
 mod claims;

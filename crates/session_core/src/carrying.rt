@@ -1,3 +1,5 @@
+//! A goal or a step carried out, or the first reason why it isn't.
+
 ghost use Rattle.std.specs.Prelude.{map};
 ghost use Rattle.session_core.specs.States.{State as StateOf};
 ghost use Rattle.session_core.specs.Taking.{CarriesOut, KeepsSound};

@@ -1,3 +1,5 @@
+//! What a line of commands asks for.
+
 ghost use Rattle.std.specs.Prelude.{◌≡◌, ◌++◌, ◌∷◌, List, [], OnErr, OnOk};
 ghost use Rattle.session_core.specs.declared.commands.Command.{Command as CommandOf};
 

@@ -1,3 +1,5 @@
+//! Copies of commands.
+
 ghost use Rattle.std.specs.Prelude.{◌≡◌, IfOk};
 
 use crate::commands::Command;

@@ -1,3 +1,5 @@
+//! Why a command isn't read, carried out or taken back.
+
 use clause_core::Why;
 use std::error::Error;
 use std::fmt;

@@ -1,3 +1,5 @@
+//! What is kept of each goal, and how the last step is taken back.
+
 ghost use Rattle.std.specs.Prelude.{◌≡◌, ◌↔◌, ◌++◌, ◌∷◌, ◌-◌, List, [], Contains, IfOk, IsTrue, MatchOption, OnErr, OnOk, length, map};
 ghost use Rattle.session_core.specs.Kept.{Kept};
 ghost use Rattle.session_core.specs.Taking.{HasOpenLast, IsOpenAt};

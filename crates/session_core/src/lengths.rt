@@ -1,3 +1,5 @@
+//! How many bytes a claim has, by the lengths of its lines.
+
 ghost use Rattle.std.specs.Prelude.{◌≡◌, ◌+◌, ◌++◌, ◌∷◌, ℕ, [], List, IfOk, length};
 ghost use Rattle.clause_core.specs.declared.steps.Step.{Step as StepOf};
 ghost use Rattle.spec_core.specs.Sig.{Sig};

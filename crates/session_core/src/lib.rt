@@ -1,19 +1,29 @@
-//! Proofs by hand: a goal is put under work, steps are taken one by one, and the last one is undone.
+//! Proofs by hand: a goal is put under work, steps are taken one by one, and the last one is
+//! undone.
 //!
-//! It stands on acceptance, which says what a step makes and what is allowed in a block, on
-//! inference_rules, which takes a step, on block_steps, whose [`TakenSteps`](block_steps::TakenSteps)
-//! keeps a goal's nodes and links and takes them back, and on proof_script for lines and texts.
-//! `specs/States.antt` says what a state is, `Accepting.antt` which commands are accepted and what
-//! they make of it, and `Refusals.antt` which ones are refused and the first reason. The layers above
-//! read commands ([`read_commands`]), carry them out ([`Session::apply`], [`Session::undo`]), ask which
-//! node is next ([`Session::open_node`]), and take the report of the proved goals
-//! ([`Session::report`]). The laws in `laws.rt` hold of each state that commands lead to: its report is
-//! accepted, and a command that is undone leaves the state from before it.
+//! Uses acceptance, which says what a step makes and what is allowed in a block. inference_rules
+//! takes a step, [`TakenSteps`](block_steps::TakenSteps) keeps a goal's nodes and links and takes
+//! them back, and proof_script has lines and texts. `specs/States.antt` says what a state is,
+//! `specs/Accepting.antt` which commands are accepted and what they make of it, and
+//! `specs/Refusals.antt` which ones are refused and the first reason.
 //!
-//! A session keeps its accepted commands and, for each goal, what its steps made (`kept_goals.rt`). A
-//! step costs its line and its node (`taking.rt`): the lengths of the lines so far are kept, and the
-//! links are tested where no node is left without a step. Undoing drops what the step made and takes
-//! no memory.
+//! A session keeps its accepted commands and, for each goal, what its steps made
+//! (`kept_goals.rt`). A step costs its line and its node (`taking.rt`): the lengths of the lines
+//! so far are kept, and the links are tested once no node is left without a step. Undoing drops
+//! what the step made and takes no memory.
+//!
+//! Proved: `read_commands`: the one list of commands that a text spells, or the number of its
+//! first faulty line (`one_reading`). `Session`, for every order, over the one state to which its
+//! accepted commands lead (`one_state`). `apply` accepts a goal or a step and answers how many
+//! nodes are pending, or changes nothing and answers the first reason (`one_answer`). `undo`
+//! gives the state from before the last command, and Nothing exactly where there is none.
+//! `open_node`: the number and the clause of the node that is next, or that no goal is under
+//! work. `report`: the claims of the state, which are accepted (`states_are_sound`). The test at
+//! the last step is that of the whole block (`last_test`), and what is kept changes at its end
+//! alone (`keeps_both_ways`). Reports have a text (`reports_stand`). What a session writes is one
+//! text (`one_text`), and `session_text` writes it. `worked_examples`.
+//!
+//! Tested: Sessions by hand, through the program.
 #![tactic(auto)]
 
 mod carrying;

@@ -1,3 +1,5 @@
+//! A text of commands, or its first faulty line.
+
 ghost use Rattle.std.specs.Prelude.{◌≡◌, Err, IfOk, MatchResult};
 ghost use Rattle.spec_core.specs.Declarations.{IsDeclared};
 ghost use Rattle.proof_script.specs.declared.errors.StepLineError.TheVariants.{NotAStep};

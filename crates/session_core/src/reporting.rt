@@ -1,3 +1,5 @@
+//! The claims of the proved goals.
+
 ghost use Rattle.std.specs.Prelude.{◌≡◌, ◌≤◌, List, IfOk, drop, length, map};
 ghost use Rattle.clause_core.specs.declared.steps.Step.{Step as StepOf};
 ghost use Rattle.session_core.specs.States.{proves_named};

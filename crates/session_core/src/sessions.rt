@@ -1,3 +1,5 @@
+//! `Session`: its commands, and what it keeps of its goals.
+
 ghost use Rattle.std.specs.Prelude.{◌≡◌, [], None, IfOk, MatchOption};
 ghost use Rattle.acceptance.specs.Accepting.{IsAccepted};
 ghost use Rattle.proof_script.specs.Standing.{Between};

@@ -1,3 +1,5 @@
+//! A step taken at the first node without one.
+
 ghost use Rattle.std.specs.Prelude.{◌≡◌, ◌⊎◌, ◌<◌, ◌≤◌, ◌+◌, ◌↔◌, ◌++◌, ◌∷◌, ℕ, [], List, Ok, Err, Contains, IsTrue, MatchResult, OnErr, OnOk, length};
 ghost use Rattle.std.specs.Prelude.{Result as AnyResult};
 ghost use Rattle.clause_core.specs.declared.reports.Claim.{Claim as ClaimOf};

@@ -1,3 +1,5 @@
+//! What a session writes for its commands.
+
 ghost use Rattle.std.specs.Prelude.{◌≡◌, ◌++◌, IfOk, OnOk};
 ghost use Rattle.proof_script.specs.Claims.{report_text};
 ghost use Rattle.session_core.specs.declared.commands.Command.TheVariants.{Undo};

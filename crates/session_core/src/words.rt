@@ -1,3 +1,5 @@
+//! The words of a refusal.
+
 ghost use Rattle.std.specs.Prelude.{◌≡◌};
 ghost use Rattle.session_core.specs.SessionText.{error_text};
 

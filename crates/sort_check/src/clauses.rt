@@ -1,3 +1,5 @@
+//! A goal's equations, and the sorts of its variables.
+
 ghost use Rattle.std.specs.Prelude.{◌≡◌, ◌≤◌, ◌++◌, IfOk, OnOk, length};
 ghost use Rattle.std.specs.List.{AllByRecursion, AllZip};
 ghost use Rattle.sort_check.specs.Answers.{Answers};

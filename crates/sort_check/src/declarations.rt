@@ -1,3 +1,5 @@
+//! The signature.
+
 ghost use Rattle.std.specs.Prelude.{◌≡◌, ℕ, List, ◌+◌, ◌<◌, ◌≤◌, ◌^◌, ◌∷◌, ◌++◌, [], IfOk, OnErr, length, map, codes};
 ghost use Rattle.spec_core.specs.declared.records.SymInfo.{SymInfo};
 ghost use Rattle.spec_core.specs.Declarations.{IsNewName, IsDeclared};

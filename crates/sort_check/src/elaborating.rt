@@ -1,3 +1,5 @@
+//! `elaborate` and `elaborate_term`.
+
 ghost use Rattle.std.specs.Prelude.{◌≡◌, ℕ, [], IfOk, Ok, Err};
 ghost use Rattle.term_core.specs.Tree.{Tree};
 ghost use Rattle.term_core.specs.declared.ids.SortId.{SortId};

@@ -1,3 +1,5 @@
+//! Variables as far as they are known, and equations of two of them.
+
 ghost use Rattle.std.specs.Prelude.{◌≡◌, ◌++◌, ◌∷◌, [], OnOk};
 ghost use Rattle.sort_check.specs.Entries.{entry_named};
 

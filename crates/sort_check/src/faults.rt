@@ -1,3 +1,5 @@
+//! Sort faults and their kinds.
+
 ghost use Rattle.sort_check.specs.declared.faults.SortFault.TheVariants.{Sort, OutOfMemory as out_of_memory};
 ghost use Rattle.std.specs.Prelude.{◌≡◌};
 

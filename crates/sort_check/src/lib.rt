@@ -1,15 +1,19 @@
-//! Sort checking: from raw specifications to sorted ones, or to their first fault.
+//! From raw specifications to sorted ones, or to their first fault.
 //!
-//! It stands on spec_core and on spec_grammar. The folder `specs/` says which tests of a raw
-//! specification are made in which order (`specs/FirstFault.antt`), and apart from this what its
-//! numbering is, with the sorts that a goal's variables get (`specs/Inference.antt`) and the order
-//! that lines give: levels and statuses, or weights (`specs/Orders.antt`). A raw specification
-//! stands for its numbering where no test finds a fault (`specs/StandsFor.antt`). The layer above
-//! uses the contracts of [`elaborate`] and [`elaborate_term`]: what the raw one stands for is
-//! answered wherever there is such a thing, and nothing else is; the first fault is told with its
-//! place and kind exactly where it is there. The laws say that a raw specification stands for one
-//! at most and has one first fault at most, that one with a fault stands for none, and that what it
-//! stands for is well sorted and keeps the sizes of terms.
+//! Uses spec_core and spec_grammar. `specs/FirstFault.antt` says which tests of a raw
+//! specification are made in which order. Apart from this, `specs/` says what its numbering is,
+//! with the sorts that a goal's variables get (`Inference.antt`) and the order that lines give:
+//! levels and statuses, or weights (`Orders.antt`). A raw specification stands for its numbering
+//! if no test finds a fault (`StandsFor.antt`).
+//!
+//! Proved: `elaborate` answers the specification that the raw one stands for wherever there is
+//! one. That is well sorted if the raw one keeps the limits of the grammar. Else it answers the
+//! first fault with its place and kind, in both directions. `elaborate_term` does so for a term
+//! without variables. The laws: `one_specification`, `one_first_fault`, `faulty_stands_for_none`,
+//! `sizes_are_kept`, `well_sorted`. No term of a rule has more symbols than a raw term has words
+//! (`numbering_keeps_sizes`). `worked_examples`.
+//!
+//! Tested: Faults and inferred sorts by hand, through the program.
 #![tactic(auto)]
 
 mod clauses;

@@ -1,3 +1,5 @@
+//! The numbers that tests of rules and goals have, by format.
+
 ghost use Rattle.std.specs.Prelude.{◌≡◌};
 ghost use Rattle.sort_check.specs.Limits.{most_rules_of_one};
 

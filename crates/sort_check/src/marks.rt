@@ -1,3 +1,5 @@
+//! Which symbols were named before.
+
 ghost use Rattle.std.specs.Prelude.{◌≡◌, [], IfOk, length};
 ghost use Rattle.sort_check.specs.Marks.{AreMarks};
 

@@ -1,3 +1,5 @@
+//! The order by equal and status lines, or by the order line.
+
 ghost use Rattle.std.specs.Prelude.{◌≡◌, ◌<◌, ◌==◌, ◌++◌, ◌∷◌, ℕ, List, [], IfOk, OnErr, IsTrue, ◌↔◌, if◌then◌else◌, length, map, replicate, slice_index};
 ghost use Rattle.std.specs.List.{list_all, range_with_len};
 ghost use Rattle.term_core.specs.Precedence.{is_status as orders_arguments, times};

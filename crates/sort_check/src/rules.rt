@@ -1,3 +1,5 @@
+//! Rules.
+
 ghost use Rattle.std.specs.Prelude.{◌≡◌, ◌≤◌, ◌<◌, [], IfOk, OnOk, length, min, replicate, slice_index};
 ghost use Rattle.std.specs.List.{AllByRecursion, AllZip};
 ghost use Rattle.spec_core.specs.Findings.{each, each_after};

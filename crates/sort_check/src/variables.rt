@@ -1,3 +1,5 @@
+//! Variables with the sorts that were found.
+
 ghost use Rattle.std.specs.Prelude.{◌≡◌, IfOk, length};
 ghost use Rattle.spec_core.specs.Findings.{nothing};
 ghost use Rattle.sort_check.specs.Answers.{Answers};

@@ -1,3 +1,5 @@
+//! A term of a part of a declaration, word by word.
+
 ghost use Rattle.std.specs.Prelude.{◌≡◌, ◌≤◌, ◌<◌, Some, None, IfOk, OnOk, length, option_map};
 ghost use Rattle.term_core.specs.Tree.{trees_of};
 ghost use Rattle.spec_grammar.specs.RawTree.{raw_trees};

@@ -1,3 +1,5 @@
+//! The weights of an order line.
+
 ghost use Rattle.std.specs.Prelude.{◌≡◌, ◌<◌, ◌∷◌, ◌++◌, List, [], IfOk, length, map, replicate};
 ghost use Rattle.spec_core.specs.Findings.{each_after};
 ghost use Rattle.spec_grammar.specs.declared.raw.RawWeight.{RawWeight};

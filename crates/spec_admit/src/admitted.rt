@@ -1,3 +1,5 @@
+//! `Admitted`: a specification with the order that admits it.
+
 use spec_core::Spec;
 use std::marker::Model;
 use term_order::TermOrder;

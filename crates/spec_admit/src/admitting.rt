@@ -1,3 +1,5 @@
+//! `admit`: the specification as admitted, or its first fault.
+
 ghost use Rattle.std.specs.Prelude.{◌≡◌, [], IfOk, IfErr, OnOk, MatchResult};
 ghost use Rattle.term_core.specs.Tree.{Tree};
 ghost use Rattle.term_core.specs.declared.ids.SortId.{SortId};

@@ -1,3 +1,5 @@
+//! The first function that isn't covered.
+
 ghost use Rattle.std.specs.Prelude.{◌≡◌, ◌<◌, IfOk, MatchOption, Some, length};
 ghost use Rattle.spec_core.specs.Covering.{IsCovering};
 ghost use Rattle.spec_core.specs.Linear.{LeftSidesAreLinear};

@@ -1,3 +1,5 @@
+//! The first group that isn't whole.
+
 ghost use Rattle.std.specs.Prelude.{◌≡◌, ◌<◌, ◌^◌, ◌↔◌, IfOk, IsTrue, MatchOption, MatchBool, length};
 ghost use Rattle.std.specs.List.{Any};
 ghost use Rattle.spec_core.specs.declared.records.Rule.{Rule};

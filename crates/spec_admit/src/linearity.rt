@@ -1,3 +1,5 @@
+//! The first variable that is twice on a left side.
+
 ghost use Rattle.std.specs.Prelude.{IfOk, MatchOption};
 ghost use Rattle.spec_core.specs.WellSorted.{IsWellSorted};
 ghost use Rattle.spec_core.specs.Linear.{LeftSidesAreLinear};

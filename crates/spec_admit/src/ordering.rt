@@ -1,3 +1,5 @@
+//! The first rule that isn't ordered.
+
 ghost use Rattle.std.specs.Prelude.{◌≡◌, ◌≤◌, ◌+◌, IfOk, MatchOption, MatchBool};
 ghost use Rattle.spec_core.specs.Findings.{First};
 ghost use Rattle.spec_core.specs.RuleSizes.{RuleIsWithin, RulesAreWithin};

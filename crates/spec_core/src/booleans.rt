@@ -1,3 +1,5 @@
+//! The constants `true` and `false` as terms.
+
 ghost use Rattle.std.specs.Prelude.{◌≡◌};
 ghost use Rattle.spec_core.specs.Gives.{boolean as boolean_tree};
 

@@ -1,11 +1,19 @@
-//! Specifications, and the definitions on which every answer of the prover rests.
+//! Specifications, and the definitions of meaning on which every answer of the prover rests.
 //!
-//! It stands on term_core and on `indexmap`. The folder `specs/` has a file for each notion: what a
-//! signature declares, sorts and values, small values, well sorted specifications, evaluation with
-//! its cost, truth, overlap, whole groups, the verdict within a budget, the order of a search, the
-//! text of a term and the rules of each function. The layers above use these definitions, of
-//! [`Signature`] that a symbol's number is its place in the table and that each call is exact
-//! against the lists of declarations, and of [`RuleTable`] that it has each function's rules.
+//! Uses term_core and `indexmap`. `specs/` has a file for each notion. First come what a
+//! signature declares, sorts and values, small values, well sorted specifications, evaluation
+//! with its cost, and truth. Then come overlap, whole groups, the verdict within a budget, the
+//! order of a search, the text of a term, and the rules of each function. A symbol's number is
+//! its place in the table of a [`Signature`].
+//!
+//! Proved: `Signature::build` answers a repeated name, or the first sort without a small value,
+//! each exactly where it is there. `small`: the small value of a sort, of which there is one
+//! (`one_small_value`). `sort`, `symbol`, `sorts`, `symbols`, `info`, `name`, `is_constructor`,
+//! `constructors_of`, `sort_of` and `print`, against the lists of declarations; each signature is
+//! declared (`declared`). `append_decimal`: the decimal digits of a number. `goal_named`: the
+//! goal of a name, with its number. `boolean`: a Boolean as a term. `order_by_number`: the path
+//! ordering by number. `RuleTable`: the places of each function's rules. A term has at most one
+//! value and one cost (`one_value`). `worked_examples` of the definitions.
 #![tactic(auto)]
 
 mod booleans;

@@ -1,3 +1,5 @@
+//! The order of a specification by number.
+
 ghost use Rattle.std.specs.Prelude.{◌≡◌, IfOk};
 ghost use Rattle.std.specs.List.{range_with_len};
 ghost use Rattle.spec_core.specs.Orders.{order_by_number as ordered_by_number};

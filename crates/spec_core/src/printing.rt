@@ -1,3 +1,5 @@
+//! The text of a term.
+
 ghost use Rattle.std.specs.Prelude.{◌≡◌, ◌++◌, OnOk, OnErr, slice_get};
 ghost use Rattle.std.specs.Fmt.{decimal};
 ghost use Rattle.term_core.specs.Tree.{trees_of};

@@ -1,3 +1,5 @@
+//! Specifications and their parts, and verdicts.
+
 use crate::symbols::Signature;
 use term_core::{Name, Seq, SortId, Term};
 

@@ -1,3 +1,5 @@
+//! `RuleTable`: the rules of each function.
+
 ghost use Rattle.std.specs.Prelude.{◌≡◌, ◌<◌, ◌^◌, [], IfOk, OnOk, length, slice_index_or};
 ghost use Rattle.spec_core.specs.RuleTables.{IsTableOf, AddsPlace, HasSameLists};
 

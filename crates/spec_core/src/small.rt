@@ -1,3 +1,5 @@
+//! The small value of each sort, by rounds.
+
 ghost use Rattle.std.specs.Prelude.{◌≡◌, ◌≤◌, ◌<◌, ◌+◌, min, IfOk, MatchOption, MatchBool, length, slice_index, sum};
 ghost use Rattle.std.specs.List.{AllByRecursion};
 ghost use Rattle.term_core.specs.Tree.{trees_of};

@@ -1,3 +1,5 @@
+//! The sort of a term.
+
 ghost use Rattle.std.specs.Prelude.{◌↔◌, ◌≡◌, IsTrue, MatchOption};
 ghost use Rattle.term_core.specs.Tree.{trees_of};
 ghost use Rattle.term_core.specs.declared.ids.SortId.{SortId};

@@ -1,3 +1,5 @@
+//! The tables of sorts and symbols that a signature is made of.
+
 ghost use Rattle.std.specs.Prelude.{◌≡◌, ◌≤◌, ◌<◌, Some, length};
 ghost use Rattle.spec_core.specs.Sig.{info_of};
 

@@ -1,3 +1,5 @@
+//! The tokens that the grammar writes out.
+
 /// A token that the grammar writes out: a reserved word or a sign.
 #[derive(Clone, Copy, Debug, PartialEq, Eq)]
 pub enum Key {

@@ -1,13 +1,15 @@
 //! Raw specifications and their grammar.
 //!
-//! It stands on spec_text, whose tokens the grammar speaks of. A raw specification is a text's
-//! format and declarations in their order, with each name as it stands there and its place. The
-//! folder `specs/` has the grammar with its limits as relations on whole token lists, what a fault
-//! of a text is, and a stack of grammar symbols that a reader goes along. The definitions have the
-//! limits' numbers themselves; the constants and functions beside [`LimitKind`] are for code, which
-//! is proved against the definitions. The layers above use what a text derives, that it derives one
-//! raw specification at most, which keeps the limits, and that it has one fault at most, and none
-//! where it derives one.
+//! Uses the tokens of spec_text. A raw specification is a text's format and declarations in their
+//! order, with each name as written and its place. `specs/` has the grammar with its limits as
+//! relations on whole token lists, what a fault of a text is, and a stack of grammar symbols that
+//! a reader goes along. The definitions have the limits' numbers themselves. The constants and
+//! functions beside [`LimitKind`] are for code, which is proved against the definitions.
+//!
+//! Proved: A text derives at most one raw specification, and none if it has a fault. It has at
+//! most one fault, with one place and kind (`one_reading`). What a text derives keeps the limits
+//! (`within_limits`). Lists of raw terms, against the list of their items. `worked_examples`:
+//! small texts and faults.
 #![tactic(auto)]
 
 mod keys;

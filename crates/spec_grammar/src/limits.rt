@@ -1,3 +1,6 @@
+//! The limits, as constants and as functions of the format, and their kinds with the word of
+//! each.
+
 ghost use Rattle.std.specs.Prelude.{◌≡◌};
 ghost use Rattle.spec_grammar.specs.Limits.{file_limit as most_bytes, most_constructors, most_functions, most_rules};
 

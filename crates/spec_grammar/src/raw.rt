@@ -1,3 +1,5 @@
+//! Raw specifications and their parts.
+
 use crate::terms::RawTerm;
 use term_core::{Name, Seq};
 

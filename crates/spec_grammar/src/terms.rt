@@ -1,3 +1,5 @@
+//! Raw terms and lists of them.
+
 ghost use Rattle.std.specs.Prelude.{◌≡◌, ◌++◌, ◌∷◌, [], OnOk, OnErr, length};
 ghost use Rattle.spec_grammar.specs.RawTree.{word, raw_trees};
 

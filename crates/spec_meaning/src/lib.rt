@@ -1,10 +1,12 @@
-//! What changes nothing of what a raw specification stands for: the places of its names, and a later
-//! format.
+//! What changes no meaning of a raw specification: the places of its names, and a later format.
 //!
-//! It stands on sort_check, whose definition says what a raw specification stands for, and on
-//! spec_printing, whose definitions say what is the same apart from places and what declarations are
-//! in format 2. The layers above use its two laws: for the text that `load` generates and for those
-//! that `upgrade` writes.
+//! Uses sort_check, which says what a raw specification stands for, and spec_printing, which says
+//! what is the same apart from places and what declarations are in format 2. The laws serve the
+//! text that `load` generates and those that `upgrade` writes.
+//!
+//! Proved: Raw specifications that are the same apart from places stand for the same
+//! specification (`places_mean_nothing`), and so do the same declarations in format 2
+//! (`upgrades_stand_for_the_same`).
 #![tactic(auto)]
 
 mod laws;

@@ -1,3 +1,5 @@
+//! `AnyOrder`: the path ordering or the ordering by weights, and that of a specification.
+
 ghost use Rattle.std.specs.Prelude.{◌≡◌, IfOk};
 ghost use Rattle.spec_core.specs.Orders.{IsOrderOf};
 ghost use Rattle.spec_order.specs.Orders.{order_of};

@@ -1,3 +1,5 @@
+//! Premises and conclusions.
+
 ghost use Rattle.std.specs.Prelude.{◌≡◌, ◌+◌, ◌∷◌, [], None, IsTrue, OnOk, IfOk};
 ghost use Rattle.std.specs.Bool.{MatchBool};
 ghost use Rattle.spec_grammar.specs.Grammar.{sign, sides_text, conclusions_text, IsClause};

@@ -1,3 +1,5 @@
+//! Functions and rules.
+
 ghost use Rattle.std.specs.Prelude.{◌≡◌, ◌≤◌, ◌<◌, ◌+◌, ◌∷◌, [], None, OnOk};
 ghost use Rattle.spec_grammar.specs.Grammar.{sign, name_text, term_text, sides_text, con_text, names_text, guard_key, guards_text, funs_text, rules_text};
 ghost use Rattle.spec_grammar.specs.Items.{Sign, items_of};

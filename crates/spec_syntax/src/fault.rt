@@ -1,3 +1,5 @@
+//! `SyntaxFault`: the first fault of a text.
+
 ghost use Rattle.std.specs.Prelude.{◌≡◌};
 ghost use Rattle.spec_syntax.specs.Scanned.{fault_of_scan};
 

@@ -1,3 +1,5 @@
+//! Goals and their bindings.
+
 ghost use Rattle.std.specs.Prelude.{◌≡◌, ◌+◌, ◌∷◌, [], None};
 ghost use Rattle.spec_grammar.specs.Grammar.{sign, bind_text, binds_text, AreGoals};
 ghost use Rattle.spec_grammar.specs.Items.{items_of};

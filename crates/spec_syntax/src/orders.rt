@@ -1,3 +1,5 @@
+//! Equal and status lines, and the order line.
+
 ghost use Rattle.std.specs.Prelude.{◌+◌, ◌∷◌, []};
 ghost use Rattle.spec_grammar.specs.Grammar.{sign, name_text, numeral_text, weight_text, weights_text, order_text, AreEquals, AreStatuses};
 ghost use Rattle.spec_grammar.specs.Items.{items_of};

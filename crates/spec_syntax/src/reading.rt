@@ -1,3 +1,5 @@
+//! `read` and `read_term`: a whole text, and a term by itself.
+
 ghost use Rattle.std.specs.Prelude.{◌≡◌, ◌≤◌, [], List, IfOk, IfErr, MatchResult, length};
 ghost use Rattle.spec_grammar.specs.Derives.{TextDerives};
 ghost use Rattle.spec_grammar.specs.Grammar.{IsSpecText, IsTermText};

@@ -1,3 +1,5 @@
+//! The constructors of a sort.
+
 ghost use Rattle.std.specs.Prelude.{◌≡◌, ◌≤◌, ◌<◌, ◌+◌, ◌∷◌, [], IfOk, length};
 ghost use Rattle.spec_grammar.specs.Grammar.{AreSorts};
 ghost use Rattle.spec_grammar.specs.Items.{items_of};

@@ -1,3 +1,5 @@
+//! Where reading stops.
+
 ghost use Rattle.std.specs.Prelude.{◌≡◌};
 ghost use Rattle.spec_syntax.specs.declared.stop.Stop.TheVariants.{OutOfMemory as out_of_memory};
 

@@ -1,3 +1,5 @@
+//! Terms, with their nesting bounded.
+
 ghost use Rattle.std.specs.Prelude.{◌≡◌, ◌≤◌, ◌<◌, ◌+◌, ◌∷◌, [], None};
 ghost use Rattle.spec_grammar.specs.RawTree.{raw_trees};
 ghost use Rattle.spec_grammar.specs.Grammar.{sign, term_text, args_text, sides_text};

@@ -1,3 +1,5 @@
+//! The tokens that are left, and the name, key or number that is next.
+
 ghost use Rattle.std.specs.Prelude.{ℕ, List, ◌≡◌, ◌∷◌, [], None, OnOk, MatchOption, MatchResult, length};
 ghost use Rattle.std.specs.Bool.{MatchBool};
 ghost use Rattle.spec_grammar.specs.Grammar.{sign as sign_text, name_text};

@@ -1,3 +1,5 @@
+//! The first character of a text, with what follows it.
+
 ghost use Rattle.std.specs.Prelude.{◌≡◌, ◌<◌, [], ◌∷◌, ◌++◌, encode_utf8, length, MatchOption};
 ghost use Rattle.std.specs.Str.{chars, IsUtf8};
 

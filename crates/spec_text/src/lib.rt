@@ -1,11 +1,13 @@
-//! Names and tokens of a specification's text.
+//! Names and tokens of a specification's text, and the text's faults.
 //!
-//! It stands on `unicode_ident` alone. The folder `specs/` says what a name is, what may stand
-//! between two tokens, how each token is spelled, and what the tokens or the first fault of some
-//! bytes are: as relations, apart from the code. The layers above use that [`scan`] is exact
-//! against these, that the tokens of a text lie in it and are spelled there ([`spans`]), that what
-//! is written piece by piece is scanned to its pieces ([`written_scans`]), and that [`name_at`]
-//! finds the longest name.
+//! Uses `unicode_ident` alone. `specs/` says what a name is, what may be between two tokens, how
+//! each token is spelled, and which tokens or which first fault some bytes have. These are
+//! relations, apart from the code.
+//!
+//! Proved: `scan` finds the tokens of the bytes if they are text made of tokens and gaps, and
+//! else the place of the first fault. `name_at` finds the longest name. A text has one list of
+//! tokens (`one_list`). They lie in the text, and each is spelled by its slice (`spans`). What is
+//! written piece by piece is scanned to its pieces (`written_scans`). `worked_examples`.
 #![tactic(auto)]
 
 mod characters;

@@ -1,3 +1,5 @@
+//! The longest name that begins a text.
+
 ghost use Rattle.std.specs.Prelude.{◌≡◌, ◌+◌, ◌<◌, ◌≤◌, drop, length};
 ghost use Rattle.std.specs.Str.{chars, IsCharBoundary};
 ghost use Rattle.spec_text.specs.Names.{LongestName, NoName};

@@ -1,3 +1,5 @@
+//! The scanner: `scan` finds the tokens of bytes.
+
 ghost use Rattle.std.specs.Prelude.{◌≡◌, ℕ, List, false, None, Some, IfErr, IfOk, MatchOption, MatchResult};
 ghost use Rattle.std.specs.Str.{chars, IsUtf8};
 ghost use Rattle.spec_text.specs.Gaps.{is_blank};

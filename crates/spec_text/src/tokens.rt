@@ -1,3 +1,5 @@
+//! Tokens, and faults of the scanner.
+
 ghost use Rattle.std.specs.Prelude.{◌≡◌};
 ghost use Rattle.spec_text.specs.declared.tokens.ScanError.TheVariants.{OutOfMemory};
 

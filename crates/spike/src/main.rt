@@ -1,6 +1,15 @@
-//! The program `spike`: it hands the words after its name, the system's files and standard output to
-//! [`spike_cli::run`], whose contract is what the program promises, and ends with the code of its
-//! status.
+//! The program: `main` calls `run` with the words, the system's files and standard output.
+//!
+//! Uses io_core and [`spike_cli::run`], whose contract is what the program promises. It ends with
+//! the code of the status that `run` answers.
+//!
+//! Proved: `main` is safe and ends.
+//!
+//! Tested: The stored run: the proof of `plus_zero`. Requests for memory (one in k of many),
+//! reads and writes that fail, and the largest texts with 1 GiB of memory (`tests/faults`).
+//!
+//! Neither: `main` before it calls `run`: it ends with 8 if no memory is found for the words, and
+//! with 9 if a word isn't UTF-8. That it ends with the code of what `run` answers.
 #![tactic(auto)]
 
 use io_core::{StdFiles, StdSink};

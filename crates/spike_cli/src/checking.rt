@@ -1,3 +1,5 @@
+//! What `check` and `upgrade` write.
+
 ghost use Rattle.std.specs.Prelude.{◌≡◌, ◌≤◌, ◌++◌, IfOk, OnOk};
 ghost use Rattle.std.specs.Fmt.{decimal};
 ghost use Rattle.spec_grammar.specs.KeepsLimits.{KeepsLimits};

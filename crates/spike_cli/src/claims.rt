@@ -1,3 +1,5 @@
+//! What a report says of a goal: its search, then its plain or routine proof.
+
 ghost use Rattle.std.specs.Prelude.{◌≡◌, ◌≤◌, Some, IfOk, slice_get};
 ghost use Rattle.spec_order.specs.Orders.{order_of};
 ghost use Rattle.spike_cli.specs.Claims.{IsClaimOn, IsUnrefuted, budget_of};

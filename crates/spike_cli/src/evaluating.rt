@@ -1,3 +1,5 @@
+//! `eval`: the term, and the lines of its value and cost.
+
 ghost use Rattle.std.specs.Prelude.{◌≡◌, ◌≤◌, [], IfOk, codes};
 ghost use Rattle.spec_core.specs.TermText.{SymbolsAreInRange};
 ghost use Rattle.spec_core.specs.WellSorted.{IsWellSorted};

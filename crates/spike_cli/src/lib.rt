@@ -1,22 +1,29 @@
-//! What the program `spike` does: it reads a file of sorts, functions, rules and goals, admits it, and
-//! writes a report on the goals or the value of a term, or checks a report.
+//! The commands of the program `spike`: what each call reads, writes and ends with, by `run`.
 //!
-//! `prove FILE` looks for counterexamples of the goals, as far as `--depth`, `--tries` and `--steps`
-//! say, then for plain proofs of at most the length `--plain`, and then for routine proofs of at
-//! most `--nodes` nodes, with the goals proved before as lemmas; `refute FILE` looks for
-//! counterexamples alone. `replay FILE REPORT` says whether a report is accepted, or the line at
-//! which it first isn't; `trim FILE REPORT` answers the same, or writes an accepted report made
-//! shorter. `session FILE COMMANDS` carries out the commands of a proof by hand, and writes the
-//! answer to each and the report of the goals that are proved. `check FILE` says that the file is
-//! accepted, or with `--print` writes its printed form, and `upgrade FILE` writes that form in
-//! format 2. `eval FILE TERM` evaluates a term without variables within `--steps` rule uses.
-//! A file that isn't accepted, or a term that isn't one, gets a line of refusal, which says what its
-//! first fault is. `load N` generates this many goals, proves them and replays the report, and writes
-//! how many are proved, refuted and left open.
+//! `prove FILE` looks for counterexamples of the goals, as far as `--depth`, `--tries` and
+//! `--steps` say. Then it looks for plain proofs of at most the length `--plain`, and then for
+//! routine proofs of at most `--nodes` nodes, with the goals proved before as lemmas. `refute
+//! FILE` looks for counterexamples alone. `replay FILE REPORT` says whether a report is accepted,
+//! or the line at which it first isn't. `trim FILE REPORT` writes an accepted report made
+//! shorter, and refuses what `replay` refuses by the same lines. `session FILE COMMANDS` carries
+//! out the commands of a proof by hand, and writes the answer to each and the report of the goals
+//! that are proved. `check FILE` says that the file is accepted, or with `--print` writes its
+//! printed form, and `upgrade FILE` writes that form in format 2. `eval FILE TERM` evaluates a
+//! term without variables within `--steps` rule uses. A file that isn't accepted, or a term that
+//! isn't one, gets a line of refusal, which says what its first fault is. `load N` generates this
+//! many goals, proves them and replays the report, and writes how many are proved, refuted and
+//! left open.
 //!
-//! It stands on all the other crates. [`run`] is the whole program over a store of files and a
-//! sink, and its contract is what the program promises. The program itself, in the crate `spike`,
-//! hands it the system's files and standard output.
+//! Uses all the crates below. [`run`] is the whole program over a store of files and a sink, and
+//! its contract is what the program promises.
+//!
+//! Proved: `run`: what the program promises of every call. What a file, a report, commands or a
+//! number of goals lead to is one thing: `one_ending`, `one_replay`, `one_trim`, `one_session`,
+//! `one_load`, `one_right_report`. `search_alone_proves_nothing`,
+//! `finished_reports_are_accepted`, `finished_runs_are_replayed`, `upgrades_keep_meaning`,
+//! `upgraded_runs_answer_the_same`. `Status::code`.
+//!
+//! Tested: Reports and refusals byte by byte, faults in mid-stream, words.
 #![tactic(auto)]
 
 mod checking;

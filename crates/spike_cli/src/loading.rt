@@ -1,3 +1,5 @@
+//! `load`: a generated text, its report in memory, and the report replayed.
+
 ghost use Rattle.std.specs.Prelude.{◌≡◌, ◌≤◌, ℕ, List, IfOk};
 ghost use Rattle.command_line.specs.Usual.{usual_bounds};
 ghost use Rattle.load_text.specs.LoadSpec.{load_spec};

@@ -1,3 +1,5 @@
+//! `replay` and `trim`: the second file, and what is written of it.
+
 ghost use Rattle.std.specs.Prelude.{◌≡◌, ◌≤◌, ℕ, List, [], ◌∷◌, IfOk, codes};
 ghost use Rattle.spec_order.specs.Orders.{above_of, order_of};
 ghost use Rattle.acceptance.specs.Accepting.{IsAccepted};

@@ -1,3 +1,5 @@
+//! `prove` and `refute`: a report, claim by claim.
+
 ghost use Rattle.std.specs.Prelude.{◌≡◌, ◌≤◌, ◌++◌, Some, OnOk, slice_get};
 ghost use Rattle.spec_order.specs.Orders.{order_of};
 ghost use Rattle.spike_cli.specs.Claims.{number_proved};

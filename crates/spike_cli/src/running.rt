@@ -1,3 +1,5 @@
+//! `run`: the task of the words, its file, and its end.
+
 ghost use Rattle.std.specs.Prelude.{◌≡◌, ◌≢◌, ◌≤◌, ◌⊎◌, ℕ, List, length, map, string_bytes, IfOk, IfErr, IfSome, IsErrOf, OnOk};
 ghost use Rattle.io_core.specs.Asked.{AddsName};
 ghost use Rattle.io_core.specs.Count.{Rose};

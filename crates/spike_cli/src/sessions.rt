@@ -1,3 +1,5 @@
+//! `session`: the second file, and what is written for its commands.
+
 ghost use Rattle.std.specs.Prelude.{◌≡◌, ◌≤◌, ℕ, List, [], ◌∷◌, IfOk};
 ghost use Rattle.spec_order.specs.Orders.{order_of};
 ghost use Rattle.session_core.specs.declared.errors.CommandError.TheVariants.{Line};

@@ -1,3 +1,5 @@
+//! Statuses and their codes.
+
 ghost use Rattle.std.specs.Prelude.{◌≡◌};
 ghost use Rattle.spike_cli.specs.Codes.{code_of};
 

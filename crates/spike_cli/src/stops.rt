@@ -1,3 +1,5 @@
+//! Why a report stopped.
+
 ghost use Rattle.std.specs.Prelude.{◌≡◌};
 ghost use Rattle.spike_cli.specs.Stops.{stop_of, status_of_stop};
 ghost use Rattle.spike_cli.specs.declared.stops.Stop.TheVariants.{OutOfMemory as out_of_memory};

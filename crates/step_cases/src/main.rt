@@ -1,11 +1,14 @@
-//! Goes through cases of proof steps and of normal forms, which were worked by hand, and prints
-//! those that come out otherwise.
+//! Cases of proof steps and of normal forms.
 //!
-//! It uses spec_syntax, sort_check, path_order, clause_core, rewriting and inference_rules, and
-//! promises nothing beyond being safe. Its `stdin` has a specification, up to the line `end`, and
-//! then the cases, a line each: what is asked, `->` and the answer (`cases.rt`). Terms are written
-//! as in specifications, without blanks, with `x0`, `x1` and so on for the variables of a clause by
-//! their numbers.
+//! Uses spec_syntax, sort_check, path_order, clause_core, rewriting and inference_rules. The
+//! cases were worked by hand. It prints those that come out otherwise. Its `stdin` has a
+//! specification, up to the line `end`, and then the cases, a line each: what is asked, `->` and
+//! the answer (`cases.rt`). Terms are written as in specifications, without blanks, with `x0`,
+//! `x1` and so on for the variables of a clause by their numbers.
+//!
+//! Proved: It is safe and ends.
+//!
+//! Tested: Steps and normal forms, by hand.
 #![tactic(auto)]
 
 mod answers;

@@ -1,3 +1,5 @@
+//! The specification of a text.
+
 ghost use Rattle.std.specs.Prelude.{IfOk};
 ghost use Rattle.spec_core.specs.WellSorted.{IsWellSorted};
 

@@ -1,3 +1,5 @@
+//! `Subst`: terms for the variables from number 0 on.
+
 ghost use Rattle.std.specs.Prelude.{◌≡◌, ◌↔◌, ◌<◌, ◌^◌, [], Some, IfOk, OnOk, OnErr, IsTrue, map, option_map};
 ghost use Rattle.std.specs.Option.{option_copied, option_or};
 ghost use Rattle.term_core.specs.Tree.{Tree};

@@ -1,3 +1,5 @@
+//! What is asked of terms in a case.
+
 use crate::levels::order_by_levels;
 use crate::signs::{is, number, term};
 use crate::{clause_cases, families};

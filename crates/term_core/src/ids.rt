@@ -1,3 +1,5 @@
+//! Numbers of sorts, symbols and variables, each a type of its own.
+
 /// A sort, by its place among the sorts of a signature. `Bool` is 0.
 #[derive(Clone, Copy, Debug, PartialEq, Eq)]
 pub struct SortId(pub u32);

@@ -1,12 +1,19 @@
-//! Terms as trees: what every other crate of the prover speaks of.
+//! Terms as trees, with the lists, names and numbers that every other crate uses.
 //!
-//! It stands on std alone. A [`Term`] is seen by contracts as a tree (`specs/Tree.antt`), a
-//! [`Seq`] as the list of its items and a [`Name`] as the list of its bytes. The layers above use
-//! that each call on terms is exact against that tree, and [`OutOfMemory`] as the one answer that
+//! Uses std alone. Contracts see a [`Term`] as a tree (`specs/Tree.antt`), a [`Seq`] as the list
+//! of its items and a [`Name`] as the list of its bytes. [`OutOfMemory`] is the one answer that
 //! no contract ties to a cause.
 //!
-//! Copies of a term share its arguments, so that they take no memory. What limits and the numbering
-//! of variables ask of a term is kept with its arguments (`measures`).
+//! Copies of a term share its arguments, so they take no memory. What limits and the numbering of
+//! variables ask of a term is kept with its arguments (`measures.rt`).
+//!
+//! Proved: The calls on terms, against the tree: `size` and `depth` up to a cap, `bound`, `same`
+//! and `copy`; `at` and `replace` (the subterm at a path, and the term with it exchanged, in both
+//! directions); `vars` (the first occurrences) and `occurs`; `numbered_after` (how many variables
+//! are numbered after a term, or that its variables aren't numbered by first occurrence). Lists,
+//! names and references to terms, against the list of their items. `place_of`: the first place of
+//! a name. A path has at most one subterm (`one_place`), and the term that was put at a path is
+//! found there (`replaced_is_there`). `worked_examples`.
 #![tactic(auto)]
 
 mod ids;

@@ -1,3 +1,6 @@
+//! `Seq`, a vector that contracts see as a list, and `front`, a slice's first item and the
+//! others.
+
 ghost use Rattle.std.specs.Prelude.{◌≡◌, ◌↔◌, [], ◌∷◌, ◌++◌, IsTrue, OnOk, OnErr, MatchOption, length};
 
 use crate::memory::OutOfMemory;

@@ -1,3 +1,5 @@
+//! What is kept of terms: size, depth, bound, and what their numbering needs.
+
 ghost use Rattle.std.specs.Prelude.{◌≡◌, ℕ};
 ghost use Rattle.term_core.specs.Tree.{Trees, var as variable, app as application, none};
 ghost use Rattle.term_core.specs.Measures.{measure_of, measures_of, followed};

@@ -1,3 +1,5 @@
+//! `OutOfMemory`, the answer if memory isn't found.
+
 ghost use Rattle.std.specs.Prelude.{◌≡◌};
 
 use std::alloc::{AllocError, AllocFailed};

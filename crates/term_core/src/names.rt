@@ -1,3 +1,5 @@
+//! `Name`, and `place_of`, the first place of a name among names.
+
 ghost use Rattle.std.specs.Prelude.{◌≡◌, IfOk, position};
 ghost use Rattle.std.specs.Str.{bytes_eq};
 

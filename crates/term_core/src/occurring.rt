@@ -1,3 +1,5 @@
+//! Whether a variable is in a term.
+
 ghost use Rattle.std.specs.Prelude.{◌↔◌, IsTrue};
 ghost use Rattle.term_core.specs.Tree.{trees_of};
 ghost use Rattle.term_core.specs.Variables.{Occurs, OccursAny};

@@ -1,3 +1,5 @@
+//! The subterm at a path, and its exchange.
+
 ghost use Rattle.std.specs.Prelude.{◌≡◌, ◌<◌, ◌+◌, IfOk, MatchOption, Some, length, slice_get, slice_set};
 ghost use Rattle.term_core.specs.Tree.{Tree, trees_of};
 ghost use Rattle.term_core.specs.Places.{IsArgument, IsAt, HasNoPlace, IsReplaced};

@@ -1,3 +1,5 @@
+//! `TermRefs`, a list of terms that are kept elsewhere.
+
 ghost use Rattle.std.specs.Prelude.{◌≡◌, ◌<◌, ◌≤◌, ◌++◌, ◌∷◌, [], Some, IfOk, OnOk, MatchOption, length, slice_get};
 ghost use Rattle.term_core.specs.References.{terms_of};
 

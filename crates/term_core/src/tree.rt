@@ -1,3 +1,5 @@
+//! `Term` and `Terms`: making, sharing and comparing them.
+
 ghost use Rattle.std.specs.Prelude.{◌≡◌, ◌≤◌, ◌↔◌, ℕ, [], ◌∷◌, ◌++◌, Some, IfOk, OnOk, OnErr, IsTrue};
 ghost use Rattle.std.specs.Prelude.{MatchOption, length, min, slice_get};
 ghost use Rattle.term_core.specs.Tree.{var as variable, app as application, trees_of};

@@ -1,3 +1,5 @@
+//! The variables of a term by first occurrence.
+
 ghost use Rattle.std.specs.Prelude.{◌≡◌, [], IfOk, OnOk};
 ghost use Rattle.term_core.specs.Tree.{trees_of};
 ghost use Rattle.term_core.specs.Variables.{occurrences, occurrences_all, firsts, numbers_of};

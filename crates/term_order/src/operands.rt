@@ -1,3 +1,5 @@
+//! What is compared: a term as it is, or a pattern that means its instance.
+
 ghost use Rattle.std.specs.Prelude.{◌≡◌, ℕ};
 ghost use Rattle.term_core.specs.References.{terms_of};
 ghost use Rattle.term_core.specs.Tree.{var as variable};

@@ -1,3 +1,5 @@
+//! `TermOrder`: an order with its tests, its laws and its ranks.
+
 ghost use Rattle.std.specs.Prelude.{◌≤◌, ℕ, IsTrue};
 ghost use Rattle.term_core.specs.References.{terms_of};
 ghost use Rattle.term_core.specs.Tree.{Tree, instance, tree_size};

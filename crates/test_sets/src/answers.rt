@@ -1,3 +1,5 @@
+//! Why no patterns are put for a variable.
+
 ghost use Rattle.std.specs.Prelude.{◌≡◌};
 ghost use Rattle.test_sets.specs.declared.answers.CoverError.TheVariants.{OutOfMemory as no_memory};
 

@@ -1,3 +1,5 @@
+//! The clauses with each pattern for the variable.
+
 ghost use Rattle.std.specs.Prelude.{◌≡◌, ◌<◌, IfOk, MatchOption, length, map};
 ghost use Rattle.std.specs.List.{AllByRecursion};
 ghost use Rattle.clause_core.specs.Limits.{IsWithin};

@@ -1,3 +1,5 @@
+//! `cover`: a clause for each pattern, or why there is none.
+
 ghost use Rattle.std.specs.Prelude.{MatchResult};
 ghost use Rattle.clause_core.specs.Clauses.{ClauseIsSorted};
 ghost use Rattle.clause_core.specs.Splitting.{ArePatternsFor};

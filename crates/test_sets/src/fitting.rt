@@ -1,3 +1,5 @@
+//! Whether patterns may be put for a variable.
+
 ghost use Rattle.std.specs.Prelude.{◌≡◌, ◌↔◌, ◌+◌, IfOk, IsTrue, MatchOption, length};
 ghost use Rattle.term_core.specs.Tree.{trees_of};
 ghost use Rattle.term_core.specs.Variables.{occurrences, occurrences_all};

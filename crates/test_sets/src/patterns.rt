@@ -1,3 +1,5 @@
+//! The sorts of a pattern's variables, and patterns that cover.
+
 ghost use Rattle.std.specs.Prelude.{◌≡◌, ◌≤◌, ◌-◌, ◌++◌, IfOk, List, MatchOption, OnOk, Some, map};
 ghost use Rattle.std.specs.List.{AllZip};
 ghost use Rattle.term_core.specs.Tree.{Tree, trees_of};

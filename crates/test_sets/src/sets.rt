@@ -1,3 +1,5 @@
+//! `test_set`: the constructors of a sort, applied to variables.
+
 ghost use Rattle.std.specs.Prelude.{◌≡◌, ◌<◌, ◌^◌, IfOk, map};
 ghost use Rattle.term_core.specs.Tree.{app as application, trees_of};
 ghost use Rattle.spec_core.specs.WellSorted.{HasFewArguments};

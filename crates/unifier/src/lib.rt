@@ -1,10 +1,17 @@
-//! Unification, and terms with their variables apart.
+//! Most general unifiers, and terms with their variables apart.
 //!
-//! It stands on substitutions, and so on terms and their sorts. The definitions are those of the
-//! field: a unifier, and one of which every other is an instance (`specs/Unification.antt`), and a
-//! term with the same number added to each variable (`specs/Shifting.antt`). The layers above use
-//! that [`unify`] answers None exactly where there is no unifier, that a unifier is most general
-//! and keeps sorts, and that [`shift`] leaves two terms without a variable in common.
+//! Uses substitutions. The definitions are those of the field: a unifier, one of which every
+//! other is an instance (`specs/Unification.antt`), and a term with the same number added to each
+//! variable (`specs/Shifting.antt`).
+//!
+//! Proved: `unify`: a most general unifier, with variables of the two terms alone and of their
+//! sorts, and None exactly where there is no unifier. `shift`: the shifted term, or that a number
+//! is too large, in both directions. A shifted term has no variable in common with one whose
+//! variables have numbers below the shift (`shifted_are_apart`). `worked_examples`.
+//!
+//! Tested: Tables of problems of the literature. A None of the exponential family comes at once.
+//!
+//! Neither: That unification is quadratic up to its answer.
 #![tactic(auto)]
 
 mod laws;

@@ -1,3 +1,5 @@
+//! `shift`: a term with the same number added to each variable.
+
 ghost use Rattle.std.specs.Prelude.{◌≡◌, ◌≤◌, ◌+◌, ◌^◌, ℕ, map, Err, IfOk, OnOk};
 ghost use Rattle.term_core.specs.Tree.{trees_of};
 ghost use Rattle.unifier.specs.Shifting.{shifted, HasTooLarge, HaveTooLarge};

@@ -1,3 +1,5 @@
+//! `unify`, by classes of one graph.
+
 ghost use Rattle.std.specs.Prelude.{IfOk, IfSome};
 ghost use Rattle.std.specs.Option.{IfNone};
 ghost use Rattle.unifier.specs.Unification.{IsMostGeneral, IsRelevant, KeepsSorts, HaveNoUnifier};

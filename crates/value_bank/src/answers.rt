@@ -1,3 +1,5 @@
+//! Why a term isn't given.
+
 use std::fmt;
 
 /// Why the term at a place isn't given.

@@ -1,3 +1,5 @@
+//! `Bank`: cells of values.
+
 ghost use Rattle.std.specs.Prelude.{◌≡◌, ◌≤◌, ◌<◌, ◌↔◌, suc, [], Some, IsTrue, IfOk, length};
 ghost use Rattle.std.specs.Prelude.{slice_get};
 ghost use Rattle.term_core.specs.Tree.{Tree};

@@ -1,9 +1,17 @@
-//! A bank of shared values: each ground term of it stands once, at a place.
+//! A bank of shared values: it has each ground term once, at a place.
 //!
-//! It stands on term_core and bank_core. A [`Bank`] is seen by contracts as the list of its cells
-//! (`specs/Cells.antt`), each a symbol and places of earlier cells. The layers above use that calls
-//! only add cells, so that a place keeps its term (`specs/Laws.antt`), and that different places
-//! have different terms, so that two values are the same exactly where their places are.
+//! Uses term_core and bank_core. Contracts see a [`Bank`] as the list of its cells
+//! (`specs/Cells.antt`), each a symbol and places of earlier cells. Two values are the same
+//! exactly where their places are.
+//!
+//! Proved: `Bank::value`: the place of a ground term. `Bank::term`: the term at a place, or that
+//! it has more than 10,000 symbols. Calls only add cells, at most one for each symbol, also if
+//! memory runs out, so a place keeps its term. Different places have different terms
+//! (`one_place`, `one_term`, `has_term`, `keeps_terms`).
+//!
+//! Tested: Values at and past 10,000 symbols, and as deep as that, through the program.
+//!
+//! Neither: Memory.
 #![tactic(auto)]
 
 mod answers;

@@ -1,3 +1,5 @@
+//! The term at a place.
+
 ghost use Rattle.std.specs.Prelude.{◌<◌, ◌∷◌, [], IfOk, length};
 ghost use Rattle.term_core.specs.Tree.{Tree};
 ghost use Rattle.value_bank.specs.Answers.{IsAnswer, IsOrderOr};

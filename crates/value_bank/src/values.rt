@@ -1,3 +1,5 @@
+//! The place of a term.
+
 ghost use Rattle.std.specs.Prelude.{◌≡◌, ◌≤◌, ◌+◌, ◌++◌, IfOk, length};
 ghost use Rattle.term_core.specs.Tree.{trees_of, tree_size, sizes};
 ghost use Rattle.value_bank.specs.Cells.{IsTerm, AreTerms, AddsCells};

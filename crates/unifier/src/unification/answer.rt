@@ -1,3 +1,5 @@
+//! The unifier of classes that have trees.
+
 ghost use Rattle.std.specs.Prelude.{◌≡◌, ◌<◌, IfOk, length};
 ghost use Rattle.term_core.specs.Tree.{trees_of};
 ghost use Rattle.unifier.specs.Graph.{IsGraph, HasOneNodeEach, AllBelow};

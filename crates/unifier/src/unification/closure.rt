@@ -1,3 +1,5 @@
+//! The classes of the graph's nodes.
+
 ghost use Rattle.std.specs.Prelude.{◌≡◌, ◌<◌, ◌++◌, ◌∷◌, ℕ, [], IfOk, IfSome, OnOk, MatchBool, length};
 ghost use Rattle.std.specs.List.{zip};
 ghost use Rattle.std.specs.Option.{IfNone};

@@ -1,3 +1,5 @@
+//! One graph of both terms.
+
 ghost use Rattle.std.specs.Prelude.{◌≡◌, ◌++◌, ◌∷◌, ℕ, [], IfOk, OnOk, MatchOption, length};
 ghost use Rattle.term_core.specs.Tree.{trees_of};
 ghost use Rattle.unifier.specs.Graph.{HasNoNode, IsNodeOf};

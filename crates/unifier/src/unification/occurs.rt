@@ -1,3 +1,5 @@
+//! Whether a class is below itself.
+
 ghost use Rattle.std.specs.Prelude.{◌≡◌, ◌<◌, ◌≤◌, ℕ, true, false, IfOk, MatchBool, length};
 ghost use Rattle.unifier.specs.Graph.{IsGraph};
 ghost use Rattle.unifier.specs.Roots.{root, AreRoots};
