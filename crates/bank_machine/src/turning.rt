@@ -1,4 +1,4 @@
-//! One move.
+//! One move of the machine.
 
 ghost use Rattle.std.specs.Prelude.{ℕ, suc, List, ◌≡◌, ◌<◌, ◌≤◌, ◌+◌, ◌^◌, Some, IfOk, length, slice_get};
 ghost use Rattle.spec_core.specs.WellSorted.{IsWellSorted};

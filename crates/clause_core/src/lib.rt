@@ -27,7 +27,7 @@
 //! and has the failing instances of the clause (`tidying_laws`). Two clauses compare in one way
 //! (`one_relation`). `instance_within` says the same limits of an instance that isn't built. An
 //! equation by its number and a term at a place are found exactly where they are there, and other
-//! equations or another term put in (`clause_examples`). The table: a step at a node has at most
+//! equations or another term put in. `clause_examples`. The table: a step at a node has at most
 //! one answer, what it makes or the first condition of its row that isn't met (`one_answer`, for
 //! every order, over a well sorted specification). A place of a clause is a path in a side
 //! (`places_agree`). What the table says at small clauses (`table_examples`, `step_examples`).

@@ -1,5 +1,5 @@
-//! A specification with further constants: constructors without arguments, one for each of some
-//! sorts.
+//! A specification with further constants: constructors without arguments, for variables of a
+//! goal.
 //!
 //! Uses term_core and spec_core. Evaluation of a goal in which some variables have no value is
 //! evaluation over such a specification, with a constant for each of these variables.

@@ -1,4 +1,4 @@
-//! The values of terms of admitted specifications, and one step of descent of a proof.
+//! That terms of admitted specifications have one value, and that each proof step descends.
 //!
 //! Uses term_core, spec_core, substitutions, term_order and clause_core; its worked examples take
 //! the order of sample_specs. It has laws alone, proved by the laws of `TermOrder`

@@ -1,4 +1,4 @@
-//! `trivial`, `match` and `absurd`; whether two terms clash.
+//! The steps `trivial`, `match` and `absurd`; whether two terms clash.
 
 ghost use Rattle.std.specs.Prelude.{◌↔◌, IsTrue};
 ghost use Rattle.term_core.specs.Tree.{trees_of};

@@ -1,4 +1,4 @@
-//! `cover`, by test_sets.
+//! The step `cover`, by test_sets.
 
 ghost use Rattle.clause_core.specs.Clauses.{ClauseIsSorted};
 ghost use Rattle.clause_core.specs.Splitting.{cover_row};

@@ -1,4 +1,4 @@
-//! `generalize`.
+//! The step `generalize`.
 
 ghost use Rattle.std.specs.Prelude.{◌≡◌, ◌↔◌, IfOk, IsTrue, MatchOption, length, map};
 ghost use Rattle.term_core.specs.Tree.{trees_of};

@@ -1,4 +1,4 @@
-//! `context`, `hyp` and `lemma`.
+//! The steps `context`, `hyp` and `lemma`.
 
 ghost use Rattle.std.specs.Prelude.{◌≡◌, [], IfOk, MatchOption, Contains};
 ghost use Rattle.std.specs.List.{AllZip};

@@ -1,4 +1,4 @@
-//! `rule` and `case`, by cond_rewrite.
+//! The steps `rule` and `case`, by cond_rewrite.
 
 ghost use Rattle.std.specs.Prelude.{◌≡◌, [], ◌∷◌, IfOk};
 ghost use Rattle.spec_core.specs.WellSorted.{IsWellSorted};

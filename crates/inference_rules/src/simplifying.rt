@@ -1,4 +1,4 @@
-//! `decompose`, `clash` and `drop`.
+//! The steps `decompose`, `clash` and `drop`.
 
 ghost use Rattle.std.specs.Prelude.{◌≡◌, ◌∷◌, [], true, IfOk, MatchOption, map};
 ghost use Rattle.term_core.specs.Tree.{trees_of};

@@ -1,4 +1,4 @@
-//! `solve`.
+//! The step `solve`.
 
 ghost use Rattle.std.specs.Prelude.{◌↔◌, ℕ, IsTrue, MatchOption};
 ghost use Rattle.term_core.specs.Tree.{Tree, trees_of};

@@ -1,4 +1,4 @@
-//! `subsume` and `by-lemma`.
+//! The steps `subsume` and `by-lemma`.
 
 ghost use Rattle.std.specs.Prelude.{◌↔◌, ℕ, List, [], IsTrue, IfOk, MatchResult, Contains};
 ghost use Rattle.std.specs.List.{AllByRecursion};

@@ -1,4 +1,4 @@
-//! `matches` and `fits`.
+//! `matches` and `fits`: the substitution of a match, and whether there is one.
 
 ghost use Rattle.std.specs.Prelude.{IfOk, IfSome};
 ghost use Rattle.std.specs.Option.{IfNone};

@@ -9,9 +9,9 @@
 //! (`instances_give`), and of terms without variables it is evaluation
 //! (`closed_terms_give_the_same`). A verdict of the walk is the verdict of each list of values
 //! that goes on with the fixed ones (`open_verdicts_hold`), and it stays if some more variables
-//! get values (`open_instances_give`, `open_verdicts_stay`). It is evaluation with a constant for
-//! each variable, both ways (`open_gives_with_constants`, `constants_give_openly`).
-//! `worked_examples`.
+//! get values (`open_instances_give`, `open_verdicts_stay`). Evaluation with variables is
+//! evaluation with a constant for each variable, both ways (`open_gives_with_constants`,
+//! `constants_give_openly`). `worked_examples`.
 #![tactic(auto)]
 
 mod laws;

@@ -1,5 +1,5 @@
-//! Plain proofs: which goals follow by the cases of one variable, normal forms and the goal
-//! itself.
+//! Plain proofs: which goals follow by cases of one variable, normal forms and their own
+//! instances.
 //!
 //! Uses rewriting, whose leftmost-innermost uses bring the sides to their normal forms,
 //! clause_core, whose limits each clause on the way keeps, matching and test_sets.

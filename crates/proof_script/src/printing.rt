@@ -1,4 +1,4 @@
-//! `print_report` and `print_claim`.
+//! `print_report` and `print_claim`: the text of a report and of a claim.
 
 ghost use Rattle.std.specs.Prelude.{◌≡◌, ◌++◌, ℕ, List, IfOk, OnOk, flat_map, map};
 ghost use Rattle.std.specs.List.{AllByRecursion};

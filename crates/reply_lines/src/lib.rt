@@ -1,4 +1,4 @@
-//! The lines that are written of a report that is replayed.
+//! The lines that are written about a report that is replayed.
 //!
 //! Uses clause_core, which has the claims of a report and the reasons why one isn't accepted.
 //! `specs/Lines.antt` has each line as bytes.

@@ -3,9 +3,9 @@
 //! Uses matching. For many terms, make one [`Rewriter`].
 //!
 //! Proved: `normalize`: the chain of leftmost-innermost uses of unguarded rules to a normal form,
-//! with places and rules, within the budget, or Spent exactly where it is longer. A term has one
-//! normal form by one chain (`one_normal_form`), and one answer for a budget (`one_answer`).
-//! `worked_examples`.
+//! with places and rules, within the budget, or Spent exactly where it is longer. A term has at
+//! most one normal form, by one chain (`one_normal_form`), and at most one answer for a budget
+//! (`one_answer`). `worked_examples`.
 //!
 //! Tested: Terms by hand (step_cases).
 #![tactic(auto)]

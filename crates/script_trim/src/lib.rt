@@ -16,7 +16,7 @@
 //! report if the closing step could close the node, and None exactly where it couldn't. `trim`:
 //! the one report to which first cuts lead. It has the same claims and is accepted, no claim has
 //! more nodes, and no node with children could be closed. Tests at one node decide a cut
-//! (`tests_decide`), and cuts end at one report (`cuts_trim`). It is said what a block that is
+//! (`tests_decide`), and cuts end at one report (`cuts_trim`). A law says what a block that is
 //! cut makes (`cut_blocks`). Claims don't touch one another (`claims_are_apart`). The trimmed
 //! report of a text has a text (`trimmed_reports_stand`). `worked_examples`.
 //!

@@ -1,4 +1,4 @@
-//! `cut` and `trim`.
+//! `cut` and `trim`: one cut, and the report to which first cuts lead.
 
 ghost use Rattle.std.specs.Prelude.{◌<◌, IfOk, length};
 ghost use Rattle.acceptance.specs.Accepting.{IsAccepted};

@@ -1,4 +1,4 @@
-//! The signature.
+//! The signature: the declarations of sorts, constructors and functions.
 
 ghost use Rattle.std.specs.Prelude.{◌≡◌, ℕ, List, ◌+◌, ◌<◌, ◌≤◌, ◌^◌, ◌∷◌, ◌++◌, [], IfOk, OnErr, length, map, codes};
 ghost use Rattle.spec_core.specs.declared.records.SymInfo.{SymInfo};

@@ -1,4 +1,4 @@
-//! `elaborate` and `elaborate_term`.
+//! `elaborate` and `elaborate_term`: a whole specification, and a term by itself.
 
 ghost use Rattle.std.specs.Prelude.{◌≡◌, ℕ, [], IfOk, Ok, Err};
 ghost use Rattle.term_core.specs.Tree.{Tree};

@@ -7,11 +7,11 @@
 //! if no test finds a fault (`StandsFor.antt`).
 //!
 //! Proved: `elaborate` answers the specification that the raw one stands for wherever there is
-//! one. That is well sorted if the raw one keeps the limits of the grammar. Else it answers the
-//! first fault with its place and kind, in both directions. `elaborate_term` does so for a term
-//! without variables. The laws: `one_specification`, `one_first_fault`, `faulty_stands_for_none`,
-//! `sizes_are_kept`, `well_sorted`. No term of a rule has more symbols than a raw term has words
-//! (`numbering_keeps_sizes`). `worked_examples`.
+//! one, and it is well sorted if the raw one keeps the limits of the grammar. Else `elaborate`
+//! answers the first fault with its place and kind, in both directions. `elaborate_term` does so
+//! for a term without variables. The laws: `one_specification`, `one_first_fault`,
+//! `faulty_stands_for_none`, `sizes_are_kept`, `well_sorted`. No term of a rule has more symbols
+//! than a raw term has words (`numbering_keeps_sizes`). `worked_examples`.
 //!
 //! Tested: Faults and inferred sorts by hand, through the program.
 #![tactic(auto)]

@@ -1,4 +1,4 @@
-//! Rules.
+//! Rules: their sides and guards.
 
 ghost use Rattle.std.specs.Prelude.{◌≡◌, ◌≤◌, ◌<◌, [], IfOk, OnOk, length, min, replicate, slice_index};
 ghost use Rattle.std.specs.List.{AllByRecursion, AllZip};

@@ -8,8 +8,8 @@
 //! Proved: `admit`, for every order: Ok exactly where the specification is admitted, which it is
 //! then with its order, and each sorted term without variables has one value. Else the first
 //! fault, with the specification unchanged. A value of `Admitted` is well sorted and admitted by
-//! its order. An admitted specification has no fault (`no_fault_where_admitted`), and one that
-//! isn't has one first fault (`one_fault`); a fault of guards names the first rule of its group
+//! its order. An admitted specification has no fault (`no_fault_where_admitted`), and each one
+//! has at most one first fault (`one_fault`). A fault of guards names the first rule of its group
 //! (`guards_name_the_first_of_a_group`). Each call with values has one left side that matches,
 //! and a term one value and one cost at most (`each_call_has_one_left_side`). `worked_examples`.
 //!

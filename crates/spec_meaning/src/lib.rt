@@ -1,4 +1,4 @@
-//! What changes no meaning of a raw specification: the places of its names, and a later format.
+//! What doesn't change the meaning of a raw specification: places of names, and a later format.
 //!
 //! Uses sort_check, which says what a raw specification stands for, and spec_printing, which says
 //! what is the same apart from places and what declarations are in format 2. The laws serve the

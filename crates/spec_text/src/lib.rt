@@ -5,9 +5,9 @@
 //! relations, apart from the code.
 //!
 //! Proved: `scan` finds the tokens of the bytes if they are text made of tokens and gaps, and
-//! else the place of the first fault. `name_at` finds the longest name. A text has one list of
-//! tokens (`one_list`). They lie in the text, and each is spelled by its slice (`spans`). What is
-//! written piece by piece is scanned to its pieces (`written_scans`). `worked_examples`.
+//! else the place of the first fault. `name_at` finds the longest name. A text has at most one
+//! list of tokens (`one_list`). They lie in the text, and each is spelled by its slice (`spans`).
+//! What is written piece by piece is scanned to its pieces (`written_scans`). `worked_examples`.
 #![tactic(auto)]
 
 mod characters;

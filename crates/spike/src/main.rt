@@ -8,8 +8,8 @@
 //! Tested: The stored run: the proof of `plus_zero`. Requests for memory (one in k of many),
 //! reads and writes that fail, and the largest texts with 1 GiB of memory (`tests/faults`).
 //!
-//! Neither: `main` before it calls `run`: it ends with 8 if no memory is found for the words, and
-//! with 9 if a word isn't UTF-8. That it ends with the code of what `run` answers.
+//! Neither: `main` before it calls `run`: its endings with 8 if no memory is found for the words,
+//! and with 9 if a word isn't UTF-8. That it ends with the code of what `run` answers.
 #![tactic(auto)]
 
 use io_core::{StdFiles, StdSink};

@@ -1,10 +1,11 @@
 //! Cases of terms, substitutions, matching, unification, the path ordering and clauses.
 //!
 //! Uses term_core, substitutions, matching, unifier, path_order, spec_core and clause_core. The
-//! cases were worked by hand or come from the literature. It prints those that come out
-//! otherwise. Its `stdin` has the cases, a line each, with terms in the notation of `signs.rt`
-//! and clauses in that of `clause_signs.rt`; `cases.rt` and `clause_cases.rt` say what is asked
-//! of them. A case that takes too long to end is a failure too.
+//! program doesn't show these calls. The cases were worked by hand or come from the literature.
+//! It prints those that come out otherwise. Its `stdin` has the cases, a line each, with terms in
+//! the notation of `signs.rt` and clauses in that of `clause_signs.rt`; `cases.rt` and
+//! `clause_cases.rt` say what is asked of them. A case that takes too long to end is a failure
+//! too.
 //!
 //! Proved: It is safe and ends.
 //!

@@ -1,3 +1,4 @@
+-- Lists of terms, and the sizes of terms.
 use Rattle.std.proofs.Common.{◌≡◌, zero, suc, ◌≤◌, ◌<◌, ◌++◌, max, ◌-◌, ◌+◌, ℕ, List, [], ◌∷◌, IsTrue, Bool, ◌↔◌, refl, ap, sym, ◌∙◌, length, get_or, slice_set, take, drop, arith}
 use Rattle.std.proofs.Math.Seq.{take-length}
 use Rattle.std.proofs.lemmas.List.{take_more, take_all, length-take, length-drop}

@@ -6,13 +6,13 @@
 //! list, without building them. An [`Operand`] is what either test compares
 //! (`specs/Operands.antt`).
 //!
-//! Proved: What `TermOrder` asks of an order. What `greater` finds is above, and it finds it
-//! wherever both terms have at most 4,294,967,295 symbols and variables. `greater_under` says the
-//! same of the instances of two terms by a list. `above` is stable under substitutions, a term is
-//! above each of its proper subterms, and two terms in one context compare as they do alone, both
-//! ways (`laws`). Each ground term has exactly one rank, which falls to arguments and, in each
-//! context, from instances of a term to those of what it is above (`ranks`). `Operand::resolved`
-//! means the same term.
+//! Proved: What `TermOrder` asks of an order, for each one that implements it. What `greater`
+//! finds is above, and it finds it wherever both terms have at most 4,294,967,295 symbols and
+//! variables. `greater_under` says the same of the instances of two terms by a list. `above` is
+//! stable under substitutions, a term is above each of its proper subterms, and two terms in one
+//! context compare as they do alone, both ways (`laws`). Each ground term has exactly one rank,
+//! which falls to arguments and, in each context, from instances of a term to those of what it is
+//! above (`ranks`). `Operand::resolved` means the same term.
 #![tactic(auto)]
 
 mod operands;

@@ -11,7 +11,7 @@
 //!
 //! Tested: Values at and past 10,000 symbols, and as deep as that, through the program.
 //!
-//! Neither: Memory.
+//! Neither: How much memory a bank takes.
 #![tactic(auto)]
 
 mod answers;
