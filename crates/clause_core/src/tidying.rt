@@ -6,14 +6,15 @@ ghost use Rattle.term_core.specs.Variables.{occurrences, occurrences_all};
 ghost use Rattle.term_core.specs.Gathered.{met, gathered};
 ghost use Rattle.spec_core.specs.WellSorted.{sorts_of as sorts_of_variables};
 ghost use Rattle.clause_core.specs.Clauses.{sides_of};
-ghost use Rattle.clause_core.specs.Tidied.{place_of, renumbered, renumbered_equation, sorts_at as sorts_at_places, tidied, goal_clause};
+ghost use Rattle.clause_core.specs.Tidied.{place_of, renumbered, renumbered_equation};
+ghost use Rattle.clause_core.specs.Tidied.{sorts_at as sorts_at_places, tidied, goal_clause};
 
 use crate::clauses::Clause;
 use crate::equations::copy_equations;
 use spec_core::{Equation, Goal, VarInfo};
 use std::alloc::Global;
 use std::mem;
-use term_core::{Node, OutOfMemory, Seq, SortId, Term, Terms, VarId};
+use term_core::{Node, OutOfMemory, Seq, SortId, Term, VarId};
 
 /// The clause with its variables numbered by first occurrence, premises before conclusions and
 /// left sides before right ones. Variables that don't occur are left out. Terms
@@ -89,8 +90,8 @@ fn renumber_equations(
     let items = equations.into_vec();
     let mut made = Vec::with_capacity(alloc, items.len())?;
     for equation in items {
-        let left = renumber(alloc, equation.left, olds)?;
-        let right = renumber(alloc, equation.right, olds)?;
+        let left = renumber(equation.left, olds)?;
+        let right = renumber(equation.right, olds)?;
         made.push(Equation { left, right })?;
     }
     Ok(Seq::from_vec(made))
@@ -98,33 +99,26 @@ fn renumber_equations(
 
 /// The term, renumbered.
 #[cycle(renumber)]
-fn renumber(alloc: Global, term: Term, olds: &mut Vec<u32>) -> Result<Term, OutOfMemory>
+fn renumber(term: Term, olds: &mut Vec<u32>) -> Result<Term, OutOfMemory>
     ensures olds { OnOk result (olds.new.items ≡ gathered olds.old.items (occurrences term)) }
     ensures made { IfOk result (λ made. made ≡ renumbered olds.new.items term) }
 {
     if term.bound() == 0 {
         return Ok(term);
     }
-    let sym = match &term.node {
-        Node::Var(var) => return Ok(Term::var(new_number(*var, olds)?)),
-        Node::App(sym, _) => *sym,
-    };
     match term.node {
-        Node::Var(_) => unreachable!(),
-        Node::App(_, args) => {
-            let made = renumber_all(alloc, args.into_vec()?, olds)?;
-            Ok(Term::app(sym, Terms::from_vec(alloc, made)?))
+        Node::Var(var) => Ok(Term::var(new_number(var, olds)?)),
+        Node::App(sym, mut args) => {
+            let made = renumber_all(args.take_items()?, olds)?;
+            args.put_items(made)?;
+            Ok(Term::app(sym, args))
         }
     }
 }
 
 /// The terms in their order, renumbered.
 #[cycle(renumber)]
-fn renumber_all(
-    alloc: Global,
-    terms: Vec<Term>,
-    olds: &mut Vec<u32>,
-) -> Result<Vec<Term>, OutOfMemory>
+fn renumber_all(terms: Vec<Term>, olds: &mut Vec<u32>) -> Result<Vec<Term>, OutOfMemory>
     ensures olds { OnOk result
         (olds.new.items ≡ gathered olds.old.items (occurrences_all (trees_of terms.items))) }
     ensures made { IfOk result (λ made.
@@ -133,7 +127,7 @@ fn renumber_all(
     let mut terms = terms;
     for index in 0..terms.len() {
         let term = mem::replace(&mut terms[index], Term::var(VarId(0)));
-        terms[index] = renumber(alloc, term, olds)?;
+        terms[index] = renumber(term, olds)?;
     }
     Ok(terms)
 }

@@ -1,7 +1,7 @@
 //! `Term` and `Terms`: making, sharing and comparing them.
 
-ghost use Rattle.std.specs.Prelude.{◌≡◌, ◌≤◌, ◌↔◌, ℕ, [], ◌∷◌, ◌++◌, Some, IfOk, OnOk, OnErr, IsTrue};
-ghost use Rattle.std.specs.Prelude.{MatchOption, length, min, slice_get};
+ghost use Rattle.std.specs.Prelude.{◌≡◌, ◌≤◌, ◌↔◌, ℕ, [], ◌∷◌, ◌++◌, Some, IfOk, OnOk, OnErr};
+ghost use Rattle.std.specs.Prelude.{IsTrue, MatchOption, length, min, slice_get};
 ghost use Rattle.term_core.specs.Tree.{var as variable, app as application, trees_of};
 ghost use Rattle.term_core.specs.Tree.{tree_size, tree_depth};
 ghost use Rattle.term_core.specs.Measures.{measure_of, measures_of, tree_bound};
@@ -12,6 +12,7 @@ use crate::measures::Measure;
 use crate::memory::OutOfMemory;
 use std::alloc::Global;
 use std::marker::Model;
+use std::mem;
 use std::rc::Rc;
 
 /// A variable, or a symbol applied to terms.
@@ -133,6 +134,42 @@ impl Terms {
             Ok(alone) => Ok(alone.items),
             Err(shared) => copy_all(alloc, &shared.items),
         }
+    }
+
+    /// Takes the terms out. They are copied where another list shares them; else the memory that
+    /// holds them is kept for [`Terms::put_items`].
+    pub fn take_items(&mut self) -> Result<Vec<Term>, OutOfMemory>
+        ensures taken { IfOk result (λ items. items.items ≡ self.old) }
+        ensures emptied { OnOk result (self.new ≡ []) }
+        ensures kept { OnErr result (self.new ≡ self.old) }
+    {
+        if let Some(shared) = &mut self.shared {
+            if let Some(alone) = Rc::get_mut(shared) {
+                alone.measure = Measure::of_none();
+                return Ok(mem::replace(&mut alone.items, Vec::new(self.alloc)));
+            }
+        }
+        let items = copy_all(self.alloc, self.as_slice())?;
+        self.shared = None;
+        Ok(items)
+    }
+
+    /// Puts these terms in the place of those that are there. It takes no memory after
+    /// [`Terms::take_items`] of terms that no other list shared.
+    pub fn put_items(&mut self, items: Vec<Term>) -> Result<(), OutOfMemory>
+        ensures put { OnOk result (self.new ≡ items.items) }
+        ensures kept { OnErr result (self.new ≡ self.old) }
+    {
+        let measure = measure_all(&items);
+        if let Some(shared) = &mut self.shared {
+            if let Some(alone) = Rc::get_mut(shared) {
+                alone.items = items;
+                alone.measure = measure;
+                return Ok(());
+            }
+        }
+        self.shared = Some(Rc::new(self.alloc, Measured { items, measure })?);
+        Ok(())
     }
 
     pub fn as_slice(&self) -> &[Term]
