@@ -1,4 +1,4 @@
-"""What a refusal is about and what to do, as the tools say it beside the program's line."""
+"""What a refusal is about and what to do, as the tools say it after the program's line."""
 import re
 
 from lookalikes import nearest, suspects

@@ -1,7 +1,7 @@
 """The patterns that the left sides of some rules leave, for a cure that says which rules are missing."""
 from texts import shown, subterms
 
-MOST_STEPS = 5_000  # of the walk, which may have very many ways that lead nowhere
+MOST_STEPS = 5_000  # of the walk, in which very many ways may lead nowhere
 MOST_SHOWN = 4
 FRESH = ("x", "y", "z", "u", "v", "w", "x1", "y1", "z1", "u1", "v1", "w1")
 
@@ -61,7 +61,7 @@ def fresh(spec, left):
 
 
 def left_over(spec, rules, left):
-    """What a left side matches and these rules don't, as texts, at most five; None where a few steps don't tell."""
+    """What a left side matches and these rules don't, as texts, at most five; None if the steps don't suffice to find it."""
     walk, found, own = Walk(spec), [], {term.name for term in subterms(left)}
     rows = [[walk.pattern(arg) for arg in rule.left.args] for rule in rules]
     try:

@@ -39,12 +39,12 @@ def reached(edges, name):
 
 
 def level_of(spec, name):
-    """The functions of an `equal` line with this one, or it alone."""
+    """The functions of the `equal` line that has this one, or only this one."""
     return next((line for line in spec.equals if name in line), [name])
 
 
 def later(spec, own, other):
-    """The cure where a function calls one that is declared later and doesn't call back."""
+    """The cure if a function calls one that is declared later and doesn't call back."""
     names = list(spec.functions)
     if names.index(other) < names.index(own):
         last = max(level_of(spec, other), key=names.index)
@@ -65,7 +65,7 @@ def as_equals(spec, group):
 
 
 def mutual(spec, own, other):
-    """The cure where functions call each other."""
+    """The cure if functions call each other."""
     group = next(names for names in circles(spec) if own in names)
     rules = {number for number, rule in enumerate(spec.rules, 1) if rule.left.name in group}
     cause = f"{listed(group)} call each other: "
@@ -88,7 +88,7 @@ def mutual(spec, own, other):
 
 
 def not_smaller(spec, order, left, call):
-    """The cure where a call of the same level has an argument that isn't smaller."""
+    """The cure if a call of the same level has an argument that isn't smaller."""
     made = plain(call, spec)
     if made == left:
         return f"the call `{text(made)}` is the left side again, so that evaluation doesn't end: {NO_CURE}"
@@ -123,7 +123,7 @@ def times(names, name):
 
 
 def why_not_lighter(order, left, term):
-    """What is wrong by weights with a term beside the left side."""
+    """Why a term isn't below the left side by weights."""
     more = Counter(variables(term)) - Counter(variables(left))
     if more:
         name = next(iter(more))
@@ -138,7 +138,7 @@ def why_not_lighter(order, left, term):
 
 
 def weight_cure(spec, order, rule, part):
-    """The cure where a text has a line `order`."""
+    """The cure if the text has a line `order`."""
     left, term = plain(rule.left, spec), parts(rule, spec)[part]
     name = "the right side" if part == 0 else f"test {part}"
     if order.above(left, term):
@@ -154,7 +154,7 @@ def weight_cure(spec, order, rule, part):
 
 
 def order_cure(spec, number, part):
-    """The place and the cure of a rule with this number, where part 0 is the right side, and k the k-th test."""
+    """The place and the cure of the rule with this number. Part 0 is the right side, and part k the k-th test."""
     rule = spec.rules[number - 1]
     term = rule.right if part == 0 else rule.guards[part - 1][1]
     order = order_of(spec)

@@ -1,8 +1,8 @@
 """The two orderings of terms, and which changes of a text put the left sides of its rules above the rest.
 
 The program decides whether rules are accepted. Here the same question is asked of the text as it is and as it might
-be, so that a cure is only named where it helps. Terms are plain here: a variable is its name, a call a pair of a name
-and arguments.
+be, so that a cure is only named if it helps. Terms are plain here: a variable is its name, and a call is a pair of a
+name and arguments.
 """
 import copy
 from collections import Counter
@@ -10,7 +10,7 @@ from functools import cache
 from itertools import combinations, permutations, product
 from math import prod
 
-MOST_PERMUTED = 4  # arguments of which all orders are tried; of more, each argument in front
+MOST_PERMUTED = 4  # arguments of which all orders are tried; of more arguments each one is tried in front
 WEIGHTS = (2, 3)  # what is tried as the weight of a symbol
 MOST_WEIGHED = 12  # symbols of which pairs get weights
 MOST_RULES = 200  # of a text for which weights are tried
@@ -68,7 +68,7 @@ class PathOrder:
 
 
 class WeightOrder:
-    """The ordering by weights, where a symbol without one weighs 1."""
+    """The ordering by weights. A symbol without one weighs 1."""
 
     def __init__(self, levels, weights):
         self.levels, self.weights = levels, weights
@@ -89,7 +89,7 @@ class WeightOrder:
 
 
 def order_of(spec):
-    """The ordering of a text: by weights where it has a line `order`."""
+    """The ordering of a text: by weights if it has a line `order`."""
     names = [*spec.constructors, *spec.functions]
     levels = {name: number for number, name in enumerate(names)}
     if spec.weights is not None:
@@ -119,7 +119,7 @@ def refused(spec, rules=None):
 
 
 def calls(spec):
-    """Each function with the functions of its rules, itself among them where it calls itself."""
+    """Each function with the functions of its rules, itself among them if it calls itself."""
     found = {name: set() for name in spec.functions}
     for rule in spec.rules:
         if rule.left.name in found:
@@ -162,7 +162,7 @@ def changed(spec, **fields):
 
 
 def statuses_of(size):
-    """The orders of so many arguments that are tried, other than the usual one."""
+    """The orders of this number of arguments that are tried, other than the usual one."""
     usual = tuple(range(1, size + 1))
     if size <= MOST_PERMUTED:
         return [order for order in permutations(usual) if order != usual]
@@ -184,7 +184,7 @@ def with_status(spec, group):
 
 
 def with_weights(spec):
-    """The line `order` by which all rules are below, or None: of the usual weights, of one other weight or of two."""
+    """The line `order` by which all rules are in order, or None. It has no other weights than 1, or one, or two."""
     base = dict(spec.weights or {})
     names = [name for name in (*spec.functions, *spec.constructors) if name not in ("true", "false")]
     ones = [{name: weight} for name in names for weight in WEIGHTS]
@@ -192,7 +192,7 @@ def with_weights(spec):
     twos = [{a: v, b: w} for a, b in pairs for v, w in product(WEIGHTS, repeat=2)]
     if len(spec.rules) > MOST_RULES:
         return None
-    # no weights help where a part has a variable more often than the left side
+    # no weights help if a part has a variable more often than the left side
     for rule in spec.rules:
         left = Counter(variables(plain(rule.left, spec)))
         if any(Counter(variables(term)) - left for term in parts(rule, spec)):

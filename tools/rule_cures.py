@@ -22,7 +22,7 @@ def order(spec, number, part):
 
 
 def rest_of(spec, rule):
-    """What a rule is left with beside those of its function with other left sides, in words."""
+    """The values that are left for a rule by those of its function with other left sides, in words."""
     own = pattern(spec, rule.left)
     others = [other for other in spec.rules if other.left.name == rule.left.name and pattern(spec, other.left) != own]
     rest = left_over(spec, others, rule.left)
@@ -32,7 +32,7 @@ def rest_of(spec, rule):
 
 
 def is_wider(spec, left, other):
-    """Whether some variable of a left side is where the other one has a constructor."""
+    """Whether a left side has a variable at a place where the other one has a constructor."""
     pairs = list(zip(left.args, other.args))
     return any(spec.is_variable(a) and not spec.is_variable(b) for a, b in pairs) or any(
         is_wider(spec, a, b) for a, b in pairs)
@@ -43,9 +43,9 @@ def overlap(spec, first, second):
     found = [Finding(rule.place) for rule in rules]
     slips = suspects(spec, [rule.left for rule in rules])
     if slips:
-        return found + [Finding(term.place, f"`{term.name}` is a variable, since nothing is declared so: write"
+        return found + [Finding(term.place, f"`{term.name}` is a variable, since no symbol has this name: write"
                                             f" `{symbol}`") for term, symbol in slips]
-    # the later rule is mostly the one that was meant for the rest
+    # mostly the later rule is meant for the rest
     wide = 1 if is_wider(spec, rules[1].left, rules[0].left) else 0
     cure = f"rules aren't tried in order, so each needs a left side of its own: {rest_of(spec, rules[wide])}"
     found[wide] = found[wide]._replace(cure=cure)
@@ -53,7 +53,7 @@ def overlap(spec, first, second):
 
 
 def beside(spec, other, depth):
-    """What is wrong with a rule that has no further test, beside another one."""
+    """What is wrong with a rule that has no further test, compared with another rule."""
     where = f"the rule in line {spec.line(other.place)}"
     if len(other.guards) == depth:
         return f"{where} has the same left side and the same tests"
@@ -131,7 +131,7 @@ ADMISSION = {
 
 
 def is_about(spec, kind, parts):
-    """Whether the text has what the line names: it may be the line of another text."""
+    """Whether the text has what the line names. It may be the line of another text."""
     if kind == "coverage":
         return parts[0] in spec.functions
     numbers = [int(part) for part in (parts[:2] if kind == "overlap" else parts[:1])]

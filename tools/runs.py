@@ -1,4 +1,4 @@
-"""What the checks of `examples` and `tests` have in common: runs of the program, beside what they have to write."""
+"""What the checks of `examples` and `tests` have in common: runs of the program, compared with what they have to write."""
 import difflib
 import resource
 import subprocess
@@ -13,14 +13,14 @@ SECONDS = 60
 
 def called(words, folder, room=None):
     """What the program writes for these words, called in this folder, and its exit status. With `room` its output takes
-    so many bytes, and then each write fails."""
+    this many bytes, and then each write fails."""
 
     def limit():
         if room is not None:
             resource.setrlimit(resource.RLIMIT_FSIZE, (room, room))
 
     with tempfile.TemporaryFile() as output:
-        # a write past the limit is to fail, and not to end the program by a signal
+        # a write past the limit has to fail, and must not end the program by a signal
         done = subprocess.run([TOP / "spike", *words], cwd=folder, stdout=output, stderr=subprocess.DEVNULL, preexec_fn=limit,
                               restore_signals=False, timeout=SECONDS, check=False)
         output.seek(0)
@@ -36,7 +36,7 @@ def differences(wanted, got, name):
 
 
 def faults(status, wanted, name, call):
-    """What differs in a run, as lines, where `call` gives what is written and the exit status."""
+    """What differs in a run, as lines. `call` gives what is written and the exit status."""
     try:
         got, ended = call()
     except (OSError, ValueError, subprocess.SubprocessError) as error:
@@ -46,7 +46,7 @@ def faults(status, wanted, name, call):
 
 
 def check(usage, runs, missed):
-    """Makes the runs, each with how it is called and a function that gives what differs, prints what failed beside the
+    """Makes the runs, each with how it is called and a function that gives what differs. Prints what failed, after the
     texts of `missed`, and gives the exit status. With `--built` the program has to be there."""
     if sys.argv[1:] not in ([], ["--built"]):
         sys.exit(usage)

@@ -117,7 +117,7 @@ def not_on_the_left(spec, place, word):
     own = [term.name for term in subterms(left) if not term.args]
     similar = nearest(word, [*spec.constructors, *spec.functions, *own], LEAST)
     if similar:
-        return f"`{word}` is a variable, since nothing is declared so: write `{similar}`"
+        return f"`{word}` is a variable, since no symbol has this name: write `{similar}`"
     return f"`{word}` is a variable that `{shown(left)}` doesn't have: use one of its variables, or declare `{word}`"
 
 

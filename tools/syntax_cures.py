@@ -15,7 +15,7 @@ SIGNS = (  # the beginning of what begins no word, and what to write
     (".", "leave it out: a declaration ends where the next one begins"),
     ("[", "a list is written by its constructors, as `cons(x, nil)`"),
     ("]", "a list is written by its constructors, as `cons(x, nil)`"),
-    ("'", "a name has letters, digits and `_` alone: write `x1` or `x_`"),
+    ("'", "a name has only letters, digits and `_`: write `x1` or `x_`"),
     ("\ufeff", "the file begins with a byte order mark: save it without"),
     ("\"", "there are no strings: declare a constructor"),
 )
@@ -154,7 +154,7 @@ def at_any_place(fault):
             return name.place, f"`{name.text}` has {number_of(symbol.args, 'argument')}, which have to be written"
         return name.place, f"a constant has no parentheses: write `{name.text}`"
     if fault.before == "=" and fault.word == "=":
-        return None, "one `=` stands for equality"
+        return None, "equality is written with one `=`"
     if fault.word.isdecimal() and fault.before in ("(", ",", "=", "if", "unless"):
         return None, "there are no numerals: three is `succ(succ(succ(zero)))`"
     if fault.word in RESERVED - {"if", "unless"} and not fault.ends_declaration():
@@ -163,7 +163,7 @@ def at_any_place(fault):
 
 
 def missing(fault):
-    """A sign where a term or a name has to be."""
+    """A sign at a place that needs a term or a name."""
     awaits = fault.before in ("(", ",", "=", "|", ":", "=>", "if", "unless", *KINDS)
     if not awaits or fault.ends or (fault.kind, fault.before, fault.word) == ("sort", "=", "|"):
         return None
@@ -183,7 +183,7 @@ def parenthesis(fault):
     if fault.kind == "goal" and opened is fault.words[1] and fault.word in (")", ","):
         return None, f"a variable that the goal binds has its sort: `goal {opened.text}({fault.before} : Nat) : ..`"
     if fault.word == ":" and fault.kind in ("fun", "sort"):
-        return None, "an argument is its sort alone: leave the name and `:` out"
+        return None, "an argument is only a sort: leave the name and `:` out"
     if fault.word.isidentifier() and fault.before not in ("(", ","):
         return None, f"a comma is missing between `{fault.before}` and `{fault.word}`"
     return None, f"in parentheses are arguments with commas between them, and no `{fault.word}`"
@@ -224,7 +224,7 @@ def in_goal(fault):
 
 def in_rule(fault):
     if fault.word == "=" and fault.seen("if", "unless"):
-        return None, "a test has no `=`: `if t` where t is true, `unless t` where it is false"
+        return None, "a test has no `=`: write `if t` if t has to be true, and `unless t` if it has to be false"
     if fault.seen("if", "unless") and (fault.word in (",", "|", "=>") or fault.word in ("and", "or")):
         return None, "each test has its own word: `if a if b`, `if a unless b`"
     if fault.ends and not fault.seen("="):
@@ -280,7 +280,7 @@ def order_of_kinds(fault):
 
 
 def unfinished(fault):
-    """What is said where nothing else is found."""
+    """What is said if nothing else is found."""
     if fault.kind == "equal":
         return None, "an equal line has two functions or more, with commas between them: `equal even, odd`"
     if fault.kind == "status":
@@ -295,7 +295,7 @@ def unfinished(fault):
 
 
 def syntax_cure(spec, place):
-    """The place of what is to change, None where it is that of the refusal, and the cure; or None."""
+    """The place of what has to change, or None if it is that of the refusal, with the cure; or None."""
     fault = Fault(spec, place)
     looks = {"goal": in_goal, "rule": in_rule, "sort": in_sort, "fun": in_fun}
     look_at_kind = looks.get(fault.kind, lambda _: None)

@@ -1,8 +1,8 @@
 """What the tools of this folder read a specification by: its words with their places, its declarations, and its
 terms.
 
-Nothing is checked here. The program says whether a text is accepted; these tools say where in the text something is,
-and what may be meant. So a declaration that can't be read is left out, and `Spec.whole` says that none was.
+Nothing is checked here. The program says whether a text is accepted. These tools say where in the text something is,
+and what may be meant. So a declaration that can't be read is left out, and `Spec.whole` says that none was left out.
 """
 import re
 from collections import namedtuple
@@ -26,7 +26,7 @@ def is_name(text):
 
 
 def word_end(text, begin):
-    """Where a comment, a name, a number or another sign ends that begins there. Names are Unicode's identifiers."""
+    """The end of the comment, name, number or other sign that begins there. Names are Unicode's identifiers."""
     if text[begin] == "#":
         return (text.find("\n", begin) + 1 or len(text) + 1) - 1
     end = begin + 1
@@ -111,7 +111,7 @@ class Reader:
         return found
 
     def in_parentheses(self, item):
-        """The items between parentheses; none where no parenthesis is next."""
+        """The items between parentheses; none if no parenthesis is next."""
         if not self.skips("("):
             return []
         found = self.several(item, ",")
