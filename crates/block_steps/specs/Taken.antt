@@ -1,10 +1,11 @@
 -- Steps of a block that are taken: the nodes so far, and the links from those with a step.
-use Rattle.std.specs.Prelude.{◌≡◌, ◌≤◌, ◌-◌, ℕ, List, [], ◌∷◌, ◌++◌, Result, Ok, Err, length, take}
+use Rattle.std.specs.Prelude.{◌≡◌, ◌≤◌, ◌-◌, ℕ, List, [], ◌∷◌, ◌++◌, Result, Ok, Err, length, map, take}
 use Rattle.term_core.specs.Tree.{Tree}
 use Rattle.spec_core.specs.declared.records.Spec.{Spec}
+use Rattle.clause_core.specs.declared.clauses.Clause.{Clause}
 use Rattle.clause_core.specs.declared.steps.Step.{Step}
 use Rattle.clause_core.specs.declared.answers.Children.{Children}
-use Rattle.acceptance.specs.Blocks.{StepMakes}
+use Rattle.acceptance.specs.Blocks.{nodes_of, StepMakes, StepsMake}
 use Rattle.acceptance.specs.StepRefusals.{IsRefused}
 use Rattle.inference_rules.specs.declared.nodes.StepError.{StepError}
 use Rattle.inference_rules.specs.declared.nodes.StepError.TheVariants.{Why as because, OutOfMemory as no_memory}
@@ -31,6 +32,14 @@ module _ (above : Tree → Tree → Type 0) (spec : Spec) (usable : ℕ → Type
   TakesStep old new step (Err (because why)) =
       IsRefused above spec usable (clauses_of old.nodes.items) (length old.links.items) step why
   TakesStep old new step (Err no_memory) = Unit {0}
+
+  -- the steps of a block that begins with this clause are taken
+  pub record AreTaken (start : Clause) (steps : List Step) (taken : TakenSteps) : Type 0 where
+    pub made : List Children
+    pub makes : StepsMake above spec usable (start ∷ []) 0 steps made
+    pub nodes : clauses_of taken.nodes.items ≡ nodes_of start made
+    pub links : taken.links.items ≡ map links_of made
+    pub few : AreFewNodes taken
 
 -- the last link is dropped, with as many nodes as it has children; if there is none, nothing is
 pub record TakesBack (old new : TakenSteps) : Type 0 where

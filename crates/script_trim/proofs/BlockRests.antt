@@ -46,10 +46,10 @@ use Rattle.script_trim.specs.Keys.{key_of}
 use Rattle.script_trim.specs.Made.{cut_made}
 use Rattle.script_trim.specs.Quick.{CanClose}
 use Rattle.script_trim.specs.Trimmed.{proves, ProvedClaim, Closes}
-use Rattle.script_trim.proofs.Children.{all_children, counted, counted_clauses}
+use Rattle.block_steps.proofs.ChildNumbers.{all_children, counted, counted_clauses}
 use Rattle.script_trim.proofs.ClosingSteps.{closing_makes_none, none_by}
 use Rattle.script_trim.proofs.CutBlocks.{cut_makes, cut_finished, cut_nodes}
-use Rattle.script_trim.proofs.FirstChildren.{first_nodes}
+use Rattle.block_steps.proofs.FirstChildren.{first_nodes}
 use Rattle.script_trim.proofs.LinkedCuts.{descends_linked, linked_descends, linked_in_order, linked_cut}
 use Rattle.script_trim.proofs.LinkedCuts.{refers_within}
 use Rattle.script_trim.proofs.NodeCounts.{nodes_few}

@@ -16,7 +16,7 @@ use Rattle.acceptance.specs.Strict.{first_child}
 use Rattle.acceptance.proofs.WholeBlocks.{as_many}
 use Rattle.script_trim.specs.Cut.{new_number, staying, Descends}
 use Rattle.script_trim.specs.Made.{made_renumbered, cut_made}
-use Rattle.script_trim.proofs.Children.{counted, counted_append, counted_cons}
+use Rattle.block_steps.proofs.ChildNumbers.{counted, counted_append, counted_cons}
 use Rattle.script_trim.proofs.Places.{set_same, set_other, length_set, taken_length, taken_more, take_staying}
 use Rattle.script_trim.proofs.Staying.{staying_append, staying_yes, staying_no, length_from}
 use Rattle.script_trim.proofs.StayingChildren.{IsLocal, local_at, there}

@@ -24,7 +24,7 @@ use Rattle.script_trim.specs.Cut.{child}
 use Rattle.script_trim.specs.Trimmed.{proves, with_steps, Closes, HasChildren, CouldBeClosed, IsNoLonger, Trims}
 use Rattle.script_trim.specs.Trimmed.{IsFirstCut, LeadsTo, done, cut}
 use Rattle.script_trim.specs.Laws.{nodes_in, node_count}
-use Rattle.script_trim.proofs.Children.{counted_clauses, child_below}
+use Rattle.block_steps.proofs.ChildNumbers.{counted_clauses, child_below}
 use Rattle.script_trim.proofs.OneCut.{anew_bound, length_rest, fewer_left, goal_same, made_same, left_one}
 use Rattle.script_trim.proofs.QuickTests.{finished}
 

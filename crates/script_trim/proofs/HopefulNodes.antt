@@ -19,7 +19,7 @@ use Rattle.script_trim.specs.Fitting.{own_steps, other_steps, AreDefined, AreFit
 use Rattle.script_trim.specs.Fitting.{OnlyItselfFits, defined, left_out}
 use Rattle.term_core.proofs.Items.{all_append}
 use Rattle.script_trim.proofs.FirstFits.{own_and_others}
-use Rattle.script_trim.proofs.Children.{all_children, counted, counted_append, counted_cons}
+use Rattle.block_steps.proofs.ChildNumbers.{all_children, counted, counted_append, counted_cons}
 use Rattle.script_trim.proofs.Places.{taken_more}
 
 -- the number of the first child of the next node

@@ -2,19 +2,16 @@
 use Rattle.std.proofs.Common.{◌≡◌, ℕ, suc, ◌≤◌, ◌<◌, List, [], ◌∷◌, Some, false, sym, ◌∙◌, ap, subst, arith}
 use Rattle.std.proofs.Common.{length, map, take}
 use Rattle.std.specs.Prelude.{Contains, slice_get, slice_set}
-use Rattle.std.specs.List.{AllByRecursion}
 use Rattle.std.proofs.lemmas.List.{length-map, take_all}
 use Rattle.term_core.specs.Tree.{Tree}
 use Rattle.spec_core.specs.declared.records.Goal.{Goal}
 use Rattle.spec_core.specs.declared.records.Spec.{Spec}
-use Rattle.spec_core.specs.declared.records.VarInfo.{VarInfo}
-use Rattle.spec_core.specs.Sig.{IsSort}
-use Rattle.spec_core.specs.WellSorted.{GoalIsSorted, IsWellSorted, sorts_of}
+use Rattle.spec_core.specs.WellSorted.{IsWellSorted}
 use Rattle.clause_core.specs.declared.answers.Children.{Children}
 use Rattle.clause_core.specs.declared.reports.Report.{Report}
 use Rattle.clause_core.specs.declared.steps.Step.{Step}
 use Rattle.clause_core.specs.ClauseLaws.{OneRelation, TidyingLaws}
-use Rattle.clause_core.specs.Tidied.{goal_clause, written_clause}
+use Rattle.clause_core.specs.Tidied.{goal_clause}
 use Rattle.descent.specs.SortedChildren.{IsNode}
 use Rattle.acceptance.specs.Accepting.{IsAccepted, ClaimsAreAccepted}
 use Rattle.acceptance.specs.Blocks.{nodes_of, Proves, StepsMake}
@@ -36,11 +33,13 @@ use Rattle.script_trim.specs.declared.blocks.KeptBlock.{KeptBlock}
 use Rattle.script_trim.specs.Fitting.{OnlyItselfFits}
 use Rattle.script_trim.specs.Kept.{IsKept}
 use Rattle.script_trim.specs.Keys.{key_of}
-use Rattle.script_trim.specs.Placing.{AreTaken}
+use Rattle.block_steps.specs.Taken.{AreTaken}
 use Rattle.script_trim.specs.Trimmed.{proves}
-use Rattle.script_trim.proofs.Children.{before_children, counted, counted_clauses}
+use Rattle.block_steps.proofs.BlocksTaken.{before_first as block_before_first}
+use Rattle.block_steps.proofs.GoalNodes.{goal_node}
+use Rattle.block_steps.proofs.ChildNumbers.{counted, counted_clauses}
 use Rattle.script_trim.proofs.ClaimByClaim.{set_there}
-use Rattle.script_trim.proofs.FirstChildren.{first_by_links}
+use Rattle.block_steps.proofs.FirstChildren.{first_by_links}
 use Rattle.script_trim.proofs.FirstFits.{itself_there}
 use Rattle.script_trim.proofs.ReplacedClaims.{accepted_at}
 use Rattle.script_trim.proofs.StayingChildren.{there as item_there}
@@ -67,27 +66,7 @@ module _
       claim_in_range above spec usable goal.name (record { steps = steps }) (goal_clause goal) shown.made shown.makes
 
   pub start_node : TidyingLaws → IsNode spec.sig (goal_clause goal)
-  start_node laws = record {
-    sorted =
-        laws.keeps_sorts spec.sig (written_clause goal) fine.signature
-        (record {
-          variables = sorts_are goal.vars its.variables;
-          premises = its.premises;
-          conclusions =
-              its.conclusions;
-        });
-    is_tidied = laws.is_tidied (written_clause goal);
-    within = shown.within;
-  }
-    where
-      its : GoalIsSorted spec.sig goal
-      its = fine.goals named.0 goal named.1
-
-      sorts_are :
-          (vars : List VarInfo) → AllByRecursion (λ (v : VarInfo). IsSort spec.sig v.sort) vars →
-          AllByRecursion (IsSort spec.sig) (sorts_of vars)
-      sorts_are [] h = tt
-      sorts_are (v ∷ vars) h = (h.0, sorts_are vars h.1)
+  start_node laws = goal_node spec fine laws named.0 goal named.1 shown.within
 
   pub all_defined :
       (made : List Children) × StepsMake above spec (Contains numbers) (goal_clause goal ∷ []) 0 steps made
@@ -113,11 +92,8 @@ module _
     -- each node comes before its children
     pub before_first : (k : ℕ) → k < length taken.links.items → k < first_child taken.links.items k
     before_first k l =
-        let m = item_there t.made k (omega (arith, l, many_links, many)) in
-        let b = before_children above spec usable (goal_clause goal ∷ []) 0 steps t.made makes k m.0 m.1 in
-        let e : first_child taken.links.items k ≡ first_child t.made k =
-        ap (λ ls. first_child ls k) t.links ∙ first_by_links t.made k in
-        omega (arith, b, e)
+        let m = item_there taken.links.items k l in
+        block_before_first above spec (Contains numbers) (goal_clause goal) steps taken t k m.0 m.1
 
     pub all_within : first_child taken.links.items (length taken.links.items) ≤ length taken.nodes.items
     all_within =

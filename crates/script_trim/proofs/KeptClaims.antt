@@ -26,8 +26,8 @@ use Rattle.script_trim.specs.Closing.{closing_steps}
 use Rattle.script_trim.specs.Cutting.{ClosesAt}
 use Rattle.script_trim.specs.Kept.{kept_report, IsKept}
 use Rattle.script_trim.specs.Trimmed.{proves, ProvedClaim, HasChildren}
-use Rattle.script_trim.proofs.Children.{all_children, before_children, counted, counted_clauses}
-use Rattle.script_trim.proofs.FirstChildren.{first_by_links, first_nodes, link_of}
+use Rattle.block_steps.proofs.ChildNumbers.{all_children, before_children, counted, counted_clauses}
+use Rattle.block_steps.proofs.FirstChildren.{first_by_links, first_nodes, link_of}
 use Rattle.script_trim.proofs.OneCut.{goal_same, made_same}
 use Rattle.script_trim.proofs.Places.{take_set}
 use Rattle.script_trim.proofs.QuickTests.{necessary}

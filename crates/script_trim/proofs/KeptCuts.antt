@@ -42,7 +42,7 @@ use Rattle.script_trim.proofs.BlockRests.{all_finished, few_clauses, left_length
 use Rattle.script_trim.proofs.BlockRests.{long_nodes, long_steps, must_be, must_refer, named, new_links}
 use Rattle.script_trim.proofs.BlockRests.{new_makes}
 use Rattle.script_trim.proofs.BlockRests.{none, same_claims, which, within_claim}
-use Rattle.script_trim.proofs.Children.{all_children, counted_clauses}
+use Rattle.block_steps.proofs.ChildNumbers.{all_children, counted_clauses}
 use Rattle.script_trim.proofs.CutLinks.{first_anew}
 use Rattle.script_trim.proofs.FewerFits.{none_left}
 use Rattle.script_trim.proofs.OneCut.{goal_same, steps_same}

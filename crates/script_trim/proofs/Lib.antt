@@ -2,8 +2,7 @@
 pub mod Staying
 pub mod Follows
 -- The numbers of children.
-pub mod Children
-pub mod FirstChildren
+mod Children
 pub mod StayingChildren
 -- What a cut block makes.
 pub mod CutMakes
@@ -39,7 +38,6 @@ pub mod FirstFits
 pub mod FoundCuts
 pub mod HopefulNodes
 pub mod SharedKeys
-pub mod BlocksTaken
 pub mod KeptBlocks
 pub mod NodesKept
 pub mod TrimmedBlocks

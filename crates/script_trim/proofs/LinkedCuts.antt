@@ -20,8 +20,8 @@ use Rattle.block_links.proofs.LinksAlone.{there_mapped, made_of}
 use Rattle.script_trim.specs.Cut.{new_number, staying, Descends, child, further}
 use Rattle.script_trim.specs.Flags.{AreInOrder, RefersWithin}
 use Rattle.script_trim.specs.Made.{cut_made, made_renumbered, reference_renumbered}
-use Rattle.script_trim.proofs.Children.{before_children}
-use Rattle.script_trim.proofs.FirstChildren.{first_by_links, link_of}
+use Rattle.block_steps.proofs.ChildNumbers.{before_children}
+use Rattle.block_steps.proofs.FirstChildren.{first_by_links, link_of}
 use Rattle.script_trim.proofs.Places.{length_set, taken_more}
 use Rattle.script_trim.proofs.StayingChildren.{there}
 

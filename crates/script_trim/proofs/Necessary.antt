@@ -19,7 +19,7 @@ use Rattle.acceptance.proofs.OneBlock.{steps_one}
 use Rattle.acceptance.proofs.WholeBlocks.{as_many}
 use Rattle.script_trim.specs.Cut.{new_number, renumbered, staying, IsCut}
 use Rattle.block_links.proofs.LinksAlone.{there_mapped}
-use Rattle.script_trim.proofs.Children.{counted, counted_cons, counted_clauses, all_children, before_children}
+use Rattle.block_steps.proofs.ChildNumbers.{counted, counted_cons, counted_clauses, all_children, before_children}
 use Rattle.script_trim.proofs.Children.{descends_from}
 use Rattle.script_trim.proofs.Places.{set_same, take_set, taken_length, length_set, take_staying}
 use Rattle.script_trim.proofs.Prefixes.{RefersBelow, steps_take, steps_at, refers_below}

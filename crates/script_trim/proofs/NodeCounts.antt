@@ -13,7 +13,7 @@ use Rattle.clause_core.specs.Rows.{Row, needs, makes}
 use Rattle.clause_core.specs.Says.{Says}
 use Rattle.clause_core.specs.Steps.{row_of}
 use Rattle.acceptance.specs.Blocks.{clauses_of, StepsMake}
-use Rattle.script_trim.proofs.Children.{counted, counted_cons}
+use Rattle.block_steps.proofs.ChildNumbers.{counted, counted_cons}
 
 module _ (above : Tree → Tree → Type 0) where
   says_few :

@@ -22,7 +22,7 @@ use Rattle.inference_rules.specs.Nodes.{AreNodes}
 use Rattle.script_trim.specs.declared.blocks.KeptBlock.{KeptBlock}
 use Rattle.script_trim.specs.Kept.{IsKept}
 use Rattle.script_trim.specs.Trimmed.{proves}
-use Rattle.script_trim.proofs.BlocksTaken.{one_node}
+use Rattle.block_steps.proofs.BlocksTaken.{one_node}
 use Rattle.script_trim.proofs.KeptBlocks.{start_node}
 use Rattle.script_trim.proofs.Places.{take_set}
 

@@ -15,7 +15,8 @@ use Rattle.acceptance.specs.Blocks.{clauses_of, nodes_of, StepsMake}
 use Rattle.acceptance.specs.Strict.{first_child, HasChild}
 use Rattle.acceptance.proofs.WholeBlocks.{as_many}
 use Rattle.script_trim.specs.Cut.{Descends, child, further, staying}
-use Rattle.script_trim.proofs.Children.{counted, counted_cons, counted_clauses, one_parent, child_below, descends_later}
+use Rattle.block_steps.proofs.ChildNumbers.{counted, counted_cons, counted_clauses, one_parent, child_below}
+use Rattle.script_trim.proofs.Children.{descends_later}
 use Rattle.script_trim.proofs.Staying.{staying_all, staying_none}
 
 pub true_or_false : (b : Bool) → (b ≡ true) ⊎ (b ≡ false)

@@ -13,7 +13,7 @@ use Rattle.acceptance.specs.AllowedAnswers.{IsWholeBlock}
 use Rattle.acceptance.specs.Strict.{first_child, HasChild}
 use Rattle.script_trim.specs.Cut.{Descends, child, further}
 use Rattle.script_trim.specs.Flags.{flag_of, TellStaying}
-use Rattle.script_trim.proofs.Children.{one_parent}
+use Rattle.block_steps.proofs.ChildNumbers.{one_parent}
 use Rattle.script_trim.proofs.CutLinks.{next_first}
 use Rattle.script_trim.proofs.StayingChildren.{descends_by, there}
 

@@ -2,18 +2,14 @@
 
 ghost use Rattle.std.specs.Prelude.{◌≡◌, ◌↔◌, ◌<◌, ◌≤◌, ℕ, List, [], ◌∷◌, Some, false, IfOk};
 ghost use Rattle.std.specs.Prelude.{IsTrue, Contains, length, map, slice_get};
-ghost use Rattle.clause_core.specs.declared.answers.Children.{Children as ChildrenOf};
 ghost use Rattle.clause_core.specs.declared.clauses.Clause.{Clause as ClauseOf};
-ghost use Rattle.descent.specs.SortedChildren.{IsNode};
-ghost use Rattle.acceptance.specs.Blocks.{StepsMake};
 ghost use Rattle.acceptance.specs.Strict.{first_child};
-ghost use Rattle.inference_rules.specs.declared.nodes.StepError.TheVariants.{OutOfMemory as no_memory};
 ghost use Rattle.inference_rules.specs.Answers.{clauses_of};
 ghost use Rattle.inference_rules.specs.Nodes.{AreNodes};
 ghost use Rattle.script_trim.specs.Fitting.{HasIdentity, OnlyItselfFits};
 ghost use Rattle.script_trim.specs.Kept.{IsKept};
 ghost use Rattle.script_trim.specs.Keys.{key_of};
-ghost use Rattle.script_trim.specs.Placing.{AreTaken, IsPlaced};
+ghost use Rattle.script_trim.specs.Placing.{IsPlaced};
 ghost use Rattle.script_trim.specs.Sharing.{IsAlone};
 ghost use Rattle.script_trim.specs.Trimmed.{proves};
 ghost use Rattle.script_trim.specs.Trying.{AreLemmas};
@@ -26,9 +22,9 @@ use crate::lemmas::Lemmas;
 use crate::lone_nodes::lone_nodes;
 use crate::placing::{ClaimAt, NodeAt};
 use crate::text_bounds::text_length;
-use block_steps::TakenSteps;
-use clause_core::{Clause, Step, is_identity, of_goal};
-use inference_rules::{Node, StepError};
+use block_steps::{TakenSteps, take_steps};
+use clause_core::{Step, is_identity, of_goal};
+use inference_rules::Node;
 use spec_admit::Admitted;
 use spec_core::{Equation, Goal};
 use std::alloc::Global;
@@ -71,41 +67,6 @@ pub(crate) fn kept_block<O: TermOrder>(
         hopeful,
         bytes,
     })
-}
-
-/// Takes the steps, each of which is defined, at the nodes of a block that begins with this clause.
-fn take_steps<O: TermOrder>(
-    alloc: Global,
-    admitted: &Admitted<O>,
-    proved: &[u32],
-    start: Clause,
-    steps: &[Step],
-) -> Result<TakenSteps, OutOfMemory>
-    requires start { IsNode admitted.now.spec.sig start }
-    requires defined { (made : List ChildrenOf) × StepsMake (O.above admitted.now.order)
-        admitted.now.spec (Contains proved.now) (start ∷ []) 0 steps.now made }
-    ensures { IfOk result (AreTaken (O.above admitted.now.order) admitted.now.spec
-        (Contains proved.now) start steps.now) }
-{
-    clause_core::one_relation(&admitted.order);
-    let mut taken = TakenSteps::new(alloc, start)?;
-    for step in steps {
-        match taken.take(alloc, admitted, proved, step) {
-            Ok(()) => {}
-            Err(error) => return Err(want_of_memory(error)),
-        }
-    }
-    Ok(taken)
-}
-
-/// The error of a step that is defined.
-fn want_of_memory(error: StepError) -> OutOfMemory
-    requires { error ≡ no_memory }
-{
-    match error {
-        StepError::OutOfMemory => OutOfMemory,
-        StepError::Why(_) => unreachable!(),
-    }
 }
 
 /// The keys of the nodes.

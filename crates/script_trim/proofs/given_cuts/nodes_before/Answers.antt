@@ -1,7 +1,7 @@
 use Rattle.std.proofs.Common.{◌<◌, ap, refl, arith, length}
 use Rattle.std.proofs.lemmas.Option.{slice_get_read}
 use Rattle.clause_core.specs.declared.answers.Children.{Children}
-use Rattle.script_trim.proofs.Children.{all_children}
+use Rattle.block_steps.proofs.ChildNumbers.{all_children}
 use Rattle.script_trim.proofs.given_cuts.nodes_before.Goals as goal
 
 pub overflow_add-before : goal.overflow_add-before

@@ -13,7 +13,7 @@ use Rattle.acceptance.specs.Blocks.{StepsMake}
 use Rattle.acceptance.specs.Claims.{IsGoalNamed}
 use Rattle.inference_rules.specs.Answers.{clauses_of}
 use Rattle.script_trim.specs.Keys.{key_of}
-use Rattle.script_trim.specs.Placing.{AreTaken}
+use Rattle.block_steps.specs.Taken.{AreTaken}
 use Rattle.script_trim.proofs.KeptBlocks.{all_defined, all_within, before_first, block_kept, claim_range}
 use Rattle.script_trim.proofs.KeptBlocks.{start_node}
 use Rattle.script_trim.proofs.kept_blocks.kept_block.Goals as goal

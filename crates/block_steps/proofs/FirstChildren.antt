@@ -10,7 +10,7 @@ use Rattle.clause_core.specs.declared.clauses.Clause.{Clause}
 use Rattle.acceptance.specs.Blocks.{clauses_of, nodes_of}
 use Rattle.acceptance.specs.Strict.{first_child}
 use Rattle.block_links.specs.Links.{links_of, without_sides}
-use Rattle.script_trim.proofs.Children.{counted, counted_clauses, counted_cons}
+use Rattle.block_steps.proofs.ChildNumbers.{counted, counted_clauses, counted_cons}
 
 -- the nodes that the first steps make are the first nodes
 pub first_nodes :

@@ -1,7 +1,7 @@
 use Rattle.std.proofs.Common.{take}
 use Rattle.std.specs.Prelude.{Contains}
-use Rattle.script_trim.specs.Placing.{AreTaken}
-use Rattle.script_trim.proofs.kept_blocks.take_steps.Given as goal
+use Rattle.block_steps.specs.Taken.{AreTaken}
+use Rattle.block_steps.proofs.whole_blocks.take_steps.Given as goal
 
 abbrev pub invariant-loop-step : goal.invariant-loop-step
 invariant-loop-step g l =

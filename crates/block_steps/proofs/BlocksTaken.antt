@@ -1,10 +1,10 @@
 -- The steps of a block that are taken one after the other, each of which is defined.
-use Rattle.std.proofs.Common.{◌≡◌, ℕ, zero, suc, ◌+◌, ◌<◌, List, [], ◌∷◌, ◌++◌, Some, None, Ok, Err, refl, sym, ◌∙◌}
-use Rattle.std.proofs.Common.{ap, subst, arith, length, take, get_or}
-use Rattle.std.specs.Prelude.{flat_map, slice_get}
+use Rattle.std.proofs.Common.{◌≡◌, ℕ, zero, suc, ◌+◌, ◌<◌, List, [], ◌∷◌, ◌++◌, Option, Some, None, Ok, Err, refl, sym, ◌∙◌}
+use Rattle.std.proofs.Common.{ap, subst, arith, length, map, take, get_or}
+use Rattle.std.specs.Prelude.{◌≤◌, flat_map, option_map, slice_get}
 use Rattle.std.proofs.lemmas.Grind.{flat_map-append}
 use Rattle.std.proofs.lemmas.List.{append-nil, length-map, length-take-le, map-append}
-use Rattle.std.proofs.lemmas.Option.{slice_get_read}
+use Rattle.std.proofs.lemmas.Option.{slice_get-map, slice_get_read}
 use Rattle.term_core.specs.Tree.{Tree}
 use Rattle.term_core.proofs.Items.{taken_next}
 use Rattle.spec_core.specs.declared.records.Spec.{Spec}
@@ -16,19 +16,21 @@ use Rattle.clause_core.specs.declared.steps.Step.{Step}
 use Rattle.clause_core.specs.ClauseLaws.{OneRelation}
 use Rattle.descent.specs.SortedChildren.{IsNode}
 use Rattle.acceptance.specs.Blocks.{clauses_of, nodes_of, StepMakes, StepsMake}
+use Rattle.acceptance.specs.Strict.{first_child}
 use Rattle.acceptance.specs.StepRefusals.{IsRefused}
 use Rattle.acceptance.proofs.Longer.{steps_longer}
 use Rattle.acceptance.proofs.OneBlock.{none_refused}
 use Rattle.acceptance.proofs.WholeBlocks.{as_many}
 use Rattle.block_links.specs.Links.{links_of}
 use Rattle.block_steps.specs.declared.taken_steps.TakenSteps.{TakenSteps}
-use Rattle.block_steps.specs.Taken.{TakesStep}
+use Rattle.block_steps.specs.Taken.{AreTaken, TakesStep}
+use Rattle.block_steps.proofs.ChildNumbers.{all_children, before_children, counted_clauses}
+use Rattle.block_steps.proofs.FirstChildren.{first_by_links, link_of}
 use Rattle.inference_rules.specs.declared.nodes.Node.{Node}
 use Rattle.inference_rules.specs.declared.nodes.StepError.{StepError}
 use Rattle.inference_rules.specs.declared.nodes.StepError.TheVariants.{Why as because, OutOfMemory as no_memory}
 use Rattle.inference_rules.specs.Answers.{clauses_of as clauses_in}
 use Rattle.inference_rules.specs.Nodes.{AreNodes, clauses_made}
-use Rattle.script_trim.specs.Placing.{AreTaken}
 
 pub one_node :
     (above : Tree → Tree → Type 0) (spec : Spec) (c : Clause) → IsNode spec.sig c → AreNodes spec.sig (c ∷ [])
@@ -108,3 +110,55 @@ module _ (above : Tree → Tree → Type 0) (spec : Spec) (usable : ℕ → Type
         TakesStep above spec usable old new step (Err error) → error ≡ no_memory
     only_memory one fine made makes new (because why) refused = absurd (not_refused one fine made makes new why refused)
     only_memory one fine made makes new no_memory refused = refl
+
+  -- the numbers of children in a block that is taken
+  module _ (steps : List Step) (taken : TakenSteps) (t : AreTaken above spec usable start steps taken) where
+    first_is : (k : ℕ) → first_child taken.links.items k ≡ first_child t.made k
+    first_is k = ap (λ ls. first_child ls k) t.links ∙ first_by_links t.made k
+
+    -- what a link without clauses was made from
+    made_at :
+        (k : ℕ) (link : Children) → slice_get taken.links.items k ≡ Some link →
+        (m : Children) × (slice_get t.made k ≡ Some m) × (length link.clauses ≡ length m.clauses)
+    made_at k link at = either (slice_get t.made k) refl
+      where
+        there : option_map links_of (slice_get t.made k) ≡ Some link
+        there = sym (slice_get-map links_of t.made k) ∙ ap (λ ls. slice_get ls k) (sym t.links) ∙ at
+
+        either :
+            (found : Option Children) → slice_get t.made k ≡ found →
+            (m : Children) × (slice_get t.made k ≡ Some m) × (length link.clauses ≡ length m.clauses)
+        either None e = absurd (let q : None ≡ Some link = ap (option_map links_of) (sym e) ∙ there in cc)
+        either (Some m) e =
+            let q : Some (links_of m) ≡ Some link = ap (option_map links_of) (sym e) ∙ there in
+            let same : links_of m ≡ link = cc in
+            (m, e, ap (λ (c : Children). length c.clauses) (sym same) ∙ length-map m.clauses link_of)
+
+    -- a node comes before its first child
+    pub before_first :
+        (k : ℕ) (link : Children) → slice_get taken.links.items k ≡ Some link → k < first_child taken.links.items k
+    before_first k link at =
+        let m = made_at k link at in
+        omega (
+          arith,
+          before_children above spec usable (start ∷ []) 0 steps t.made t.makes k m.0 m.1,
+          first_is k,
+        )
+
+    -- and all its children are nodes
+    pub children_inside :
+        (k : ℕ) (link : Children) → slice_get taken.links.items k ≡ Some link →
+        first_child taken.links.items k + length link.clauses ≤ length taken.nodes.items
+    children_inside k link at =
+        let m = made_at k link at in
+        let nodes : length (clauses_in taken.nodes.items) ≡ length taken.nodes.items =
+        length-map taken.nodes.items (λ (n : Node). n.clause) in
+        omega (
+          arith,
+          all_children t.made k m.0 m.1,
+          m.2,
+          first_is k,
+          counted_clauses t.made,
+          ap length t.nodes,
+          nodes,
+        )

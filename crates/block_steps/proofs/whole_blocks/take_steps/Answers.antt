@@ -1,8 +1,8 @@
 use Rattle.std.specs.Prelude.{Contains}
 use Rattle.spec_core.specs.WellSorted.{IsWellSorted}
 use Rattle.clause_core.specs.ClauseLaws.{OneRelation}
-use Rattle.script_trim.proofs.BlocksTaken.{one_taken, only_memory}
-use Rattle.script_trim.proofs.kept_blocks.take_steps.Goals as goal
+use Rattle.block_steps.proofs.BlocksTaken.{one_taken, only_memory}
+use Rattle.block_steps.proofs.whole_blocks.take_steps.Goals as goal
 
 pub want_of_memory-requires : goal.want_of_memory-requires
 want_of_memory-requires g c =
