@@ -1,0 +1,5 @@
+-- What is left to draw of a tree.
+pub mod Drawing
+pub mod Stack
+pub mod WholeBlocks
+pub mod ShownProofs
