@@ -14,8 +14,8 @@ use Rattle.clause_core.specs.declared.reports.Outcome.{Outcome}
 use Rattle.clause_core.specs.declared.reports.Outcome.TheVariants.{Proved, Refuted, Open}
 use Rattle.acceptance.specs.Claims.{SaysProved}
 use Rattle.search_claims.specs.Claims.{AreClaims}
-use Rattle.spike_cli.specs.declared.statuses.Status.{Status}
-use Rattle.spike_cli.specs.declared.statuses.Status.TheVariants as status
+use Rattle.file_replies.specs.declared.statuses.Status.{Status}
+use Rattle.file_replies.specs.declared.statuses.Status.TheVariants as status
 use Rattle.command_line.specs.declared.bounds.ProofBounds.{ProofBounds}
 use Rattle.spike_cli.specs.Claims.{EachGoal, HasRoutine, IsClaimOn, IsNextClaim, IsOpen, IsOutcomeOf, IsProvable, IsRefutable, IsRefuted, IsStatusOfClaims, IsStatusOfGoals, SomeGoal, SomeOutcome, proved_goals}
 use Rattle.spike_cli.specs.Stops.{joined}

@@ -1,5 +1,5 @@
 -- What each ending of a call says.
-use Rattle.std.proofs.Common.{◌≡◌, ◌≤◌, ℕ, List, Option, inl, inr, refl, sym, subst}
+use Rattle.std.proofs.Common.{◌≡◌, ◌≤◌, ℕ, List, Option, inl, inr, sym, subst}
 use Rattle.std.specs.Prelude.{Result, Ok, Err, OnOk, OnErr, Bool, true, false}
 use Rattle.io_core.specs.Count.{Rose}
 use Rattle.io_core.specs.Piece.{Appended, AppendedPrefix}
@@ -7,55 +7,34 @@ use Rattle.io_core.specs.declared.faults.WriteError.{WriteError}
 use Rattle.io_core.specs.declared.faults.WriteError.TheVariants as write
 use Rattle.spec_core.specs.declared.records.Spec.{Spec}
 use Rattle.spec_grammar.specs.declared.raw.RawSpec.{RawSpec}
-use Rattle.spike_cli.specs.declared.statuses.Status.{Status}
-use Rattle.spike_cli.specs.declared.statuses.Status.TheVariants as status
-use Rattle.spike_cli.specs.declared.stops.Stop.{Stop}
-use Rattle.spike_cli.specs.declared.stops.Stop.TheVariants.{ReadFault, WriteFault, OutOfMemory}
+use Rattle.file_replies.specs.declared.statuses.Status.{Status}
+use Rattle.file_replies.specs.declared.statuses.Status.TheVariants as status
+use Rattle.file_replies.specs.declared.stops.Stop.{Stop}
+use Rattle.file_replies.specs.declared.stops.Stop.TheVariants.{ReadFault, WriteFault, OutOfMemory}
 use Rattle.clause_core.specs.declared.reports.Claim.{Claim}
-use Rattle.clause_core.specs.declared.reports.Report.{Report}
 use Rattle.spike_cli.specs.Claims.{IsStatusOfClaims}
 use Rattle.command_line.specs.Tasks.{Task, checking, refuting, proving, evaluating, replaying, upgrading}
 use Rattle.command_line.specs.Tasks.{trimming, carrying_out, Asks, AsksToLoad}
 use Rattle.spike_cli.specs.Evaluations.{IsEvaluation, valued, spent, refused}
-use Rattle.spike_cli.specs.Reads.{AreTextOf}
-use Rattle.spike_cli.specs.Replays.{IsFileReply, IsReply, IsYesLine, accepted as accepted_report, no_report}
-use Rattle.spike_cli.specs.Replays.{refused as refused_report, replied, too_long_report}
+use Rattle.file_replies.specs.Reads.{AreTextOf}
+use Rattle.spike_cli.specs.Replays.{IsYesLine}
 use Rattle.spike_cli.specs.Trims.{IsTrimmedText}
 use Rattle.spike_cli.specs.Sessions.{IsSession, IsFileSession, carried_out, faulty, for_bytes}
 use Rattle.spike_cli.specs.Sessions.{too_long_commands}
 use Rattle.spike_cli.specs.Sessions.{status_at_end}
-use Rattle.spike_cli.specs.Parts.{AppendsPartOf}
+use Rattle.file_replies.specs.Parts.{AppendsPartOf}
 use Rattle.accepted_spec.specs.Meanings.{IsAcceptedAs}
 use Rattle.accepted_spec.specs.Refusals.{IsRefusalOf}
 use Rattle.accepted_spec.specs.Tellings.{Tells, IsLineOf}
 use Rattle.accepted_spec.specs.declared.refusals.Refusal.{Refusal}
-use Rattle.accepted_spec.specs.declared.refusals.Refusal.TheVariants.{Line, OutOfMemory as NoMemory}
 use Rattle.spike_cli.specs.Runs.{IsEnd, MayWriteOn, MayWriteFor, refusal, on_spec, Ended, RefusedBytes}
 use Rattle.spike_cli.specs.Runs.{ReadsFile, MayWrite, for_file, for_load, Means}
-use Rattle.spike_cli.specs.Stops.{Finishes, FinishesReading, Refuses, MeansFor, status_ended, status_of}
-use Rattle.spike_cli.specs.Stops.{status_of_stop}
+use Rattle.file_replies.specs.Stops.{Finishes, FinishesReading, Refuses, status_ended, status_of, status_of_stop}
+use Rattle.spike_cli.specs.Stops.{MeansFor}
 use Rattle.spike_cli.specs.Loads.{IsLoad}
 use Rattle.io_core.proofs.Counts.{Rose-after}
-use Rattle.spike_cli.proofs.Pieces.{part_of}
-
--- a line that was to be written whole
-module _ (Holds : Status → Type 0) (IsText : List ℕ → Type 0) (old new : Option (List ℕ)) (writes writes' : ℕ) (at_fault : Rose writes writes' → AppendsPartOf IsText old new → Holds status.WriteFault) (at_memory : AppendsPartOf IsText old new → Holds status.OutOfMemory) where
-  pub line_ends : (s result : Status) (line : List ℕ) → IsText line → (Appended old new line → Holds s) → (wrote : Result Unit WriteError) → OnOk wrote (Appended old new line) → OnErr wrote (AppendedPrefix old new line) → (wrote ≡ Err write.Failed → Rose writes writes') → result ≡ status_ended s wrote → Holds result
-  line_ends s result line may done wrote ok err failed e = subst Holds (sym e) (by wrote ok err failed)
-    where
-      by : (wrote : Result Unit WriteError) → OnOk wrote (Appended old new line) → OnErr wrote (AppendedPrefix old new line) → (wrote ≡ Err write.Failed → Rose writes writes') → Holds (status_ended s wrote)
-      by (Ok u) ok err failed = done ok
-      by (Err write.Failed) ok err failed = at_fault (failed refl) (inr (line, may, err))
-      by (Err write.OutOfMemory) ok err failed = at_memory (inr (line, may, err))
-
--- the same for a refusal, for the bytes of a file, and for a call
-pub line_refuses : (IsText : List ℕ → Type 0) (line : List ℕ) (old new : Option (List ℕ)) (writes writes' : ℕ) (result : Status) → IsText line → (wrote : Result Unit WriteError) → OnOk wrote (Appended old new line) → OnErr wrote (AppendedPrefix old new line) → (wrote ≡ Err write.Failed → Rose writes writes') → result ≡ status_ended status.Refused wrote → Refuses IsText old new writes writes' result
-line_refuses IsText line old new writes writes' result is wrote ok err failed e = line_ends (Refuses IsText old new writes writes') IsText old new writes writes' (λ r p. (r, p)) (λ p. p) status.Refused result line is (λ a. (line, is, a)) wrote ok err failed e
-
--- the line that a refusal has is one of those that it tells
-pub line_told : (IsLine : List ℕ → Type 0) (r : Refusal) → Tells IsLine r → (text : List ℕ) → IsLineOf r text → IsLine text
-line_told IsLine (Line line) h text is = subst IsLine (sym is) h
-line_told IsLine NoMemory h text is = absurd is
+use Rattle.file_replies.proofs.Endings.{IsStatusOfReply, line_ends, line_told, status_of_reply}
+use Rattle.file_replies.proofs.Pieces.{part_of}
 
 -- a status with which no task ends
 abbrev IsNoEnd : Status → Type 0
@@ -64,6 +43,17 @@ IsNoEnd status.WriteFault = Unit {0}
 IsNoEnd status.Usage = Unit {0}
 IsNoEnd status.OutOfMemory = Unit {0}
 IsNoEnd _ = ⊥
+
+no_reply_end : (s : Status) → IsNoEnd s → IsStatusOfReply s → ⊥
+no_reply_end status.Done n is = n
+no_reply_end status.Refuted n is = n
+no_reply_end status.Open n is = n
+no_reply_end status.Refused n is = n
+no_reply_end status.No n is = n
+no_reply_end status.ReadFault n is = is
+no_reply_end status.WriteFault n is = is
+no_reply_end status.Usage n is = is
+no_reply_end status.OutOfMemory n is = is
 
 no_evaluation : (spec : Spec) (term : List ℕ) (steps : ℕ) (text : List ℕ) (s : Status) → IsNoEnd s → IsEvaluation spec term steps text s → ⊥
 no_evaluation spec term steps text s n (valued t v k stands gives within) = n
@@ -80,18 +70,6 @@ no_claims claims status.Done n h = n
 no_claims claims status.Refuted n h = n
 no_claims claims status.Open n h = n
 no_claims claims status.Refused n h = n
-
-module _ (IsYes : Spec → Report → List ℕ → Type 0) (spec : Spec) where
-  no_reply : (bytes text : List ℕ) (s : Status) → IsNoEnd s → IsReply IsYes spec bytes text s → ⊥
-  no_reply bytes text s n (accepted_report report is ok right said) = n
-  no_reply bytes text s n (no_report line fault) = n
-  no_reply bytes text s n (refused_report report line why is first) = n
-
-  no_file_reply :
-      (held : Option (List ℕ)) (text : List ℕ) (s : Status) → IsNoEnd s →
-      IsFileReply IsYes spec held text s → ⊥
-  no_file_reply held text s n (replied bytes read is) = no_reply bytes text s n is
-  no_file_reply held text s n (too_long_report long) = n
 
 module _ (spec : Spec) where
   no_status_at_end : (is_open : Bool) → IsNoEnd (status_at_end is_open) → ⊥
@@ -112,9 +90,9 @@ no_end held (checking print) raw spec text s n is = subst (λ (u : Status). IsNo
 no_end held (refuting search) raw spec text s n is = no_claims is.claims s n is.answers
 no_end held (proving bounds) raw spec text s n is = no_claims is.claims s n is.answers
 no_end held (evaluating term steps) raw spec text s n is = no_evaluation spec term steps text s n is
-no_end held (replaying report) raw spec text s n is = no_file_reply IsYesLine spec (held report) text s n is
+no_end held (replaying report) raw spec text s n is = no_reply_end s n (status_of_reply IsYesLine spec (held report) text s is)
 no_end held upgrading raw spec text s n is = subst (λ (u : Status). IsNoEnd u) is.1 n
-no_end held (trimming report) raw spec text s n is = no_file_reply IsTrimmedText spec (held report) text s n is
+no_end held (trimming report) raw spec text s n is = no_reply_end s n (status_of_reply IsTrimmedText spec (held report) text s is)
 no_end held (carrying_out path) raw spec text s n is = no_file_session spec (held path) text s n is
 
 module _ (held : List ℕ → Option (List ℕ)) (task : Task) (bytes : List ℕ) (reads reads' : ℕ) (old new : Option (List ℕ)) (writes writes' : ℕ) where

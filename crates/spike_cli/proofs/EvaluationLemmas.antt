@@ -12,8 +12,8 @@ use Rattle.spec_order.specs.Orders.{above_of}
 use Rattle.clause_core.specs.Admitted.{IsAdmitted}
 use Rattle.spec_core.proofs.Keeps.{keeps}
 use Rattle.accepted_spec.specs.declared.refusals.Refusal.{Refusal}
-use Rattle.spike_cli.specs.declared.statuses.Status.{Status}
-use Rattle.spike_cli.specs.declared.statuses.Status.TheVariants as status
+use Rattle.file_replies.specs.declared.statuses.Status.{Status}
+use Rattle.file_replies.specs.declared.statuses.Status.TheVariants as status
 use Rattle.accepted_spec.specs.Refusals.{IsTermRefusal}
 use Rattle.std.specs.Prelude.{Result, Ok, Err, IfOk, codes, if◌then◌else◌}
 use Rattle.refuter.proofs.Numbers.{le_true, le_false}
@@ -21,12 +21,12 @@ use Rattle.ground_eval.specs.Evals.{IsEval}
 use Rattle.ground_eval.specs.declared.answers.Eval.{Eval}
 use Rattle.ground_eval.specs.declared.answers.Eval.TheVariants.{Value, Large, Spent}
 use Rattle.term_core.specs.declared.memory.OutOfMemory.{OutOfMemory}
-use Rattle.spike_cli.specs.declared.statuses.Ending.{Ending}
+use Rattle.file_replies.specs.declared.statuses.Ending.{Ending}
 use Rattle.accepted_spec.specs.Meanings.{TermTextStandsFor}
 use Rattle.spike_cli.specs.Evaluations.{IsEvaluation, value_text, lines_with, spent_line, valued, spent, refused}
 use Rattle.accepted_spec.specs.Tellings.{Tells, IsLineOf}
 use Rattle.accepted_spec.proofs.SymbolsInRange.{sorted_in_range}
-use Rattle.spike_cli.proofs.Endings.{line_told}
+use Rattle.file_replies.proofs.Endings.{line_told}
 
 -- a value has symbols of the signature
 pub value_printable : (spec : Spec) (t v : Tree) (n : ℕ) → IsWellSorted spec → (s : SortId) × Sorted spec.sig [] t s → Gives spec t v n → SymbolsAreInRange spec.sig v

@@ -10,12 +10,13 @@ use Rattle.proof_script.specs.Texts.{IsReportText}
 use Rattle.acceptance.specs.Accepting.{IsAccepted}
 use Rattle.soundness.specs.ReportTruth.{ReportIsTrue}
 use Rattle.search_claims.specs.Claims.{report_of}
-use Rattle.spike_cli.specs.Reads.{most_report_bytes}
-use Rattle.spike_cli.specs.declared.statuses.Status.{Status}
-use Rattle.spike_cli.specs.declared.statuses.Status.TheVariants.{Done}
+use Rattle.file_replies.specs.Reads.{most_report_bytes}
+use Rattle.file_replies.specs.declared.statuses.Status.{Status}
+use Rattle.file_replies.specs.declared.statuses.Status.TheVariants.{Done}
 use Rattle.spike_cli.specs.FinishedReports.{FinishedReportsAreAccepted, IsAnsweredByYes}
 use Rattle.spike_cli.specs.Outcomes.{OneReplay}
-use Rattle.spike_cli.specs.Replays.{IsReplay, IsFileReplay, accepted, replied, too_long_report}
+use Rattle.spike_cli.specs.Replays.{IsReplay, IsFileReplay}
+use Rattle.file_replies.specs.Replies.{accepted, replied, too_long_report}
 use Rattle.reply_lines.specs.Lines.{yes_line}
 
 module _ (one : OneReplay) (spec : Spec) (fine : IsWellSorted spec) (bytes line : List ℕ) (yes : IsReplay spec bytes line Done) (short : length bytes ≤ most_report_bytes) where

@@ -1,4 +1,4 @@
-pub mod Pieces
+pub mod BegunTexts
 pub mod ProvedGoals
 pub mod ClaimLemmas
 pub mod TrueClaims
@@ -26,6 +26,3 @@ pub mod LoadLengths
 pub mod LoadedGoals
 pub mod OneLoad
 pub mod TasksWithin
-pub mod NamesOfTexts
-pub mod StandingNames
-pub mod Reported

@@ -15,7 +15,7 @@ use Rattle.command_line.specs.Usual.{usual_bounds}
 use Rattle.reply_lines.specs.Lines.{load_lines}
 use Rattle.search_claims.specs.Claims.{report_of}
 use Rattle.spec_grammar.specs.declared.raw.RawSpec.{RawSpec}
-use Rattle.spike_cli.specs.declared.statuses.Status.TheVariants.{Done, No}
+use Rattle.file_replies.specs.declared.statuses.Status.TheVariants.{Done, No}
 use Rattle.spike_cli.specs.Loads.{IsLoad, SomeReport}
 use Rattle.accepted_spec.specs.Meanings.{IsAcceptedAs}
 use Rattle.spike_cli.specs.Outcomes.{OneEnding, OneReplay}

@@ -13,12 +13,10 @@ use Rattle.spec_grammar.specs.Grammar.{IsSpecText, IsTermText}
 use Rattle.spec_grammar.specs.Symbols.{spec_symbols, term_symbols}
 use Rattle.spec_grammar.proofs.Agrees.{spec_agrees, term_text_agrees}
 use Rattle.spec_grammar.proofs.Means.{spec_means, term_means}
-use Rattle.spec_grammar.proofs.KeepsLimits.{keeps_limits}
 use Rattle.spec_grammar.proofs.Unique.{one_spec as one_spec_text, one_term_text as one_raw_term}
 use Rattle.sort_check.specs.StandsFor.{StandsFor, TermStandsFor}
 use Rattle.sort_check.specs.FirstFault.{spec_tests, ground_tests}
 use Rattle.sort_check.proofs.OneSpec.{one_spec}
-use Rattle.sort_check.proofs.WellSortedSpecs.{stands_well_sorted}
 use Rattle.sort_check.proofs.Names.{symbols_distinct}
 use Rattle.sort_check.proofs.OneTerm.{one_term}
 use Rattle.spec_order.specs.Orders.{above_of}
@@ -30,6 +28,7 @@ use Rattle.accepted_spec.specs.AdmitLines.{IsAdmitLine}
 use Rattle.accepted_spec.specs.declared.refusals.Subject.TheVariants.{File, Term}
 use Rattle.accepted_spec.specs.Meanings.{TextStandsFor, IsAcceptedAs, TermTextStandsFor}
 use Rattle.accepted_spec.specs.Refusals.{IsTextRefusal, IsRefusalOf, no_specification, not_admitted, IsTermRefusal}
+use Rattle.file_replies.proofs.Reported.{well_sorted_meaning}
 use Rattle.spike_cli.proofs.OneText.{one_raw, taken_or_refused, same_refusal}
 
 same_raw : (bytes : List ℕ) (raw other : RawSpec) → TextDerives IsSpecText bytes raw → TextDerives IsSpecText bytes other → raw ≡ other
@@ -64,9 +63,6 @@ one_admit_line sig (Overlap first second values) line other a b = a ∙ sym b
 one_admit_line sig (Guards rule) line other a b = a ∙ sym b
 one_admit_line sig (Coverage f values) line other a b = a ∙ sym b
 one_admit_line sig OutOfMemory line other a b = absurd a
-
-pub well_sorted_meaning : (bytes : List ℕ) (spec : Spec) → TextStandsFor bytes spec → IsWellSorted spec
-well_sorted_meaning bytes spec a = stands_well_sorted a.0 spec (keeps_limits bytes a.0 a.1) a.2
 
 module _ (one : (spec : Spec) → OneFault (above_of spec)) where
   same_admit_line :

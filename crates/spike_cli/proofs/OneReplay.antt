@@ -14,10 +14,11 @@ use Rattle.acceptance.specs.Accepting.{IsAccepted}
 use Rattle.acceptance.specs.Laws.{OneVerdict}
 use Rattle.acceptance.specs.Refusals.{IsFirstRefusal}
 use Rattle.script_trim.proofs.FirstCuts.{reports_one}
-use Rattle.spike_cli.specs.declared.statuses.Status.{Status}
-use Rattle.spike_cli.specs.declared.statuses.Status.TheVariants as status
+use Rattle.file_replies.specs.declared.statuses.Status.{Status}
+use Rattle.file_replies.specs.declared.statuses.Status.TheVariants as status
 use Rattle.spike_cli.specs.Outcomes.{OneReply}
-use Rattle.spike_cli.specs.Replays.{IsReply, IsYesLine, accepted, no_report, refused}
+use Rattle.file_replies.specs.Replies.{IsReply, accepted, no_report, refused}
+use Rattle.spike_cli.specs.Replays.{IsYesLine}
 use Rattle.spike_cli.specs.Trims.{IsTrimmedText}
 use Rattle.reply_lines.specs.Lines.{no_line, why_text}
 

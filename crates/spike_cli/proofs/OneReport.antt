@@ -21,14 +21,15 @@ use Rattle.proof_script.specs.Words.{lines_text}
 use Rattle.proof_script.specs.Claims.{claim_text, claims_text, header_lines, report_text}
 use Rattle.routine_proof.specs.Laws.{OneProof}
 use Rattle.search_claims.specs.Claims.{AreClaims, AreFirstClaims, report_of}
-use Rattle.spike_cli.specs.declared.statuses.Status.{Status}
-use Rattle.spike_cli.specs.declared.statuses.Status.TheVariants.{Done, Refuted, Open}
+use Rattle.file_replies.specs.declared.statuses.Status.{Status}
+use Rattle.file_replies.specs.declared.statuses.Status.TheVariants.{Done, Refuted, Open}
 use Rattle.spike_cli.specs.Claims.{IsNextClaim, IsStatusOfClaims, IsUnrefuted, number_proved}
 use Rattle.spike_cli.specs.OneReport.{OneRightReport}
-use Rattle.spike_cli.specs.Parts.{AppendsPartOf}
+use Rattle.file_replies.specs.Parts.{AppendsPartOf}
 use Rattle.spike_cli.specs.Reports.{BeginsReport, IsReport, begun, begun_text, whole}
 use Rattle.spike_cli.proofs.OneReportClaims.{SeesOneProof, SeesProved, begun_seen, whole_seen}
-use Rattle.spike_cli.proofs.Pieces.{begun_text-whole, nothing_appended}
+use Rattle.spike_cli.proofs.BegunTexts.{begun_text-whole}
+use Rattle.file_replies.proofs.Pieces.{nothing_appended}
 
 -- claims have one status
 one_status :

@@ -9,7 +9,7 @@ use Rattle.clause_core.proofs.OneRelation.{one_relation}
 use Rattle.session_core.specs.Laws.{OneReading}
 use Rattle.session_core.specs.SessionText.{IsSessionText}
 use Rattle.session_core.proofs.OneText.{text_one}
-use Rattle.spike_cli.specs.declared.statuses.Status.{Status}
+use Rattle.file_replies.specs.declared.statuses.Status.{Status}
 use Rattle.spike_cli.specs.Outcomes.{OneSession}
 use Rattle.spike_cli.specs.Sessions.{IsSession, carried_out, faulty, faulty_command_line, status_at_end}
 

@@ -8,9 +8,9 @@ use Rattle.spec_grammar.specs.declared.raw.RawSpec.{RawSpec}
 use Rattle.command_line.specs.Laws.{OneRequest}
 use Rattle.command_line.specs.Tasks.{Task, replaying, Asks}
 use Rattle.accepted_spec.specs.Meanings.{IsAcceptedAs}
-use Rattle.spike_cli.specs.Reads.{AreTextOf, PassesItsLimit}
-use Rattle.spike_cli.specs.declared.statuses.Status.{Status}
-use Rattle.spike_cli.specs.declared.statuses.Status.TheVariants.{Done, Refuted, Open, Refused, No, ReadFault, WriteFault, Usage, OutOfMemory}
+use Rattle.file_replies.specs.Reads.{AreTextOf, PassesItsLimit}
+use Rattle.file_replies.specs.declared.statuses.Status.{Status}
+use Rattle.file_replies.specs.declared.statuses.Status.TheVariants.{Done, Refuted, Open, Refused, No, ReadFault, WriteFault, Usage, OutOfMemory}
 use Rattle.spike_cli.specs.Outcomes.{OneEnding}
 use Rattle.spike_cli.specs.Replays.{IsFileReplay}
 use Rattle.spike_cli.specs.Runs.{Ended, RefusedBytes, ReadsFile, Means}

@@ -40,7 +40,8 @@ use Rattle.search_claims.proofs.InRange.{OutcomeIsInRange, refuted_in_range, ope
 use Rattle.search_claims.proofs.OutcomesStand.{MayStand, refuted_stands, open_stands, tried_few, claim_stands}
 use Rattle.command_line.specs.declared.bounds.ProofBounds.{ProofBounds}
 use Rattle.spike_cli.specs.Claims.{IsClaimOn, IsNextClaim, IsOutcomeOf, IsUnrefuted, budget_of, proved_goals}
-use Rattle.spike_cli.specs.Within.{AreWithin, HasReports}
+use Rattle.spike_cli.specs.Within.{AreWithin}
+use Rattle.file_replies.specs.Reported.{HasReports}
 use Rattle.spike_cli.proofs.ProvedGoals.{first_item}
 
 module _ (sig : Sig) where

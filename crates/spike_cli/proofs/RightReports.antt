@@ -17,7 +17,7 @@ use Rattle.session_core.proofs.Sound.{states_sound}
 use Rattle.session_core.proofs.WrittenReports.{written_report_stands}
 use Rattle.soundness.specs.AcceptedAreTrue.{AcceptedAreTrue}
 use Rattle.spike_cli.specs.Sessions.{IsRightReport}
-use Rattle.spike_cli.specs.Within.{HasReports}
+use Rattle.file_replies.specs.Reported.{HasReports}
 use Rattle.spike_cli.proofs.TrimmedReports.{text_short}
 
 pub right_report :

@@ -16,11 +16,11 @@ use Rattle.proof_script.specs.Claims.{report_text}
 use Rattle.reply_lines.specs.Lines.{yes_line}
 use Rattle.session_core.specs.Sound.{report_of}
 use Rattle.accepted_spec.specs.Meanings.{IsAcceptedAs}
-use Rattle.spike_cli.specs.declared.statuses.Status.{Status}
-use Rattle.spike_cli.specs.declared.statuses.Status.TheVariants.{Done, Refuted, Open, Refused, No}
-use Rattle.spike_cli.specs.declared.statuses.Status.TheVariants.{ReadFault, WriteFault, Usage, OutOfMemory}
-use Rattle.spike_cli.specs.Replays.{accepted as accepted_report, no_report, refused as refused_report}
-use Rattle.spike_cli.specs.Replays.{replied, too_long_report}
+use Rattle.file_replies.specs.declared.statuses.Status.{Status}
+use Rattle.file_replies.specs.declared.statuses.Status.TheVariants.{Done, Refuted, Open, Refused, No}
+use Rattle.file_replies.specs.declared.statuses.Status.TheVariants.{ReadFault, WriteFault, Usage, OutOfMemory}
+use Rattle.file_replies.specs.Replies.{accepted as accepted_report, no_report, refused as refused_report}
+use Rattle.file_replies.specs.Replies.{replied, too_long_report}
 use Rattle.spike_cli.specs.Reports.{search_alone}
 use Rattle.spike_cli.specs.Trims.{IsFileTrim}
 use Rattle.spike_cli.specs.Sessions.{IsFileSession, carried_out, faulty, for_bytes, too_long_commands}
@@ -29,7 +29,7 @@ use Rattle.spike_cli.specs.Outcomes.{OneEnding}
 use Rattle.spike_cli.specs.Runs.{IsEnd, Ended, Means}
 use Rattle.spike_cli.specs.RunsTwice.{IsFinished, IsByHand, IsReplayed, WritesReport, FinishedRun}
 use Rattle.spike_cli.specs.RunsTwice.{FinishedRunsAreReplayed}
-use Rattle.spike_cli.proofs.OneEnding.{well_sorted_meaning}
+use Rattle.file_replies.proofs.Reported.{well_sorted_meaning}
 use Rattle.spike_cli.proofs.ReplayRuns.{of_file, replay_ends, replay_told}
 
 -- this is so of a text on the specification that the bytes stand for

@@ -17,7 +17,7 @@ use Rattle.search_claims.proofs.Bytes.{line_bytes}
 use Rattle.search_claims.specs.Names.{GoalNamesStand}
 use Rattle.soundness.specs.AcceptedAreTrue.{AcceptedAreTrue}
 use Rattle.spike_cli.specs.Trims.{IsTrimmedText}
-use Rattle.spike_cli.specs.Within.{HasReports}
+use Rattle.file_replies.specs.Reported.{HasReports}
 use Rattle.spike_cli.proofs.FewClaims.{few_claims}
 use Rattle.spike_cli.proofs.ReportedClaims.{header_bytes}
 

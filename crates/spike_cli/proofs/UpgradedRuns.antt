@@ -12,13 +12,14 @@ use Rattle.spec_printing.specs.Printed.{printed}
 use Rattle.spec_printing.specs.Upgraded.{upgraded}
 use Rattle.command_line.specs.Laws.{OneRequest}
 use Rattle.accepted_spec.specs.Meanings.{IsAcceptedAs}
-use Rattle.spike_cli.specs.declared.statuses.Status.{Status}
-use Rattle.spike_cli.specs.Reads.{most_report_bytes, AreBytesOf, IsLonger}
+use Rattle.file_replies.specs.declared.statuses.Status.{Status}
+use Rattle.file_replies.specs.Reads.{most_report_bytes, AreBytesOf, IsLonger}
 use Rattle.spike_cli.specs.Outcomes.{OneEnding, OneReplay}
-use Rattle.spike_cli.specs.Replays.{IsReplay, IsFileReplay, replied, too_long_report}
+use Rattle.spike_cli.specs.Replays.{IsReplay, IsFileReplay}
+use Rattle.file_replies.specs.Replies.{replied, too_long_report}
 use Rattle.spike_cli.specs.UpgradedRuns.{ReplayRun, UpgradedRunsAnswerTheSame}
 use Rattle.spike_cli.specs.Upgrades.{UpgradesKeepMeaning}
-use Rattle.spike_cli.proofs.OneEnding.{well_sorted_meaning}
+use Rattle.file_replies.proofs.Reported.{well_sorted_meaning}
 use Rattle.spike_cli.proofs.ReplayRuns.{replay_ends, replay_told}
 
 -- the limits of both formats

@@ -22,8 +22,8 @@ use Rattle.plain_blocks.specs.Plain.{IsFirstBlock}
 use Rattle.routine_proof.specs.Routine.{Start, starts, IsProof, IsFirstProof}
 use Rattle.search_claims.specs.Claims.{named}
 use Rattle.soundness.specs.ReportTruth.{OutcomeIsTrue}
-use Rattle.spike_cli.specs.declared.statuses.Status.{Status}
-use Rattle.spike_cli.specs.declared.statuses.Status.TheVariants as status
+use Rattle.file_replies.specs.declared.statuses.Status.{Status}
+use Rattle.file_replies.specs.declared.statuses.Status.TheVariants as status
 use Rattle.command_line.specs.declared.bounds.ProofBounds.{ProofBounds}
 
 -- how far a goal that is left open was tried

@@ -6,8 +6,8 @@ use Rattle.spec_core.specs.declared.records.Spec.{Spec}
 use Rattle.spec_core.specs.Sig.{Sig}
 use Rattle.spec_core.specs.TermText.{term_text}
 use Rattle.spec_core.specs.Gives.{Gives}
-use Rattle.spike_cli.specs.declared.statuses.Status.{Status}
-use Rattle.spike_cli.specs.declared.statuses.Status.TheVariants.{Done, Open, Refused}
+use Rattle.file_replies.specs.declared.statuses.Status.{Status}
+use Rattle.file_replies.specs.declared.statuses.Status.TheVariants.{Done, Open, Refused}
 use Rattle.accepted_spec.specs.Meanings.{TermTextStandsFor}
 use Rattle.accepted_spec.specs.Refusals.{IsTermRefusal}
 

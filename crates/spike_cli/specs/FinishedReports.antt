@@ -5,8 +5,8 @@ use Rattle.spec_core.specs.WellSorted.{IsWellSorted}
 use Rattle.clause_core.specs.declared.reports.Claim.{Claim}
 use Rattle.clause_core.specs.declared.reports.Report.{Report}
 use Rattle.command_line.specs.declared.bounds.ProofBounds.{ProofBounds}
-use Rattle.spike_cli.specs.declared.statuses.Status.{Status}
-use Rattle.spike_cli.specs.declared.statuses.Status.TheVariants.{Done}
+use Rattle.file_replies.specs.declared.statuses.Status.{Status}
+use Rattle.file_replies.specs.declared.statuses.Status.TheVariants.{Done}
 use Rattle.spike_cli.specs.Replays.{IsFileReplay}
 use Rattle.spike_cli.specs.Trims.{IsTrimmedText}
 use Rattle.spike_cli.specs.Sessions.{IsRightReport}

@@ -1,7 +1,6 @@
 -- What the program promises, in the order in which to read it.
 pub mod Claims
 pub mod Checks
-pub mod Reads
 pub mod Reports
 pub mod SearchAlone
 pub mod Evaluations
@@ -11,13 +10,11 @@ pub mod Sessions
 pub mod FinishedReports
 pub mod Loads
 pub mod Upgrades
-pub mod Parts
 pub mod OneReport
 pub mod Runs
 pub mod RunsTwice
 pub mod UpgradedRuns
 pub mod Outcomes
-pub mod Codes
 -- What only this crate's own contracts speak of.
 pub mod Within
 pub mod Lemmas

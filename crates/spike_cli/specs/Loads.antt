@@ -4,7 +4,7 @@ use Rattle.spec_core.specs.declared.records.Spec.{Spec}
 use Rattle.command_line.specs.Usual.{usual_bounds}
 use Rattle.load_text.specs.LoadSpec.{load_spec}
 use Rattle.reply_lines.specs.Lines.{load_lines}
-use Rattle.spike_cli.specs.declared.statuses.Status.{Status}
+use Rattle.file_replies.specs.declared.statuses.Status.{Status}
 use Rattle.spike_cli.specs.Reports.{IsReport}
 
 -- how many claims of each kind the report of the generated goals has, with the usual bounds, and

@@ -5,8 +5,8 @@ use Rattle.io_core.specs.Piece.{AppendedPrefix}
 use Rattle.spec_core.specs.declared.records.Spec.{Spec}
 use Rattle.spec_core.specs.WellSorted.{IsWellSorted}
 use Rattle.command_line.specs.declared.bounds.ProofBounds.{ProofBounds}
-use Rattle.spike_cli.specs.declared.statuses.Status.{Status}
-use Rattle.spike_cli.specs.Parts.{AppendsPartOf}
+use Rattle.file_replies.specs.declared.statuses.Status.{Status}
+use Rattle.file_replies.specs.Parts.{AppendsPartOf}
 use Rattle.spike_cli.specs.Reports.{BeginsReport, IsReport}
 
 -- the text and the status are the only report of the specification with these bounds

@@ -10,11 +10,12 @@ use Rattle.spec_order.specs.Orders.{above_of}
 use Rattle.clause_core.specs.declared.reports.Report.{Report}
 use Rattle.proof_script.specs.Texts.{IsReportText}
 use Rattle.acceptance.specs.Accepting.{IsAccepted}
-use Rattle.spike_cli.specs.declared.statuses.Status.{Status}
-use Rattle.spike_cli.specs.declared.statuses.Status.TheVariants.{Done}
+use Rattle.file_replies.specs.declared.statuses.Status.{Status}
+use Rattle.file_replies.specs.declared.statuses.Status.TheVariants.{Done}
 use Rattle.accepted_spec.specs.Meanings.{IsAcceptedAs, TermTextStandsFor}
 use Rattle.accepted_spec.specs.Refusals.{IsRefusalOf, IsTermRefusal}
-use Rattle.spike_cli.specs.Replays.{IsReply, IsYesLine}
+use Rattle.file_replies.specs.Replies.{IsReply}
+use Rattle.spike_cli.specs.Replays.{IsYesLine}
 use Rattle.spike_cli.specs.Trims.{IsTrimmedText}
 use Rattle.spike_cli.specs.Sessions.{IsSession}
 

@@ -12,8 +12,8 @@ use Rattle.search_claims.specs.Claims.{AreClaims, AreFirstClaims, report_of}
 use Rattle.soundness.specs.ReportTruth.{ReportIsTrue}
 use Rattle.command_line.specs.declared.bounds.ProofBounds.{ProofBounds}
 use Rattle.command_line.specs.declared.bounds.SearchBounds.{SearchBounds}
-use Rattle.spike_cli.specs.declared.statuses.Status.{Status}
-use Rattle.spike_cli.specs.Reads.{most_report_bytes}
+use Rattle.file_replies.specs.declared.statuses.Status.{Status}
+use Rattle.file_replies.specs.Reads.{most_report_bytes}
 use Rattle.spike_cli.specs.Claims.{IsNextClaim, IsStatusOfClaims, IsStatusOfGoals}
 
 -- a search for counterexamples that goes so far, and no proof

@@ -4,14 +4,14 @@ use Rattle.spec_core.specs.declared.records.Spec.{Spec}
 use Rattle.spec_grammar.specs.declared.raw.RawSpec.{RawSpec}
 use Rattle.io_core.specs.Count.{Rose}
 use Rattle.io_core.specs.Piece.{Appended}
-use Rattle.spike_cli.specs.declared.statuses.Status.{Status}
-use Rattle.spike_cli.specs.declared.statuses.Status.TheVariants.{Done, Refuted, Open, Refused, No}
-use Rattle.spike_cli.specs.declared.statuses.Status.TheVariants.{ReadFault, WriteFault, Usage, OutOfMemory}
-use Rattle.spike_cli.specs.Parts.{AppendsPartOf}
+use Rattle.file_replies.specs.declared.statuses.Status.{Status}
+use Rattle.file_replies.specs.declared.statuses.Status.TheVariants.{Done, Refuted, Open, Refused, No}
+use Rattle.file_replies.specs.declared.statuses.Status.TheVariants.{ReadFault, WriteFault, Usage, OutOfMemory}
+use Rattle.file_replies.specs.Parts.{AppendsPartOf}
 use Rattle.command_line.specs.Tasks.{Task, checking, refuting, proving, evaluating, replaying, upgrading}
 use Rattle.command_line.specs.Tasks.{trimming, carrying_out, Asks, AsksToLoad, AskNothing}
 use Rattle.command_line.specs.Usage.{usage_line}
-use Rattle.spike_cli.specs.Reads.{AreTextOf, PassesItsLimit}
+use Rattle.file_replies.specs.Reads.{AreTextOf, PassesItsLimit}
 use Rattle.accepted_spec.specs.Meanings.{IsAccepted, IsAcceptedAs}
 use Rattle.accepted_spec.specs.Refusals.{IsRefusalOf}
 use Rattle.spike_cli.specs.Checks.{check_text, IsCheck}

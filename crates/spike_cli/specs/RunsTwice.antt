@@ -6,8 +6,8 @@ use Rattle.clause_core.specs.declared.reports.Claim.{Claim}
 use Rattle.command_line.specs.Tasks.{Task, checking, refuting, proving, evaluating, replaying, trimming}
 use Rattle.command_line.specs.Tasks.{carrying_out, Asks}
 use Rattle.reply_lines.specs.Lines.{yes_line}
-use Rattle.spike_cli.specs.declared.statuses.Status.{Status}
-use Rattle.spike_cli.specs.declared.statuses.Status.TheVariants.{Done, Refuted, Open, OutOfMemory}
+use Rattle.file_replies.specs.declared.statuses.Status.{Status}
+use Rattle.file_replies.specs.declared.statuses.Status.TheVariants.{Done, Refuted, Open, OutOfMemory}
 use Rattle.spike_cli.specs.Runs.{Means}
 
 -- the status of a call that finished

@@ -7,7 +7,7 @@ use Rattle.clause_core.specs.declared.reports.Claim.{Claim}
 use Rattle.plain_proof.specs.FirstPlain.{HasPlain}
 use Rattle.search_claims.specs.Claims.{IsClaimOn as IsClaimOfSearch}
 use Rattle.command_line.specs.declared.bounds.SearchBounds.{SearchBounds}
-use Rattle.spike_cli.specs.declared.statuses.Status.TheVariants.{Open, Done}
+use Rattle.file_replies.specs.declared.statuses.Status.TheVariants.{Open, Done}
 use Rattle.spike_cli.specs.Claims.{HasRoutine, IsClaimOn, IsStatusOfGoals, SomeRefutable}
 use Rattle.spike_cli.specs.Reports.{search_alone}
 

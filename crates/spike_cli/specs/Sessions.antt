@@ -12,9 +12,9 @@ use Rattle.session_core.specs.declared.commands.Command.{Command}
 use Rattle.session_core.specs.CommandText.{AreCommands, IsFaultyCommand}
 use Rattle.session_core.specs.SessionText.{IsSessionText}
 use Rattle.session_core.specs.Sound.{report_of}
-use Rattle.spike_cli.specs.declared.statuses.Status.{Status}
-use Rattle.spike_cli.specs.declared.statuses.Status.TheVariants as status
-use Rattle.spike_cli.specs.Reads.{most_report_bytes, AreBytesOf, IsLonger}
+use Rattle.file_replies.specs.declared.statuses.Status.{Status}
+use Rattle.file_replies.specs.declared.statuses.Status.TheVariants as status
+use Rattle.file_replies.specs.Reads.{most_report_bytes, AreBytesOf, IsLonger}
 
 -- the most bytes of a text of commands
 abbrev pub most_command_bytes : ℕ

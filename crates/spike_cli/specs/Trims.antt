@@ -6,9 +6,9 @@ use Rattle.clause_core.specs.declared.reports.Report.{Report}
 use Rattle.proof_script.specs.Texts.{IsReportText}
 use Rattle.script_trim.specs.Trimmed.{LeadsTo, Trims}
 use Rattle.soundness.specs.ReportTruth.{ReportIsTrue}
-use Rattle.spike_cli.specs.declared.statuses.Status.{Status}
-use Rattle.spike_cli.specs.Reads.{most_report_bytes}
-use Rattle.spike_cli.specs.Replays.{IsReply, IsFileReply, IsFileReplyText}
+use Rattle.file_replies.specs.declared.statuses.Status.{Status}
+use Rattle.file_replies.specs.Reads.{most_report_bytes}
+use Rattle.file_replies.specs.Replies.{IsReply, IsFileReply, IsFileReplyText}
 
 -- if a report is accepted, `trim` writes the text of the report to which cuts lead: it trims the
 -- accepted one, is true, and isn't too long for `replay`

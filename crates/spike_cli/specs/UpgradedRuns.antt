@@ -7,8 +7,8 @@ use Rattle.spec_printing.specs.Printed.{printed}
 use Rattle.spec_printing.specs.Upgraded.{upgraded}
 use Rattle.accepted_spec.specs.Meanings.{IsAcceptedAs}
 use Rattle.command_line.specs.Tasks.{replaying, Asks}
-use Rattle.spike_cli.specs.declared.statuses.Status.{Status}
-use Rattle.spike_cli.specs.declared.statuses.Status.TheVariants.{OutOfMemory}
+use Rattle.file_replies.specs.declared.statuses.Status.{Status}
+use Rattle.file_replies.specs.declared.statuses.Status.TheVariants.{OutOfMemory}
 use Rattle.spike_cli.specs.Runs.{Means}
 
 -- a call that replays this report on a file of these bytes, if no count of faults rises and

@@ -5,8 +5,8 @@ use Rattle.spec_grammar.specs.declared.raw.RawSpec.{RawSpec}
 use Rattle.spec_printing.specs.Printed.{printed}
 use Rattle.spec_printing.specs.Upgraded.{upgraded}
 use Rattle.accepted_spec.specs.Meanings.{IsAcceptedAs}
-use Rattle.spike_cli.specs.declared.statuses.Status.{Status}
-use Rattle.spike_cli.specs.declared.statuses.Status.TheVariants.{Done}
+use Rattle.file_replies.specs.declared.statuses.Status.{Status}
+use Rattle.file_replies.specs.declared.statuses.Status.TheVariants.{Done}
 
 -- the printed form in format 2, with the status Done
 abbrev pub IsUpgrade : RawSpec → List ℕ → Status → Type 0

@@ -5,13 +5,12 @@ ghost use Rattle.std.specs.Fmt.{decimal};
 ghost use Rattle.spec_grammar.specs.KeepsLimits.{KeepsLimits};
 ghost use Rattle.spike_cli.specs.Checks.{accepted_line as line_of_accepted};
 ghost use Rattle.spike_cli.specs.Checks.{check_text as text_of_check, constructor_count, IsCheck};
-ghost use Rattle.spike_cli.specs.Stops.{Finishes};
+ghost use Rattle.file_replies.specs.Stops.{Finishes};
 ghost use Rattle.spike_cli.specs.Upgrades.{IsUpgrade};
 ghost use Rattle.spec_printing.specs.Printed.{printed};
 ghost use Rattle.spec_printing.specs.Upgraded.{upgraded};
 
-use crate::statuses::Status;
-use crate::stops::Stop;
+use file_replies::{Status, Stop};
 use io_core::{Sink, write_all};
 use spec_printing::{print, upgrade as print_upgraded};
 use spec_syntax::{RawSort, RawSpec};

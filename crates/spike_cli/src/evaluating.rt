@@ -8,12 +8,11 @@ ghost use Rattle.spec_order.specs.Orders.{above_of};
 ghost use Rattle.spec_core.specs.TermText.{term_text};
 ghost use Rattle.spike_cli.specs.Evaluations.{IsEvaluation, IsEvaluationText, lines_with};
 ghost use Rattle.spike_cli.specs.Evaluations.{spent_line as line_of_spent};
-ghost use Rattle.spike_cli.specs.Stops.{Finishes};
+ghost use Rattle.file_replies.specs.Stops.{Finishes};
 ghost use Rattle.accepted_spec.specs.Tellings.{IsLineOf};
 
-use crate::statuses::{Ending, Status};
-use crate::stops::Stop;
 use accepted_spec::{Refusal, ground_term};
+use file_replies::{Ending, Status, Stop};
 use ground_eval::{Eval, eval};
 use io_core::{Sink, write_all};
 use spec_core::{Signature, Spec};

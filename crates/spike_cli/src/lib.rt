@@ -35,15 +35,12 @@ mod replying;
 mod reporting;
 mod running;
 mod sessions;
-mod statuses;
-mod stops;
 
+pub use file_replies::{MAX_REPORT_BYTES, Status};
 pub use laws::{
     finished_reports_are_accepted, finished_runs_are_replayed, one_ending, one_load, one_replay,
     one_right_report, one_session, one_trim, search_alone_proves_nothing,
     upgraded_runs_answer_the_same, upgrades_keep_meaning,
 };
-pub use replying::MAX_REPORT_BYTES;
 pub use running::run;
 pub use sessions::MAX_COMMAND_BYTES;
-pub use statuses::Status;

@@ -1,33 +1,27 @@
 //! `run`: the task of the words, its file, and its end.
 
-ghost use Rattle.std.specs.Prelude.{◌≡◌, ◌≢◌, ◌≤◌, ◌⊎◌, ℕ, List, length, map, string_bytes, IfOk, IfErr, IfSome, IsErrOf, OnOk};
-ghost use Rattle.io_core.specs.Asked.{AddsName};
-ghost use Rattle.io_core.specs.Count.{Rose};
-ghost use Rattle.io_core.specs.declared.faults.ReadError.TheVariants as ReadError;
-ghost use Rattle.spec_grammar.specs.Limits.{file_limit as most_bytes};
+ghost use Rattle.std.specs.Prelude.{◌≡◌, ◌≤◌, ℕ, List, length, map, string_bytes};
 ghost use Rattle.spec_grammar.specs.KeepsLimits.{KeepsLimits};
 ghost use Rattle.spec_order.specs.Orders.{order_of};
 ghost use Rattle.command_line.specs.Commands.{file_of, task_of};
 ghost use Rattle.command_line.specs.Tasks.{Asks};
-ghost use Rattle.spike_cli.specs.Reads.{PassesItsLimit};
+ghost use Rattle.file_replies.specs.Reported.{HasReports};
+ghost use Rattle.file_replies.specs.Stops.{AsksFor, AsksForOn, FinishesReading};
 ghost use Rattle.spike_cli.specs.Runs.{AsksFiles, IsEnd, MayWriteOn, Means, further_files};
-ghost use Rattle.spike_cli.specs.Stops.{AsksFor, AsksForOn, FinishesReading, MeansFor, Refuses};
-ghost use Rattle.spike_cli.specs.Stops.{status_ended};
-ghost use Rattle.accepted_spec.specs.Tellings.{IsLineOf};
-ghost use Rattle.spike_cli.specs.Within.{HasReports, TaskIsWithin};
+ghost use Rattle.spike_cli.specs.Stops.{MeansFor};
+ghost use Rattle.spike_cli.specs.Within.{TaskIsWithin};
 
 use crate::checking::{check, upgrade};
 use crate::evaluating::evaluate;
 use crate::loading::load;
-use crate::replying::{Yes, reply_to_file};
+use crate::replying::Yes;
 use crate::reporting::{search_alone, write_report};
 use crate::sessions::carry_out_file;
-use crate::statuses::Status;
-use crate::stops::Stop;
-use accepted_spec::{Accepted, Refusal, specification};
+use accepted_spec::{Accepted, specification};
 use command_line::{Command, Request, request_of, usage_line};
-use io_core::{Files, ReadError, Sink, WriteError, write_all};
-use spec_grammar::{MAX_FILE_BYTES, file_limit};
+use file_replies::{Status, Stop, ended, read_text, refuse, reply_to_file};
+use io_core::{Files, ReadError, Sink, write_all};
+use spec_grammar::MAX_FILE_BYTES;
 use std::alloc::Global;
 
 /// Does all that the program does: carries out the command that the words ask for, reads its files
@@ -84,32 +78,6 @@ fn run_on_file<F: Files, S: Sink>(
         Err(ReadError::Failed) => Status::ReadFault,
         Err(ReadError::OutOfMemory) => Status::OutOfMemory,
     }
-}
-
-/// The bytes of a specification's file. The file is too long if it has more of them than its
-/// beginning allows.
-fn read_text<F: Files>(alloc: Global, name: &str, files: &mut F) -> Result<Vec<u8>, ReadError>
-    ensures stays { (n : List ℕ) → F.held files.new n ≡ F.held files.old n }
-    ensures told { IfOk result (λ text. IfSome (F.held files.old name.now)
-        (λ whole. text.items ≡ whole)) }
-    ensures within { IfOk result (λ text. length text.items ≤ most_bytes text.items) }
-    ensures too_long { IsErrOf result ReadError.TooLong
-        → PassesItsLimit (F.held files.old name.now) }
-    ensures failed { IsErrOf result ReadError.Failed
-        → Rose (F.faults files.old) (F.faults files.new) }
-    ensures counts { F.faults files.old ≤ F.faults files.new }
-    ensures asks { OnOk result (AddsName (F.asked files.old) (F.asked files.new) name.now) }
-    ensures asks_err { IfErr result (λ error. error ≢ ReadError.OutOfMemory
-        → AddsName (F.asked files.old) (F.asked files.new) name.now) }
-    ensures asks_memory { IsErrOf result ReadError.OutOfMemory
-        → AddsName (F.asked files.old) (F.asked files.new) name.now
-        ⊎ ((F.asked files.new ≡ F.asked files.old) × (F.faults files.new ≡ F.faults files.old)) }
-{
-    let text = files.read(alloc, name, MAX_FILE_BYTES)?;
-    if text.len() > file_limit(&text) {
-        return Err(ReadError::TooLong);
-    }
-    Ok(text)
 }
 
 /// Carries out a command on the bytes of its file.
@@ -174,36 +142,14 @@ fn finish<F: Files, S: Sink>(
             evaluate(alloc, accepted.spec(), term.as_bytes(), *steps, out)
         }
         Command::Replay { report, .. } => {
-            reply_to_file(alloc, &accepted.admitted, Yes::Counts, report, files, out)
+            reply_to_file(alloc, &accepted.admitted, &Yes::Counts, report, files, out)
         }
         Command::Upgrade { .. } => upgrade(alloc, &accepted.raw, out),
         Command::Trim { report, .. } => {
-            reply_to_file(alloc, &accepted.admitted, Yes::Trimmed, report, files, out)
+            reply_to_file(alloc, &accepted.admitted, &Yes::Trimmed, report, files, out)
         }
         Command::Session { commands, .. } => {
             carry_out_file(alloc, &accepted.admitted, commands, files, out)
         }
-    }
-}
-
-/// Writes the line of a refusal.
-fn refuse<S: Sink>(alloc: Global, refusal: Refusal, out: &mut S) -> Status
-    ensures refuses { Refuses (IsLineOf refusal) (S.written out.old) (S.written out.new)
-        (S.faults out.old) (S.faults out.new) result }
-    ensures writes { S.faults out.old ≤ S.faults out.new }
-{
-    match refusal {
-        Refusal::Line(line) => ended(Status::Refused, write_all(out, alloc, &line)),
-        Refusal::OutOfMemory => Status::OutOfMemory,
-    }
-}
-
-/// The status of a command whose text was written, or wasn't.
-fn ended(status: Status, wrote: Result<(), WriteError>) -> Status
-    ensures { result ≡ status_ended status wrote }
-{
-    match wrote {
-        Ok(()) => status,
-        Err(error) => Stop::from(error).status(),
     }
 }

@@ -3,15 +3,14 @@
 ghost use Rattle.std.specs.Prelude.{◌≡◌, ◌≤◌, ℕ, List, [], ◌∷◌, IfOk};
 ghost use Rattle.spec_order.specs.Orders.{order_of};
 ghost use Rattle.session_core.specs.declared.errors.CommandError.TheVariants.{Line};
-ghost use Rattle.spike_cli.specs.declared.statuses.Status.TheVariants.{Refused};
+ghost use Rattle.file_replies.specs.declared.statuses.Status.TheVariants.{Refused};
 ghost use Rattle.spike_cli.specs.Sessions.{faulty_command_line, status_at_end as status_of_end};
 ghost use Rattle.spike_cli.specs.Sessions.{IsFileSession, IsSession};
 ghost use Rattle.spike_cli.specs.Sessions.{IsSomeFileSession, IsSomeSession};
-ghost use Rattle.spike_cli.specs.Stops.{AsksFor, Finishes, FinishesReading};
-ghost use Rattle.spike_cli.specs.Within.{HasReports};
+ghost use Rattle.file_replies.specs.Stops.{AsksFor, Finishes, FinishesReading};
+ghost use Rattle.file_replies.specs.Reported.{HasReports};
 
-use crate::statuses::{Ending, Status};
-use crate::stops::Stop;
+use file_replies::{Ending, Status, Stop};
 use io_core::{Files, ReadError, Sink, write_all};
 use session_core::{CommandError, read_commands, session_text};
 use soundness::accepted_are_true;

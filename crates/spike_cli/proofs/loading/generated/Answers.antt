@@ -6,7 +6,7 @@ use Rattle.accepted_spec.specs.Tellings.{Tells}
 use Rattle.accepted_spec.specs.declared.refusals.Refusal.{Refusal}
 use Rattle.spike_cli.proofs.LoadLengths.{load_short}
 use Rattle.spike_cli.proofs.LoadedGoals.{not_refused, same_spec}
-use Rattle.spike_cli.proofs.Reported.{has_reports}
+use Rattle.file_replies.proofs.Reported.{has_reports}
 use Rattle.spike_cli.proofs.loading.generated.Goals as goal
 
 pub specification-requires : goal.specification-requires

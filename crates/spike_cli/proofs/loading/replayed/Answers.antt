@@ -8,7 +8,7 @@ use Rattle.replay_check.specs.declared.answers.Answer.TheVariants.{No}
 use Rattle.replay_check.specs.Tells.{Tells}
 use Rattle.report_reader.specs.Answers.{TellsFault}
 use Rattle.report_reader.specs.declared.errors.ReportError.{ReportError}
-use Rattle.spike_cli.specs.Replays.{no_report, refused}
+use Rattle.file_replies.specs.Replies.{no_report, refused}
 use Rattle.spike_cli.proofs.LoadedGoals.{never_no}
 use Rattle.spike_cli.proofs.loading.replayed.Goals as goal
 

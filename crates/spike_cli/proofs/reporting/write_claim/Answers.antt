@@ -9,9 +9,10 @@ use Rattle.routine_proof.specs.Standing.{RoutineBlocksStand}
 use Rattle.search_claims.specs.Names.{GoalNamesStand}
 use Rattle.spike_cli.specs.Claims.{IsClaimOn}
 use Rattle.proof_script.specs.Claims.{claim_text}
-use Rattle.spike_cli.specs.Stops.{WritesClaim, stop_of}
+use Rattle.spike_cli.specs.Stops.{WritesClaim}
+use Rattle.file_replies.specs.Stops.{stop_of}
 use Rattle.spike_cli.proofs.ReportedClaims.{claim_in_range}
-use Rattle.spike_cli.proofs.Pieces.{piece_stopped, at_error}
+use Rattle.file_replies.proofs.Pieces.{piece_stopped, at_error}
 use Rattle.spike_cli.proofs.reporting.write_claim.Goals as goal
 
 pub print_claim-requires : goal.print_claim-requires

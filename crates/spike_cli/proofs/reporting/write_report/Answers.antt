@@ -17,16 +17,17 @@ use Rattle.spike_cli.specs.Lemmas.{AreLemmas}
 use Rattle.proof_script.specs.Words.{lines_text}
 use Rattle.proof_script.specs.Claims.{claim_text, header_lines}
 use Rattle.spike_cli.specs.Reports.{BeginsReport, IsReport, begun, begun_text, whole}
-use Rattle.spike_cli.specs.Stops.{Finishes, stop_of}
-use Rattle.spike_cli.specs.declared.stops.Stop.TheVariants.{OutOfMemory}
+use Rattle.file_replies.specs.Stops.{Finishes, stop_of}
+use Rattle.file_replies.specs.declared.stops.Stop.TheVariants.{OutOfMemory}
 use Rattle.search_claims.proofs.FirstClaims.{claims_more, first_claims}
 use Rattle.spike_cli.proofs.AcceptedClaims.{lemmas_of_next, report_accepted}
 use Rattle.spike_cli.proofs.ClaimLemmas.{status_more, status_of_goals}
 use Rattle.spike_cli.proofs.ProvedGoals.{proved-append}
 use Rattle.spike_cli.proofs.ReportedClaims.{as_many, report_stands, report_short}
-use Rattle.spike_cli.specs.Reads.{most_report_bytes}
+use Rattle.file_replies.specs.Reads.{most_report_bytes}
 use Rattle.proof_script.specs.Texts.{IsReportText}
-use Rattle.spike_cli.proofs.Pieces.{begun_text-more, begun_text-whole, stopped_more, stopped_same, piece_stopped, at_error, whole_prefix}
+use Rattle.spike_cli.proofs.BegunTexts.{begun_text-more, begun_text-whole}
+use Rattle.file_replies.proofs.Pieces.{stopped_more, stopped_same, piece_stopped, at_error, whole_prefix}
 use Rattle.spike_cli.proofs.reporting.write_report.Goals as goal
 use Rattle.io_core.proofs.Pieces.{Appended-append}
 

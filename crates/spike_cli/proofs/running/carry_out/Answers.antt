@@ -1,6 +1,6 @@
 use Rattle.command_line.specs.Commands.{task_of}
 use Rattle.spec_grammar.proofs.KeepsLimits.{keeps_limits}
-use Rattle.spike_cli.proofs.Reported.{has_reports}
+use Rattle.file_replies.proofs.Reported.{has_reports}
 use Rattle.spike_cli.proofs.Endings.{refused_means, finished_means, stopped_means}
 use Rattle.spike_cli.proofs.running.carry_out.Goals as goal
 

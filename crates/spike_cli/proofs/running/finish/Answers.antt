@@ -9,8 +9,9 @@ use Rattle.spec_order.specs.Orders.{above_of}
 use Rattle.spike_cli.specs.Evaluations.{IsEvaluation, IsEvaluationText}
 use Rattle.spike_cli.specs.Reports.{BeginsReport, IsReport, search_alone}
 use Rattle.spike_cli.specs.Runs.{IsEnd, MayWriteOn}
-use Rattle.spike_cli.specs.Stops.{Finishes}
-use Rattle.spike_cli.proofs.Readings.{of_command, reads_nothing}
+use Rattle.file_replies.specs.Stops.{Finishes}
+use Rattle.spike_cli.proofs.Readings.{of_command}
+use Rattle.file_replies.proofs.Readings.{reads_nothing}
 use Rattle.spike_cli.proofs.running.finish.Goals as goal
 
 pub returns-in-Check-clause-finishes : goal.returns-in-Check-clause-finishes

@@ -3,7 +3,7 @@ use Rattle.std.specs.Prelude.{Err, string_bytes}
 use Rattle.command_line.specs.Commands.{IsAsked}
 use Rattle.command_line.specs.Tasks.{AsksToLoad, AskNothing}
 use Rattle.command_line.specs.declared.commands.Request.{Request}
-use Rattle.spike_cli.specs.declared.statuses.Status.TheVariants.{Usage}
+use Rattle.file_replies.specs.declared.statuses.Status.TheVariants.{Usage}
 use Rattle.spike_cli.specs.Runs.{MayWrite, usage}
 use Rattle.command_line.specs.Usage.{usage_line}
 use Rattle.io_core.specs.Piece.{Appended}

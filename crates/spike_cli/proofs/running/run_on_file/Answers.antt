@@ -3,13 +3,14 @@ use Rattle.std.specs.Prelude.{Err, string_bytes}
 use Rattle.io_core.specs.Asked.{AddsName}
 use Rattle.command_line.specs.Commands.{file_of, task_of}
 use Rattle.command_line.specs.Tasks.{Asks}
-use Rattle.spike_cli.specs.declared.statuses.Status.TheVariants.{Refused}
-use Rattle.spike_cli.specs.Reads.{PassesItsLimit}
+use Rattle.file_replies.specs.declared.statuses.Status.TheVariants.{Refused}
+use Rattle.file_replies.specs.Reads.{PassesItsLimit}
 use Rattle.spike_cli.specs.Runs.{IsTooLong, too_long, too_long_line}
 use Rattle.spike_cli.specs.Stops.{MeansFor}
 use Rattle.spike_cli.proofs.Endings.{line_means, file_means}
 use Rattle.spike_cli.proofs.TasksWithin.{task_within}
-use Rattle.spike_cli.proofs.Readings.{asked_first, asked_further, asked_or_not, failed_read, read_bytes, too_long_read}
+use Rattle.spike_cli.proofs.Readings.{asked_first, asked_further, asked_or_not}
+use Rattle.file_replies.proofs.Readings.{failed_read, read_bytes, too_long_read}
 use Rattle.spike_cli.proofs.running.run_on_file.Goals as goal
 
 pub returns-in-Ok-clause-means : goal.returns-in-Ok-clause-means

@@ -1,11 +1,11 @@
 use Rattle.std.proofs.Common.{ap, sym, subst}
 use Rattle.std.specs.Prelude.{Err}
-use Rattle.spike_cli.specs.declared.statuses.Status.TheVariants.{Refused}
-use Rattle.spike_cli.specs.Reads.{AreBytesOf}
+use Rattle.file_replies.specs.declared.statuses.Status.TheVariants.{Refused}
+use Rattle.file_replies.specs.Reads.{AreBytesOf}
 use Rattle.spike_cli.specs.Sessions.{most_command_bytes, too_long_commands_line}
 use Rattle.spike_cli.specs.Sessions.{IsFileSession, IsSession, IsSomeFileSession, IsSomeSession}
 use Rattle.spike_cli.specs.Sessions.{for_bytes, too_long_commands}
-use Rattle.spike_cli.proofs.Readings.{line_stopped, reads_bytes}
+use Rattle.file_replies.proofs.Readings.{line_stopped, reads_bytes}
 use Rattle.spike_cli.proofs.sessions.carry_out_file.Goals as goal
 
 pub returns-in_err-write_all-in-Err-TooLong-clause-finishes : goal.returns-in_err-write_all-in-Err-TooLong-clause-finishes

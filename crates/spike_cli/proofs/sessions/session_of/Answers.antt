@@ -10,9 +10,9 @@ use Rattle.session_core.specs.declared.errors.CommandError.TheVariants.{Line}
 use Rattle.session_core.specs.CommandText.{AreCommands, TellsFault}
 use Rattle.session_core.specs.SessionText.{IsSessionText}
 use Rattle.soundness.specs.AcceptedAreTrue.{AcceptedAreTrue}
-use Rattle.spike_cli.specs.declared.statuses.Ending.{Ending}
-use Rattle.spike_cli.specs.declared.statuses.Status.{Status}
-use Rattle.spike_cli.specs.declared.statuses.Status.TheVariants as ends
+use Rattle.file_replies.specs.declared.statuses.Ending.{Ending}
+use Rattle.file_replies.specs.declared.statuses.Status.{Status}
+use Rattle.file_replies.specs.declared.statuses.Status.TheVariants as ends
 use Rattle.spike_cli.specs.Sessions.{faulty_command_line, IsSession, carried_out, faulty}
 use Rattle.spike_cli.proofs.RightReports.{right_report}
 use Rattle.spike_cli.proofs.sessions.session_of.Goals as goal

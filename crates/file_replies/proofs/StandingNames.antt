@@ -36,7 +36,7 @@ use Rattle.sort_check.specs.StandsFor.{StandsFor}
 use Rattle.proof_script.specs.Names.{IsReportName}
 use Rattle.proof_script.proofs.Spelled.{report_name}
 use Rattle.search_claims.specs.Names.{GoalNamesStand, NamesStand}
-use Rattle.spike_cli.proofs.NamesOfTexts.{WordsStand, AllWordsStand, AllSidesStand, BindsStand, GoalWordsStand, RawNamesStand, raw_names_stand}
+use Rattle.file_replies.proofs.NamesOfTexts.{WordsStand, AllWordsStand, AllSidesStand, BindsStand, GoalWordsStand, RawNamesStand, raw_names_stand}
 
 -- the names of `Bool`'s constructors
 abbrev AreLetters : List ℕ → Type 0

@@ -1,8 +1,8 @@
 //! Why a report stopped.
 
 ghost use Rattle.std.specs.Prelude.{◌≡◌};
-ghost use Rattle.spike_cli.specs.Stops.{stop_of, status_of_stop};
-ghost use Rattle.spike_cli.specs.declared.stops.Stop.TheVariants.{OutOfMemory as out_of_memory};
+ghost use Rattle.file_replies.specs.Stops.{stop_of, status_of_stop};
+ghost use Rattle.file_replies.specs.declared.stops.Stop.TheVariants.{OutOfMemory as out_of_memory};
 
 use crate::statuses::Status;
 use io_core::WriteError;
@@ -32,7 +32,7 @@ impl Stop {
 
 impl fmt::Display for Stop {
     ghost use Rattle.std.specs.Prelude.{Some};
-    ghost use Rattle.spike_cli.specs.Stops.{stop_text};
+    ghost use Rattle.file_replies.specs.Stops.{stop_text};
 
     ghost output = { λ stop. Some (stop_text stop) };
 

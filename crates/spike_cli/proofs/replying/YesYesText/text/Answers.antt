@@ -1,7 +1,7 @@
 use Rattle.std.proofs.Common.{ℕ, Vec, Global, IfOk, subst, sym}
 use Rattle.spike_cli.specs.declared.replying.Yes.{Yes}
 use Rattle.spike_cli.specs.Replies.{IsYesText}
-use Rattle.spike_cli.proofs.replying.yes_text.Goals as goal
+use Rattle.spike_cli.proofs.replying.YesYesText.text.Goals as goal
 
 pub returns-in-Trimmed : goal.returns-in-Trimmed
 returns-in-Trimmed c =

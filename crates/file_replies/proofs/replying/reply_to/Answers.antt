@@ -13,13 +13,12 @@ use Rattle.report_reader.specs.declared.errors.ReportError.{ReportError}
 use Rattle.report_reader.specs.declared.errors.ReportError.TheVariants.{Line}
 use Rattle.replay_check.specs.Tells.{Tells}
 use Rattle.report_reader.specs.Answers.{TellsFault}
-use Rattle.spike_cli.specs.declared.statuses.Ending.{Ending}
-use Rattle.spike_cli.specs.declared.statuses.Status.TheVariants as ends
-use Rattle.spike_cli.specs.Replies.{IsYesText}
-use Rattle.spike_cli.specs.Replays.{accepted, no_report, refused, IsReply}
+use Rattle.file_replies.specs.declared.statuses.Ending.{Ending}
+use Rattle.file_replies.specs.declared.statuses.Status.TheVariants as ends
+use Rattle.file_replies.specs.Replies.{accepted, no_report, refused, IsReply}
 use Rattle.reply_lines.specs.Lines.{no_line}
-use Rattle.spike_cli.proofs.Readings.{reply_told}
-use Rattle.spike_cli.proofs.replying.reply_to.Goals as goal
+use Rattle.file_replies.proofs.Readings.{reply_told}
+use Rattle.file_replies.proofs.replying.reply_to.Goals as goal
 
 -- a report that is replayed with yes is accepted, and true
 told_yes :
@@ -29,7 +28,7 @@ told_yes {order = order} spec own report answer is told =
     by_own_order (λ above. Tells above spec report Yes) spec own
     (subst (λ (a : Answer). Tells (above_by order) spec report a) is told)
 
--- a line that can't continue is reported
+-- the reply to a line that can't continue
 fault_told :
     (IsYes : Spec → Report → List ℕ → Type 0) (spec : Spec) (bytes : List ℕ) (error : ReportError) →
     TellsFault spec.sig bytes error → (reply : Ending) (line : ℕ) → error ≡ Line line →
@@ -41,39 +40,39 @@ fault_told IsYes spec bytes error told reply line is text ends_so =
     (reply_told IsYes spec bytes _ _ _ text (no_report line fault))
 
 pub returns-in-Err : goal.returns-in-Err
-returns-in-Err c =
+returns-in-Err g c =
     let spec = c.args.admitted.now.spec in
     let bytes = c.args.bytes.now in
     let told = subst (λ a. TellsFault a.spec.sig bytes c.in-Err.error) c.admitted.view_is c.in-Err.ensures in
     if_ok_map c.reply_to_fault.result _
-    (λ (reply : Ending). IsReply (IsYesText c.args.yes) spec bytes reply.text.items reply.status)
-    (λ reply h. fault_told (IsYesText c.args.yes) spec bytes c.in-Err.error told reply h.0 h.1 h.2 h.3)
+    (λ (reply : Ending). IsReply (g.Y.YesText.is_text c.args.yes.now) spec bytes reply.text.items reply.status)
+    (λ reply h. fault_told (g.Y.YesText.is_text c.args.yes.now) spec bytes c.in-Err.error told reply h.0 h.1 h.2 h.3)
     c.reply_to_fault.ensures
 
-pub yes_text-requires-clause-read : goal.yes_text-requires-clause-read
-yes_text-requires-clause-read c = (
+pub text-requires-clause-read : goal.text-requires-clause-read
+text-requires-clause-read g c = (
   c.args.bytes.now,
   subst (λ a. IsReportText a.spec.sig c.args.bytes.now c.in-Ok.report) c.admitted.view_is
       c.in-Ok.ensures,
 )
 
-pub yes_text-requires-clause-accepted : goal.yes_text-requires-clause-accepted
-yes_text-requires-clause-accepted c =
+pub text-requires-clause-accepted : goal.text-requires-clause-accepted
+text-requires-clause-accepted g c =
     (told_yes c.args.admitted.now.spec c.requires.ordered c.in-Ok.report _ c.in-Yes.is
     c.in_ok-replay.ensures).0
 
 pub returns-in-Yes : goal.returns-in-Yes
-returns-in-Yes c =
+returns-in-Yes g c =
     let spec = c.args.admitted.now.spec in
     let is_text =
     subst (λ a. IsReportText a.spec.sig c.args.bytes.now c.in-Ok.report) c.admitted.view_is
     c.in-Ok.ensures in
     let told =
     told_yes spec c.requires.ordered c.in-Ok.report _ c.in-Yes.is c.in_ok-replay.ensures in
-    accepted c.in-Ok.report is_text told.0 told.1 c.in_ok-yes_text-in-Yes.ensures
+    accepted c.in-Ok.report is_text told.0 told.1 c.in_ok-text-in-Yes.ensures
 
 pub returns : goal.returns
-returns c =
+returns g c =
     let spec = c.args.admitted.now.spec in
     let bytes = c.args.bytes.now in
     let report = c.in-Ok.report in
@@ -84,6 +83,6 @@ returns c =
     by_own_order (λ above. Tells above spec report answer) spec c.requires.ordered
     (subst (λ (a : Answer). Tells (above_by c.args.admitted.now.order) spec report a)
     c.in-No.is c.in_ok-replay.ensures) in
-    reply_told (IsYesText c.args.yes) spec bytes _ _ _
+    reply_told (g.Y.YesText.is_text c.args.yes.now) spec bytes _ _ _
     (c.in_ok-no_line-in-No.ensures ∙ ap (λ why. no_line c.in-No.line why) c.reason.ensures)
     (refused report c.in-No.line c.in-No.why is_text told)

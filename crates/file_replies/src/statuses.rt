@@ -1,7 +1,7 @@
 //! Statuses and their codes.
 
 ghost use Rattle.std.specs.Prelude.{◌≡◌};
-ghost use Rattle.spike_cli.specs.Codes.{code_of};
+ghost use Rattle.file_replies.specs.Codes.{code_of};
 
 /// How a call of the program ended.
 #[derive(Clone, Copy, Debug, PartialEq, Eq)]

@@ -1,16 +1,20 @@
--- A text that is accepted has reports.
+-- What a text stands for is well sorted, and what it is accepted as has reports.
 use Rattle.std.proofs.Common.{ℕ, ◌≤◌, List, length, arith}
 use Rattle.std.proofs.lemmas.Slice.Zip.{AllZip-long}
 use Rattle.spec_core.specs.declared.records.Spec.{Spec}
+use Rattle.spec_core.specs.WellSorted.{IsWellSorted}
 use Rattle.spec_grammar.specs.declared.raw.RawSpec.{RawSpec}
 use Rattle.spec_grammar.specs.KeepsLimits.{KeepsLimits}
 use Rattle.spec_grammar.proofs.KeepsLimits.{keeps_limits}
 use Rattle.sort_check.specs.Goals.{GoalStands}
 use Rattle.sort_check.specs.StandsFor.{StandsFor}
-use Rattle.accepted_spec.specs.Meanings.{IsAcceptedAs}
-use Rattle.spike_cli.specs.Within.{HasReports}
-use Rattle.spike_cli.proofs.OneEnding.{well_sorted_meaning}
-use Rattle.spike_cli.proofs.StandingNames.{names_stand, rules_few}
+use Rattle.sort_check.proofs.WellSortedSpecs.{stands_well_sorted}
+use Rattle.accepted_spec.specs.Meanings.{IsAcceptedAs, TextStandsFor}
+use Rattle.file_replies.specs.Reported.{HasReports}
+use Rattle.file_replies.proofs.StandingNames.{names_stand, rules_few}
+
+pub well_sorted_meaning : (bytes : List ℕ) (spec : Spec) → TextStandsFor bytes spec → IsWellSorted spec
+well_sorted_meaning bytes spec a = stands_well_sorted a.0 spec (keeps_limits bytes a.0 a.1) a.2
 
 goals_few : (raw : RawSpec) (spec : Spec) → KeepsLimits raw → StandsFor raw spec → length spec.goals ≤ 200
 goals_few raw spec limits stands =

@@ -1,0 +1,6 @@
+pub mod Pieces
+pub mod Endings
+pub mod Readings
+pub mod NamesOfTexts
+pub mod StandingNames
+pub mod Reported
