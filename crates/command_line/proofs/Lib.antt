@@ -1,9 +1,9 @@
 mod Defaults
-mod OwnNames
-mod FlatApps
+pub mod OwnNames
+pub mod FlatApps
 mod ReadLemmas
 mod Refusals
-mod Entries
+pub mod Entries
 mod Askings
 pub mod OneRequest
 mod Examples
