@@ -1,4 +1,4 @@
-//! What the programs share of files, of reports and of how a call ends.
+//! What the programs share of words, of files, of reports and of how a call ends.
 //!
 //! Uses io_core for files and sinks, accepted_spec for what a specification's file leads to, and
 //! report_reader and replay_check for what a report's does. A call ends with a [`Status`], whose
@@ -17,6 +17,7 @@ mod refusing;
 mod replying;
 mod statuses;
 mod stops;
+mod words;
 mod yes_texts;
 
 pub use reading::read_text;
@@ -24,4 +25,5 @@ pub use refusing::{ended, refuse};
 pub use replying::{MAX_REPORT_BYTES, reply_to_file};
 pub use statuses::{Ending, Status};
 pub use stops::Stop;
+pub use words::words_of;
 pub use yes_texts::YesText;

@@ -30,5 +30,5 @@ pub use goals::{draw_goal, goal_names};
 pub use laws::worked_examples;
 pub use naming::Naming;
 pub use rules::draw_rule;
-pub use steps::{StepAt, draw_step, marked_place};
+pub use steps::{StepAt, draw_step, equation_name, marked_place};
 pub use terms::{draw_side, draw_term};

@@ -165,7 +165,7 @@ fn rule_numbered(spec: &Spec, number: u32) -> Option<&Rule>
 }
 
 /// `conclusion ` or `premise `, before its number.
-fn equation_name(conclusion: bool) -> &'static [u8]
+pub fn equation_name(conclusion: bool) -> &'static [u8]
     ensures { result.now ≡ name_of_equation conclusion }
 {
     if conclusion {

@@ -45,7 +45,7 @@ pub record Asks (words : List Text) (task : Task) : Type 0 where
   pub taken : Takes (app_for task.form) words
   pub task_is : Say (matches_of (app_for task.form) words) task
 
--- a word that asks for help where it is the first one
+-- a word that asks for help if it is the first one
 abbrev pub IsHelpWord : Text → Type 0
 IsHelpWord word = (word ≡ codes "--help") ⊎ ((word ≡ codes "-h") ⊎ (word ≡ codes "help"))
 
@@ -64,7 +64,7 @@ pub record AreFaulty (app : App) (words : List Text) : Type 0 where
   pub fault : fault_of app words ≢ []
   pub other : fault_of app words ≢ DisplayHelp ∷ []
 
--- the words ask for nothing: the first one doesn't ask for help, and where it is a command word there is a
+-- the words ask for nothing: the first one doesn't ask for help, and if it is a command word there is a
 -- fault in them
 pub record AskNothing (words : List Text) : Type 0 where
   pub no_help : BeginWithHelp words → ⊥

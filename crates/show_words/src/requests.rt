@@ -32,7 +32,7 @@ pub struct Command<'a> {
     pub goal: Option<&'a str>,
 }
 
-/// What the words ask for. None where they ask for nothing: the first one is neither a command word
+/// What the words ask for. None if they ask for nothing: the first one is neither a command word
 /// nor a question for help, or `clap` finds a fault in the others.
 pub fn request_of<'a>(
     alloc: Global,

@@ -1,0 +1,14 @@
+use Rattle.std.proofs.Common.{◌∙◌}
+use Rattle.std.proofs.lemmas.Result.{IfOk-equal}
+use Rattle.report_pages.proofs.Lists.{left}
+use Rattle.report_pages.proofs.refuting.draw_both.Goals as goal
+
+pub returns : goal.returns
+returns c =
+    IfOk-equal c.text-4.result _ _ _ c.text-4.ensures
+    (left c.text-3.new.self c.number-2.new.self _ _ c.in_ok-number-2.ensures
+    ∙ left c.number.new.self c.text-3.new.self _ _ c.in_ok-text-3.ensures
+    ∙ left c.text-2.new.self c.number.new.self _ _ c.in_ok-number.ensures
+    ∙ left c.draw_value.new.page c.text-2.new.self _ _ c.in_ok-text-2.ensures
+    ∙ left c.text.new.self c.draw_value.new.page _ _ c.in_ok-draw_value.ensures
+    ∙ left c.args.page.now c.text.new.self _ _ c.in_ok-text.ensures)
