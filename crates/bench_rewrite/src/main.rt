@@ -1,6 +1,6 @@
 //! Normal forms, and clauses that are compared, for the figures of `bench/run`.
 //!
-//! Uses spec_syntax, sort_check, path_order, clause_core and rewriting. It normalizes the left
+//! Uses spec_syntax, sort_check, path_order, clause_core and normalization. It normalizes the left
 //! side of a file's first goal, or compares two clauses without a file. The words are `normalize
 //! FILE BUDGET TIMES` or `compare one|all EQUATIONS TIMES`.
 //!
@@ -18,7 +18,7 @@ ghost use Rattle.spec_core.specs.WellSorted.{IsWellSorted};
 
 use anyhow::{Context, Result, bail};
 use comparing::compared;
-use rewriting::{Normal, Rewriter};
+use normalization::{Normal, Rewriter};
 use sort_check::elaborate;
 use spec_core::Spec;
 use spec_syntax::read;

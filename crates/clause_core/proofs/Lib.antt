@@ -28,7 +28,7 @@ mod OneSubsuming
 mod OneRewriting
 mod OneSimplifying
 mod OneSolving
-pub mod OneSplitting
+pub mod OneCovering
 mod OneGeneralizing
 mod OneReplacing
 pub mod OneStep

@@ -15,7 +15,7 @@ use Rattle.clause_core.proofs.OneSubsuming.{subsume_one, by_lemma_one}
 use Rattle.clause_core.proofs.OneRewriting.{rule_one, case_one}
 use Rattle.clause_core.proofs.OneSimplifying.{decompose_one, clash_one, drop_one}
 use Rattle.clause_core.proofs.OneSolving.{solve_one}
-use Rattle.clause_core.proofs.OneSplitting.{cover_one}
+use Rattle.clause_core.proofs.OneCovering.{cover_one}
 use Rattle.clause_core.proofs.OneGeneralizing.{generalize_one}
 use Rattle.clause_core.proofs.OneReplacing.{context_one, hyp_one, lemma_one}
 use Rattle.clause_core.proofs.OneRelation.{one_relation}

@@ -11,7 +11,7 @@ use Rattle.clause_core.specs.Clauses.{sides}
 use Rattle.clause_core.specs.Patterns.{IsPatternOf, AreCovering}
 use Rattle.clause_core.specs.Generalizing.{StandsIn}
 use Rattle.clause_core.specs.ExampleClauses.{unit_clause}
-use Rattle.clause_core.specs.SplittingExamples.{SplittingExamples}
+use Rattle.clause_core.specs.CoveringExamples.{CoveringExamples}
 
 -- what isn't a pattern over any variables isn't one of a list
 none_of : (sig : Sig) (s : SortId) (p : Tree) → ((ctx : List SortId) → IsPatternOf sig s ctx p → ⊥) → (contexts : List (List SortId)) → AllZip (IsPatternOf sig s) contexts (p ∷ []) → ⊥
@@ -46,7 +46,7 @@ too_large s c (inr (inr i)) e = absurd i
 not_there : StandsIn (plus_term (var 0) (succ_term zero_term)) unit_clause → ⊥
 not_there (s, c, i, e) = too_large s c (in_contained (sides unit_clause) s i) e
 
-pub examples : SplittingExamples
+pub examples : CoveringExamples
 examples = record {
   by_anything = inl (record { sort = nat; is = refl; contexts = (nat ∷ []) ∷ []; each = (record { sorted = refl; pattern = tt; numbered = refl }, tt) }, inl (all_covered, (_, ((refl, refl), tt), tt, inl (((record { equations = omega arith; depth = omega arith; size = omega arith }, tt), omega arith), refl))));
   no_variable = inr (λ a. (let q : None ≡ Some a.sort = a.is in cc), refl);

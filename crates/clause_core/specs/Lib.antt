@@ -32,7 +32,7 @@ pub mod CaseSplitting
 pub mod Simplifying
 pub mod Solving
 pub mod Patterns
-pub mod Splitting
+pub mod Covering
 pub mod Abstracting
 pub mod Generalizing
 pub mod Replacing
@@ -44,7 +44,7 @@ pub mod ExampleClauses
 pub mod TableExamples
 pub mod ClosingExamples
 pub mod SimplifyingExamples
-pub mod SplittingExamples
+pub mod CoveringExamples
 pub mod ReplacingExamples
 pub mod LimitExamples
 pub mod StepExamples

@@ -12,7 +12,7 @@ use Rattle.clause_core.specs.Rewriting.{rule_row}
 use Rattle.clause_core.specs.CaseSplitting.{case_row}
 use Rattle.clause_core.specs.Simplifying.{decompose_row, clash_row, drop_row}
 use Rattle.clause_core.specs.Solving.{solve_row}
-use Rattle.clause_core.specs.Splitting.{cover_row}
+use Rattle.clause_core.specs.Covering.{cover_row}
 use Rattle.clause_core.specs.Generalizing.{generalize_row}
 use Rattle.clause_core.specs.Replacing.{context_row, hyp_row, lemma_row}
 

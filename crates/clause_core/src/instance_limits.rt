@@ -12,7 +12,7 @@ use crate::clauses::Clause;
 use crate::limits::{MOST_EQUATIONS, MOST_LEVELS, MOST_SYMBOLS};
 use spec_core::Equation;
 use substitutions::Subst;
-use term_core::{Node, Term};
+use term_core::{TermNode, Term};
 
 /// Whether the clause with the entries of `theta` put in is within the limits of a clause in a
 /// proof. The instance is not built, and no side of it is walked much further than the limits: a
@@ -73,11 +73,11 @@ pub fn instance_size(term: &Term, theta: &Subst, cap: u32) -> u32
         return 0;
     }
     match &term.node {
-        Node::Var(var) => match theta.get(*var) {
+        TermNode::Var(var) => match theta.get(*var) {
             Some(image) => image.size(cap),
             None => 1,
         },
-        Node::App(_, args) => 1 + instance_sizes(args.as_slice(), theta, cap - 1),
+        TermNode::App(_, args) => 1 + instance_sizes(args.as_slice(), theta, cap - 1),
     }
 }
 
@@ -103,11 +103,11 @@ pub fn instance_depth(term: &Term, theta: &Subst, cap: u32) -> u32
         return 0;
     }
     match &term.node {
-        Node::Var(var) => match theta.get(*var) {
+        TermNode::Var(var) => match theta.get(*var) {
             Some(image) => image.depth(cap),
             None => 1,
         },
-        Node::App(_, args) => 1 + instance_depths(args.as_slice(), theta, cap - 1),
+        TermNode::App(_, args) => 1 + instance_depths(args.as_slice(), theta, cap - 1),
     }
 }
 

@@ -14,7 +14,7 @@ use crate::equations::copy_equations;
 use spec_core::{Equation, Goal, VarInfo};
 use std::alloc::Global;
 use std::mem;
-use term_core::{Node, OutOfMemory, Seq, SortId, Term, VarId};
+use term_core::{TermNode, OutOfMemory, Seq, SortId, Term, VarId};
 
 /// The clause with its variables numbered by first occurrence, premises before conclusions and
 /// left sides before right ones. Variables that don't occur are left out. Terms
@@ -107,8 +107,8 @@ fn renumber(term: Term, olds: &mut Vec<u32>) -> Result<Term, OutOfMemory>
         return Ok(term);
     }
     match term.node {
-        Node::Var(var) => Ok(Term::var(new_number(var, olds)?)),
-        Node::App(sym, mut args) => {
+        TermNode::Var(var) => Ok(Term::var(new_number(var, olds)?)),
+        TermNode::App(sym, mut args) => {
             let made = renumber_all(args.take_items()?, olds)?;
             args.put_items(made)?;
             Ok(Term::app(sym, args))

@@ -10,7 +10,7 @@ use crate::patterns::{left_sides, looked_at_in_terms};
 use clause_core::Clause;
 use spec_core::{Equation, Spec};
 use std::alloc::Global;
-use term_core::{Node, OutOfMemory, SymId, Term, VarId};
+use term_core::{TermNode, OutOfMemory, SymId, Term, VarId};
 
 /// The first variable that the first place asks for, if some place asks. Once a variable is
 /// found, no other place is looked at.
@@ -56,7 +56,7 @@ fn asked_in_equation(
 fn asked_in_term(alloc: Global, spec: &Spec, term: &Term) -> Result<Option<VarId>, OutOfMemory>
     ensures { IfOk result (IsFirst (asked_in spec.now term.now)) }
 {
-    let Node::App(sym, args) = &term.node else {
+    let TermNode::App(sym, args) = &term.node else {
         return Ok(None);
     };
     if let Some(var) = asked_in_terms(alloc, spec, args.as_slice())? {

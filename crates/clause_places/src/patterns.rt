@@ -7,7 +7,7 @@ ghost use Rattle.clause_places.specs.Demand.{IsFirst, left_sides_of, argument_at
 
 use spec_core::{Rule, Signature};
 use std::alloc::Global;
-use term_core::{Node, OutOfMemory, SymId, Term, TermRefs, VarId};
+use term_core::{TermNode, OutOfMemory, SymId, Term, TermRefs, VarId};
 
 /// The left sides of the function's rules.
 pub(crate) fn left_sides<'a>(
@@ -30,8 +30,8 @@ fn is_call_of(term: &Term, function: SymId) -> bool
     ensures { result ≡ is_call function.0 term.now }
 {
     match &term.node {
-        Node::Var(_) => false,
-        Node::App(sym, _) => sym.0 == function.0,
+        TermNode::Var(_) => false,
+        TermNode::App(sym, _) => sym.0 == function.0,
     }
 }
 
@@ -70,14 +70,14 @@ fn looked_at_in_term(
         return Ok(None);
     }
     match &term.node {
-        Node::Var(var) => {
+        TermNode::Var(var) => {
             if some_have_constructors(sig, patterns) {
                 Ok(Some(*var))
             } else {
                 Ok(None)
             }
         }
-        Node::App(_, args) => looked_at_in_terms(alloc, sig, patterns, args.as_slice()),
+        TermNode::App(_, args) => looked_at_in_terms(alloc, sig, patterns, args.as_slice()),
     }
 }
 
@@ -97,8 +97,8 @@ fn has_constructor(sig: &Signature, term: &Term) -> bool
     ensures { result ≡ constructor_at sig.now [] (Some term.now) }
 {
     match &term.node {
-        Node::Var(_) => false,
-        Node::App(sym, _) => sym.0 < sig.constructors(),
+        TermNode::Var(_) => false,
+        TermNode::App(sym, _) => sym.0 < sig.constructors(),
     }
 }
 
@@ -124,7 +124,7 @@ fn argument(term: &Term, index: usize) -> Option<&Term>
         (λ t. argument_at index term.now ≡ Some t.now) }
 {
     match &term.node {
-        Node::Var(_) => None,
-        Node::App(_, args) => args.get(index),
+        TermNode::Var(_) => None,
+        TermNode::App(_, args) => args.get(index),
     }
 }

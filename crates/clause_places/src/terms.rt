@@ -9,7 +9,7 @@ ghost use Rattle.clause_places.specs.Counts.{counts_of};
 
 use spec_core::Equation;
 use std::alloc::Global;
-use term_core::{Node, OutOfMemory, Term, TermRefs};
+use term_core::{TermNode, OutOfMemory, Term, TermRefs};
 
 /// For how many terms there is room from the start: as many as fit a small allocation, and as a
 /// clause of usual size has.
@@ -65,8 +65,8 @@ fn add_term<'a>(term: &'a Term, made: &mut TermRefs<'a>) -> Result<(), OutOfMemo
     ensures { OnOk result (made.new ≡ made.old ++ subterms term.now) }
 {
     match &term.node {
-        Node::Var(_) => made.push(term),
-        Node::App(_, args) => {
+        TermNode::Var(_) => made.push(term),
+        TermNode::App(_, args) => {
             add_arguments(args.as_slice(), made)?;
             made.push(term)
         }

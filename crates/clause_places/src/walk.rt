@@ -13,7 +13,7 @@ use crate::terms::Counts;
 use clause_core::Place;
 use spec_core::Equation;
 use std::alloc::Global;
-use term_core::{Node, OutOfMemory, Seq, Term};
+use term_core::{TermNode, OutOfMemory, Seq, Term};
 
 /// A side of an equation of a clause: a place but for its path.
 #[derive(Clone, Copy)]
@@ -128,8 +128,8 @@ fn pass_term(term: &Term, index: usize, path: &mut Vec<u8>) -> Result<Option<usi
     ensures { IfOk result (Passes (paths term.now) index path.old.items path.new.items) }
 {
     match &term.node {
-        Node::Var(_) => Ok(index.checked_sub(1)),
-        Node::App(_, args) => match pass_arguments(1, args.as_slice(), index, path)? {
+        TermNode::Var(_) => Ok(index.checked_sub(1)),
+        TermNode::App(_, args) => match pass_arguments(1, args.as_slice(), index, path)? {
             Some(left) => Ok(left.checked_sub(1)),
             None => Ok(None),
         },

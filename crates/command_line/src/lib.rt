@@ -10,7 +10,7 @@
 //! ones included (`specs/Tasks.antt`). Otherwise it answers none, also if help is asked for.
 //! Words ask for one task at most (`one_request`). `worked_examples`.
 //!
-//! Tested: Lists of words, in all orders of options (command_line_tests).
+//! Tested: Lists of words, in all orders of options (command_line_cases).
 #![tactic(auto)]
 
 mod apps;

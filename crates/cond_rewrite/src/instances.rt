@@ -7,7 +7,7 @@ ghost use Rattle.substitutions.specs.Substitution.{apply};
 use clause_core::{MOST_SYMBOLS, instance_size};
 use std::alloc::Global;
 use substitutions::Subst;
-use term_core::{Node, OutOfMemory, Term};
+use term_core::{TermNode, OutOfMemory, Term};
 
 /// The instance of the term, or None if it alone has more symbols than a clause in a proof. It
 /// isn't built then: a variable may occur often and stand for a large term.
@@ -32,11 +32,11 @@ pub fn is_instance(theta: &Subst, pattern: &Term, term: &Term) -> bool
     ensures { IsTrue result ↔ (term.now ≡ apply theta.now.terms pattern.now) }
 {
     match (&pattern.node, &term.node) {
-        (Node::Var(var), _) => match theta.get(*var) {
+        (TermNode::Var(var), _) => match theta.get(*var) {
             Some(image) => term.same(image),
             None => term.same(pattern),
         },
-        (Node::App(f, patterns), Node::App(g, terms)) => {
+        (TermNode::App(f, patterns), TermNode::App(g, terms)) => {
             g == f && are_instances(theta, patterns.as_slice(), terms.as_slice())
         }
         _ => false,

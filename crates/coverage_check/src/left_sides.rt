@@ -7,7 +7,7 @@ ghost use Rattle.coverage_check.specs.LeftSides.{row_of, rows_of as rows_of_func
 
 use spec_core::Spec;
 use std::alloc::Global;
-use term_core::{Node, OutOfMemory, SymId, Term, Terms};
+use term_core::{TermNode, OutOfMemory, SymId, Term, Terms};
 
 /// The argument patterns of the left sides of a function, in the order of its rules: what
 /// [`covers`](crate::covers) takes with the function's argument sorts.
@@ -35,7 +35,7 @@ fn add_row(
     ensures { OnOk result (rows.new.items ≡ rows.old.items ++ row_of function.0 left.now) }
 {
     match &left.node {
-        Node::App(sym, args) if *sym == function => {
+        TermNode::App(sym, args) if *sym == function => {
             rows.push(args.copy(alloc)?)?;
             Ok(())
         }

@@ -7,7 +7,7 @@ ghost use Rattle.coverage_check.specs.Opened.{opened};
 ghost use Rattle.coverage_check.specs.Decisions.{IsOpening};
 
 use std::alloc::Global;
-use term_core::{Node, OutOfMemory, SortId, SymId, Term, TermRefs, front};
+use term_core::{TermNode, OutOfMemory, SortId, SymId, Term, TermRefs, front};
 
 /// The rows opened at a constructor with `count` arguments: of a row that begins with it, the
 /// arguments come first; of one that begins with a variable, as many variables; and a row that
@@ -47,8 +47,8 @@ fn open_row<'a>(
             let first = *first;
             let mut made = TermRefs::new(alloc);
             match &first.node {
-                Node::Var(_) => push_times(&mut made, any, count)?,
-                Node::App(other, args) => {
+                TermNode::Var(_) => push_times(&mut made, any, count)?,
+                TermNode::App(other, args) => {
                     if other.0 != sym.0 {
                         return Ok(None);
                     }

@@ -8,7 +8,7 @@ ghost use Rattle.coverage_check.specs.Columns.{IsVariable, is_application, has_s
 ghost use Rattle.coverage_check.specs.Decisions.{BeginsOtherwise};
 
 use std::alloc::Global;
-use term_core::{Node, OutOfMemory, SymId, Term, TermRefs, front};
+use term_core::{TermNode, OutOfMemory, SymId, Term, TermRefs, front};
 
 /// Whether the pattern at the column is there and no variable.
 pub(crate) fn has_symbol_at(row: &TermRefs, column: usize) -> bool
@@ -54,8 +54,8 @@ pub(crate) fn begins_otherwise(row: &TermRefs, sym: SymId) -> bool
 {
     match front(row.as_slice()) {
         Some((pattern, _)) => match &pattern.node {
-            Node::Var(_) => true,
-            Node::App(other, _) => other.0 != sym.0,
+            TermNode::Var(_) => true,
+            TermNode::App(other, _) => other.0 != sym.0,
         },
         None => true,
     }
@@ -105,7 +105,7 @@ fn is_application(term: &Term) -> bool
     ensures { result ≡ is_application term.now }
 {
     match &term.node {
-        Node::Var(_) => false,
-        Node::App(_, _) => true,
+        TermNode::Var(_) => false,
+        TermNode::App(_, _) => true,
     }
 }

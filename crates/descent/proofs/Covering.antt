@@ -21,11 +21,11 @@ use Rattle.clause_core.specs.declared.clauses.Clause.{Clause}
 use Rattle.clause_core.specs.declared.clauses.Relation.TheVariants.{Same}
 use Rattle.clause_core.specs.Clauses.{sides, ClauseIsSorted}
 use Rattle.clause_core.specs.Patterns.{IsPatternOf, IsInstanceOf, AreCovering}
-use Rattle.clause_core.specs.Splitting.{ArePatternsFor, covered_by}
+use Rattle.clause_core.specs.Covering.{ArePatternsFor, covered_by}
 use Rattle.clause_core.specs.Instances.{variables}
 use Rattle.clause_core.specs.Tidied.{variables_of, tidied}
 use Rattle.clause_core.specs.Failing.{ClauseFails, values_at}
-use Rattle.clause_core.proofs.OneSplitting.{in_range}
+use Rattle.clause_core.proofs.OneCovering.{in_range}
 use Rattle.clause_core.proofs.Multisets.{in_either}
 use Rattle.descent.specs.Descent.{GoesTo}
 use Rattle.descent.proofs.Closers.{value_of}

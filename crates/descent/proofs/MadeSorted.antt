@@ -29,7 +29,7 @@ use Rattle.clause_core.specs.Rows.{child}
 use Rattle.clause_core.specs.Solving.{Solves, IsSolved}
 use Rattle.clause_core.specs.Instances.{with_term, variables}
 use Rattle.clause_core.specs.Patterns.{IsPatternOf}
-use Rattle.clause_core.specs.Splitting.{covered_by, cover_child}
+use Rattle.clause_core.specs.Covering.{covered_by, cover_child}
 use Rattle.clause_core.specs.Generalizing.{IsGeneral}
 use Rattle.clause_core.specs.Abstracting.{generalized}
 use Rattle.clause_core.specs.RuleInstances.{guard_equation, guard_equations}

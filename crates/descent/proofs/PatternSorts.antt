@@ -10,7 +10,7 @@ use Rattle.term_core.proofs.Members.{In}
 use Rattle.spec_core.specs.Sig.{Sig, IsSort, SortsAreInRange}
 use Rattle.spec_core.specs.Sorts.{Sorted, SortedAll}
 use Rattle.clause_core.specs.Patterns.{IsPatternOf}
-use Rattle.clause_core.proofs.OneSplitting.{in_range}
+use Rattle.clause_core.proofs.OneCovering.{in_range}
 use Rattle.clause_core.proofs.Multisets.{in_either}
 
 -- the sorts of a pattern's variables are the signature's

@@ -28,7 +28,7 @@ use Rattle.clause_core.specs.Subsuming.{subsumed_by, subsume_row, by_lemma_row}
 use Rattle.clause_core.specs.Simplifying.{pairs, decompose_row, clash_row, drop_row}
 use Rattle.clause_core.specs.Solving.{solve_row}
 use Rattle.clause_core.specs.Instances.{with_term}
-use Rattle.clause_core.specs.Splitting.{cover_child, cover_row}
+use Rattle.clause_core.specs.Covering.{cover_child, cover_row}
 use Rattle.clause_core.specs.Generalizing.{generalize_row}
 use Rattle.clause_core.specs.Abstracting.{generalized}
 use Rattle.clause_core.specs.RuleInstances.{group_of}

@@ -21,7 +21,7 @@ use Rattle.clause_core.specs.Instances.{with_term}
 use Rattle.clause_core.specs.Tidied.{tidied}
 use Rattle.clause_core.specs.Rows.{Made, child, makes}
 use Rattle.clause_core.specs.Says.{IsChild, IsReference, Says}
-use Rattle.clause_core.specs.Splitting.{covered_by, cover_child}
+use Rattle.clause_core.specs.Covering.{covered_by, cover_child}
 use Rattle.descent.specs.Descent.{GoesTo, GoesOn, StepDescends}
 use Rattle.descent.proofs.Closers.{trivial_closes, match_closes, absurd_closes}
 use Rattle.descent.proofs.Removing.{removed_goes}

@@ -6,7 +6,7 @@ ghost use Rattle.term_core.specs.Measure.{weight, list_weight};
 ghost use Rattle.fitting_lists.specs.Along.{StillBecomes, IsLighter};
 
 use spec_core::Equation;
-use term_core::{Node, Term};
+use term_core::{TermNode, Term};
 
 /// What a walk along last arguments finds at a pattern and a term: that their symbols differ, so
 /// that no list makes the pattern the term, that the walk ends there, or their last arguments.
@@ -55,8 +55,8 @@ fn last_arguments<'a>(pattern: &'a Term, term: &'a Term) -> Below<'a>
     ensures lighter { IsLighter (weight pattern.now) result }
 {
     match (&pattern.node, &term.node) {
-        (Node::Var(_), _) => Below::End,
-        (Node::App(sym, patterns), Node::App(other, terms)) => {
+        (TermNode::Var(_), _) => Below::End,
+        (TermNode::App(sym, patterns), TermNode::App(other, terms)) => {
             if sym != other {
                 return Below::Differing;
             }

@@ -3,7 +3,7 @@
 ghost use Rattle.std.specs.Prelude.{◌≡◌, List, IsTrue};
 ghost use Rattle.term_core.specs.Tree.{Tree, trees_of, instance, instances};
 
-use term_core::{Node, Term, front};
+use term_core::{TermNode, Term, front};
 
 /// Whether the symbols of the pattern occur in the term too. If they don't, no list makes the
 /// pattern the term. Repeated variables are not compared.
@@ -12,8 +12,8 @@ pub fn may_become(pattern: &Term, term: &Term) -> bool
     ensures { (list : List Tree) → instance list pattern.now ≡ term.now → IsTrue result }
 {
     match (&pattern.node, &term.node) {
-        (Node::Var(_), _) => true,
-        (Node::App(sym, patterns), Node::App(other, terms)) => {
+        (TermNode::Var(_), _) => true,
+        (TermNode::App(sym, patterns), TermNode::App(other, terms)) => {
             sym == other && may_become_all(patterns.as_slice(), terms.as_slice())
         }
         _ => false,
@@ -41,8 +41,8 @@ fn roots_agree(pattern: &Term, term: &Term) -> bool
     ensures { (list : List Tree) → instance list pattern.now ≡ term.now → IsTrue result }
 {
     match (&pattern.node, &term.node) {
-        (Node::Var(_), _) => true,
-        (Node::App(sym, _), Node::App(other, _)) => sym == other,
+        (TermNode::Var(_), _) => true,
+        (TermNode::App(sym, _), TermNode::App(other, _)) => sym == other,
         _ => false,
     }
 }
@@ -52,8 +52,8 @@ pub fn heads_agree(pattern: &Term, term: &Term) -> bool
     ensures { (list : List Tree) → instance list pattern.now ≡ term.now → IsTrue result }
 {
     match (&pattern.node, &term.node) {
-        (Node::Var(_), _) => true,
-        (Node::App(sym, patterns), Node::App(other, terms)) => {
+        (TermNode::Var(_), _) => true,
+        (TermNode::App(sym, patterns), TermNode::App(other, terms)) => {
             sym == other && all_roots_agree(patterns.as_slice(), terms.as_slice())
         }
         _ => false,

@@ -6,7 +6,7 @@ ghost use Rattle.term_core.specs.Variables.{Occurs, OccursAny};
 ghost use Rattle.fitting_lists.specs.Marks.{IsMarked, MarksMore};
 
 use std::alloc::Global;
-use term_core::{Node, OutOfMemory, Term};
+use term_core::{TermNode, OutOfMemory, Term};
 
 /// No marks for this many variables.
 pub(crate) fn no_marks(alloc: Global, count: usize) -> Result<Vec<bool>, OutOfMemory>
@@ -21,8 +21,8 @@ pub(crate) fn mark(term: &Term, marks: &mut [bool])
     ensures { MarksMore marks.old marks.new (λ n. Occurs n term.now) }
 {
     match &term.node {
-        Node::Var(var) => mark_variable(var.0 as usize, marks),
-        Node::App(_, arguments) => mark_all(arguments.as_slice(), marks),
+        TermNode::Var(var) => mark_variable(var.0 as usize, marks),
+        TermNode::App(_, arguments) => mark_all(arguments.as_slice(), marks),
     }
 }
 

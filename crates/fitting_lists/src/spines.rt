@@ -5,7 +5,7 @@ ghost use Rattle.term_core.specs.Tree.{app, trees_of};
 ghost use Rattle.term_core.specs.Measure.{list_weight};
 ghost use Rattle.fitting_lists.specs.Spines.{one_more, last_run, spine_of, EndsWithin, MayBecome, missing_in};
 
-use term_core::{Node, SymId, Term};
+use term_core::{TermNode, SymId, Term};
 
 /// What ends a spine: a variable, that the last symbol has no arguments, or another symbol.
 #[derive(Clone, Copy, Debug, PartialEq, Eq)]
@@ -31,12 +31,12 @@ impl Spine {
         ensures { result ≡ spine_of term.now }
     {
         match &term.node {
-            Node::Var(_) => Spine {
+            TermNode::Var(_) => Spine {
                 root: None,
                 length: 0,
                 end: SpineEnd::Variable,
             },
-            Node::App(symbol, arguments) => spine_below(*symbol, arguments.as_slice()),
+            TermNode::App(symbol, arguments) => spine_below(*symbol, arguments.as_slice()),
         }
     }
 
@@ -57,8 +57,8 @@ impl Spine {
         ensures { result ≡ missing_in self term.now }
     {
         match &term.node {
-            Node::Var(_) => self.length,
-            Node::App(symbol, arguments) => {
+            TermNode::Var(_) => self.length,
+            TermNode::App(symbol, arguments) => {
                 if self.length > 0 && self.root == Some(*symbol) {
                     missing_along(*symbol, arguments.as_slice(), self.length - 1)
                 } else {
@@ -134,8 +134,8 @@ fn next_along(symbol: SymId, terms: &[Term]) -> Result<&[Term], SpineEnd>
     }
     let last = &terms[terms.len() - 1];
     match &last.node {
-        Node::Var(_) => Err(SpineEnd::Variable),
-        Node::App(other, arguments) => {
+        TermNode::Var(_) => Err(SpineEnd::Variable),
+        TermNode::App(other, arguments) => {
             if *other == symbol {
                 Ok(arguments.as_slice())
             } else {

@@ -10,7 +10,7 @@ use Rattle.spec_core.specs.declared.records.Guard.{Guard}
 use Rattle.spec_core.specs.declared.records.Rule.{Rule}
 use Rattle.rule_code.specs.Lengths.{term_length, tests_length, rules_length}
 use Rattle.bank_machine.specs.Fuel.{most_guards}
-use Rattle.constants.specs.Shifted.{shifted, shifted_all, shifted_equation, shifted_guard, shifted_rule, shifted_goal}
+use Rattle.open_evaluation.specs.Shifted.{shifted, shifted_all, shifted_equation, shifted_guard, shifted_rule, shifted_goal}
 use Rattle.ground_eval.specs.Prepared.{sides_length, goal_length}
 
 -- one more equation

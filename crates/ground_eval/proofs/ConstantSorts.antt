@@ -6,7 +6,7 @@ use Rattle.term_core.specs.declared.ids.SortId.{SortId}
 use Rattle.spec_core.specs.declared.records.VarInfo.{VarInfo}
 use Rattle.spec_core.specs.Sig.{Sig, IsSort}
 use Rattle.spec_core.specs.WellSorted.{sorts_of}
-use Rattle.constants.specs.Shifted.{IsNoBoolean}
+use Rattle.open_evaluation.specs.Shifted.{IsNoBoolean}
 use Rattle.ground_eval.specs.ConstantSorts.{IsOther, IsFilled, AreFilled}
 use Rattle.ground_eval.specs.Opened.{HaveConstants}
 

@@ -15,8 +15,8 @@ use Rattle.spec_core.specs.WellSorted.{IsWellSorted, sorts_of}
 use Rattle.value_bank.specs.Cells.{Cell, AddsCells}
 use Rattle.value_bank.specs.declared.bank.ValueId.{ValueId}
 use Rattle.bank_machine.specs.Runs.{StandAt}
-use Rattle.constants.specs.Shifted.{closed}
-use Rattle.open_walk.proofs.ClosedTerms.{closed_boolean}
+use Rattle.open_evaluation.specs.Shifted.{closed}
+use Rattle.open_evaluation.proofs.ClosedTerms.{closed_boolean}
 use Rattle.ground_eval.specs.Entries.{IsEntry, AreEntries, AreEntriesAt}
 use Rattle.ground_eval.specs.Opened.{Partial, AreFirstValues}
 use Rattle.ground_eval.proofs.EntrySteps.{fit_more, firsts_fit}

@@ -18,12 +18,12 @@ use Rattle.spec_core.specs.Gives.{boolean}
 use Rattle.spec_core.specs.Declarations.{bool_sort}
 use Rattle.spec_core.specs.WellSorted.{IsWellSorted, sorts_of}
 use Rattle.spec_core.specs.Truth.{AreValuesOf}
-use Rattle.open_walk.specs.OpenGives.{IsOpen}
-use Rattle.open_walk.specs.OpenVerdict.{opened, IsOpenVerdict}
-use Rattle.open_walk.specs.Laws.{AreInstances}
-use Rattle.open_walk.proofs.OpenInstances.{verdict_still}
-use Rattle.open_walk.proofs.OpenValues.{built_open}
-use Rattle.open_walk.proofs.OpenWalks.{built_closed, closed_stays, opened_instance}
+use Rattle.open_evaluation.specs.OpenGives.{IsOpen}
+use Rattle.open_evaluation.specs.OpenVerdict.{opened, IsOpenVerdict}
+use Rattle.open_evaluation.specs.WalkLaws.{AreInstances}
+use Rattle.open_evaluation.proofs.OpenInstances.{verdict_still}
+use Rattle.open_evaluation.proofs.OpenValues.{built_open}
+use Rattle.open_evaluation.proofs.OpenWalks.{built_closed, closed_stays, opened_instance}
 use Rattle.ground_eval.specs.Entries.{IsEntry, AreEntries, SayOfAll}
 use Rattle.ground_eval.specs.Opened.{AllHaveVerdict, IsOpenYet}
 use Rattle.ground_eval.specs.Sides.{IsDecided}

@@ -17,16 +17,16 @@ use Rattle.spec_core.specs.Gives.{Gives}
 use Rattle.spec_core.specs.Truth.{AllHold, AllBroken}
 use Rattle.spec_core.specs.Verdict.{SideGives, SideSpent, SidesSpent, SidesSame, SidesDiffer, ConclusionsSay, PremisesSay}
 use Rattle.spec_core.proofs.Determined.{occurs_within}
-use Rattle.constants.specs.Shifted.{shifted, closed, shifted_equation, shifted_goal}
-use Rattle.constants.proofs.Apart.{apart_still, whole_still}
-use Rattle.open_walk.specs.OpenGives.{IsOpen, AreOpen, VariablesAreBelow, HasNoVariable}
-use Rattle.open_walk.proofs.ClosedTerms.{value_stays, closed_by_entries}
-use Rattle.open_walk.proofs.Instancing.{gives_closed}
-use Rattle.open_walk.proofs.Occurring.{below_instance}
-use Rattle.open_walk.proofs.OpenValues.{gives_open, keeps_below, opens}
-use Rattle.open_walk.proofs.OpenWalks.{built_closed}
-use Rattle.open_walk.proofs.OutOfConstants.{gives_out}
-use Rattle.open_walk.proofs.WithConstants.{gives_with}
+use Rattle.open_evaluation.specs.Shifted.{shifted, closed, shifted_equation, shifted_goal}
+use Rattle.open_evaluation.proofs.Apart.{apart_still, whole_still}
+use Rattle.open_evaluation.specs.OpenGives.{IsOpen, AreOpen, VariablesAreBelow, HasNoVariable}
+use Rattle.open_evaluation.proofs.ClosedTerms.{value_stays, closed_by_entries}
+use Rattle.open_evaluation.proofs.Instancing.{gives_closed}
+use Rattle.open_evaluation.proofs.Occurring.{below_instance}
+use Rattle.open_evaluation.proofs.OpenValues.{gives_open, keeps_below, opens}
+use Rattle.open_evaluation.proofs.OpenWalks.{built_closed}
+use Rattle.open_evaluation.proofs.OutOfConstants.{gives_out}
+use Rattle.open_evaluation.proofs.WithConstants.{gives_with}
 use Rattle.std.proofs.lemmas.List.Elements.{All-from_recursion}
 use Rattle.ground_eval.specs.Opened.{Extends}
 use Rattle.ground_eval.specs.Sides.{IsDecided}

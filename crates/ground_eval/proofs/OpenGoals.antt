@@ -16,12 +16,12 @@ use Rattle.spec_core.proofs.Determined.{occurs_within}
 use Rattle.value_bank.specs.Cells.{Cell}
 use Rattle.value_bank.specs.declared.bank.ValueId.{ValueId}
 use Rattle.rule_code.specs.Programs.{Program}
-use Rattle.constants.specs.Shifted.{closed, shifted_equation}
-use Rattle.constants.proofs.Extended.{info_constant, value_kept}
-use Rattle.open_walk.specs.OpenGives.{VariablesAreBelow}
-use Rattle.open_walk.proofs.ClosedTerms.{closed_by_entries, value_stays}
-use Rattle.open_walk.proofs.Occurring.{below_instance}
-use Rattle.open_walk.proofs.OpenWalks.{built_closed}
+use Rattle.open_evaluation.specs.Shifted.{closed, shifted_equation}
+use Rattle.open_evaluation.proofs.Extended.{info_constant, value_kept}
+use Rattle.open_evaluation.specs.OpenGives.{VariablesAreBelow}
+use Rattle.open_evaluation.proofs.ClosedTerms.{closed_by_entries, value_stays}
+use Rattle.open_evaluation.proofs.Occurring.{below_instance}
+use Rattle.open_evaluation.proofs.OpenWalks.{built_closed}
 use Rattle.ground_eval.specs.declared.comparing.SidePair.{SidePair}
 use Rattle.ground_eval.specs.Entries.{IsEntry, AreEntries}
 use Rattle.ground_eval.specs.Opened.{Extends, HaveConstants}

@@ -10,15 +10,15 @@ use Rattle.spec_core.specs.Groups.{GroupsAreWhole}
 use Rattle.spec_core.specs.Gives.{Gives}
 use Rattle.spec_core.specs.Verdict.{SideGives, SideSpent}
 use Rattle.spec_core.proofs.Determined.{determined}
-use Rattle.constants.specs.Shifted.{shifted, closed, closed_all}
-use Rattle.constants.proofs.Numbers.{number_kept}
-use Rattle.constants.proofs.Apart.{apart_still, whole_still}
-use Rattle.open_walk.specs.OpenGives.{IsOpen, AreOpen, VariablesAreBelow}
-use Rattle.open_walk.specs.OpenVerdict.{HeadsDiffer, AreDifferent, SideOpens}
-use Rattle.open_walk.proofs.ClosedTerms.{closed_inj}
-use Rattle.open_walk.proofs.OpenValues.{gives_open, keeps_below}
-use Rattle.open_walk.proofs.WithConstants.{gives_with}
-use Rattle.open_walk.proofs.OutOfConstants.{gives_out}
+use Rattle.open_evaluation.specs.Shifted.{shifted, closed, closed_all}
+use Rattle.open_evaluation.proofs.Numbers.{number_kept}
+use Rattle.open_evaluation.proofs.Apart.{apart_still, whole_still}
+use Rattle.open_evaluation.specs.OpenGives.{IsOpen, AreOpen, VariablesAreBelow}
+use Rattle.open_evaluation.specs.OpenVerdict.{HeadsDiffer, AreDifferent, SideOpens}
+use Rattle.open_evaluation.proofs.ClosedTerms.{closed_inj}
+use Rattle.open_evaluation.proofs.OpenValues.{gives_open, keeps_below}
+use Rattle.open_evaluation.proofs.WithConstants.{gives_with}
+use Rattle.open_evaluation.proofs.OutOfConstants.{gives_out}
 use Rattle.ground_eval.specs.declared.answers.OpenSides.{OpenSides}
 use Rattle.ground_eval.specs.declared.answers.OpenSides.TheVariants.{Same, Differ, Unknown}
 use Rattle.ground_eval.specs.Constants.{IsConstant, HasConstant, SomeHasConstant, HeadsAreApart, AreApart, ValuesAre}

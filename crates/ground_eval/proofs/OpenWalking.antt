@@ -9,7 +9,7 @@ use Rattle.spec_core.specs.declared.records.Verdict.{Verdict}
 use Rattle.spec_core.specs.declared.records.Verdict.TheVariants.{Holds, Fails}
 use Rattle.spec_core.specs.Overlap.{NoOverlap}
 use Rattle.spec_core.specs.Groups.{GroupsAreWhole}
-use Rattle.open_walk.specs.OpenVerdict.{OpenConclusionsSay, OpenPremisesSay}
+use Rattle.open_evaluation.specs.OpenVerdict.{OpenConclusionsSay, OpenPremisesSay}
 use Rattle.ground_eval.specs.declared.answers.OpenSides.TheVariants.{Same, Differ, Unknown}
 use Rattle.ground_eval.specs.OpenSides.{Setting, SidesOpen, IsSame, IsDifferent, Isnt, PremisesOpen, ConclusionsOpen, GoalOpens}
 

@@ -23,14 +23,14 @@ use Rattle.value_bank.specs.declared.bank.ValueId.{ValueId}
 use Rattle.rule_code.specs.Programs.{Program}
 use Rattle.rule_code.proofs.Testing.{terms_count}
 use Rattle.bank_machine.specs.Runs.{StandAt}
-use Rattle.constants.specs.Shifted.{closed, shifted_goal}
-use Rattle.constants.proofs.ShiftedRules.{shifted_goal_sorted}
-use Rattle.open_walk.specs.OpenGives.{VariablesAreBelow}
-use Rattle.open_walk.specs.Laws.{AreInstances}
-use Rattle.open_walk.specs.OpenVerdict.{opened, IsOpenVerdict}
-use Rattle.open_walk.proofs.OpenInstances.{verdict_still}
-use Rattle.open_walk.proofs.OpenValues.{all_built_open}
-use Rattle.open_walk.proofs.OpenWalks.{opened_instance, verdict_under}
+use Rattle.open_evaluation.specs.Shifted.{closed, shifted_goal}
+use Rattle.open_evaluation.proofs.ShiftedRules.{shifted_goal_sorted}
+use Rattle.open_evaluation.specs.OpenGives.{VariablesAreBelow}
+use Rattle.open_evaluation.specs.WalkLaws.{AreInstances}
+use Rattle.open_evaluation.specs.OpenVerdict.{opened, IsOpenVerdict}
+use Rattle.open_evaluation.proofs.OpenInstances.{verdict_still}
+use Rattle.open_evaluation.proofs.OpenValues.{all_built_open}
+use Rattle.open_evaluation.proofs.OpenWalks.{opened_instance, verdict_under}
 use Rattle.ground_eval.specs.declared.comparing.SidePair.{SidePair}
 use Rattle.ground_eval.specs.declared.marks.Constants.{Constants}
 use Rattle.ground_eval.specs.Entries.{AreEntries, SayOfAll, AreEntriesAt}

@@ -13,9 +13,9 @@ use Rattle.spec_core.specs.Truth.{AreValuesOf}
 use Rattle.value_bank.specs.Cells.{Cell}
 use Rattle.value_bank.specs.declared.bank.ValueId.{ValueId}
 use Rattle.bank_machine.specs.Runs.{StandAt}
-use Rattle.constants.specs.Shifted.{closed}
-use Rattle.open_walk.specs.Laws.{AreInstances}
-use Rattle.open_walk.specs.OpenVerdict.{IsOpenVerdict}
+use Rattle.open_evaluation.specs.Shifted.{closed}
+use Rattle.open_evaluation.specs.WalkLaws.{AreInstances}
+use Rattle.open_evaluation.specs.OpenVerdict.{IsOpenVerdict}
 use Rattle.ground_eval.specs.Opened.{Partial}
 use Rattle.ground_eval.specs.Sides.{IsDecided}
 

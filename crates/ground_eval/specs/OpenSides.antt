@@ -15,9 +15,9 @@ use Rattle.value_bank.specs.Cells.{Cell}
 use Rattle.value_bank.specs.declared.bank.ValueId.{ValueId}
 use Rattle.rule_code.specs.Lengths.{rules_length}
 use Rattle.rule_code.specs.Programs.{Program}
-use Rattle.constants.specs.Shifted.{shifted, closed, shifted_equation}
-use Rattle.open_walk.specs.OpenGives.{VariablesAreBelow}
-use Rattle.open_walk.specs.OpenVerdict.{OpenSame, OpenDiffer, OpenConclusionsSay, OpenPremisesSay, IsOpenVerdict}
+use Rattle.open_evaluation.specs.Shifted.{shifted, closed, shifted_equation}
+use Rattle.open_evaluation.specs.OpenGives.{VariablesAreBelow}
+use Rattle.open_evaluation.specs.OpenVerdict.{OpenSame, OpenDiffer, OpenConclusionsSay, OpenPremisesSay, IsOpenVerdict}
 use Rattle.ground_eval.specs.declared.answers.OpenSides.{OpenSides}
 use Rattle.ground_eval.specs.declared.answers.OpenSides.TheVariants.{Same, Differ, Unknown}
 use Rattle.ground_eval.specs.declared.comparing.SidePair.{SidePair}

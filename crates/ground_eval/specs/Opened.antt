@@ -12,8 +12,8 @@ use Rattle.spec_core.specs.Overlap.{NoOverlap}
 use Rattle.spec_core.specs.Groups.{GroupsAreWhole}
 use Rattle.spec_core.specs.Truth.{AreValuesOf}
 use Rattle.value_bank.specs.Cells.{Cell}
-use Rattle.constants.specs.Shifted.{IsExtended, shifted_goal}
-use Rattle.open_walk.specs.OpenVerdict.{opened, IsOpenVerdict}
+use Rattle.open_evaluation.specs.Shifted.{IsExtended, shifted_goal}
+use Rattle.open_evaluation.specs.OpenVerdict.{opened, IsOpenVerdict}
 use Rattle.ground_eval.specs.Constants.{AreMarks}
 use Rattle.ground_eval.specs.Sides.{IsDecided}
 use Rattle.ground_eval.specs.declared.marks.ConstantMarks.{ConstantMarks}

@@ -2,7 +2,7 @@
 //! uses.
 //!
 //! Uses term_core, spec_core, value_bank, rule_code and bank_machine. For verdicts in which only
-//! the first variables have values it uses constants and open_walk. For one verdict call
+//! the first variables have values it uses open_evaluation. For one verdict call
 //! [`verdict`]. If the values are in a bank already, [`Evaluate::run`], [`verdict_in`] and
 //! [`verdict_part`] take their places. A search makes one [`PartialGoal`] and one bank for the
 //! verdicts of a goal. [`PartialGoal::verdict_part`] answers for all lists of values that begin

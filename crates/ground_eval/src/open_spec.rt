@@ -6,11 +6,11 @@ ghost use Rattle.term_core.specs.declared.ids.SortId.{SortId};
 ghost use Rattle.spec_core.specs.declared.records.VarInfo.{VarInfo};
 ghost use Rattle.spec_core.specs.Sig.{Sig, IsSort};
 ghost use Rattle.spec_core.specs.WellSorted.{IsWellSorted, sorts_of};
-ghost use Rattle.constants.specs.Shifted.{IsNoBoolean};
+ghost use Rattle.open_evaluation.specs.Shifted.{IsNoBoolean};
 ghost use Rattle.ground_eval.specs.ConstantSorts.{IsOther, IsFilled, AreFilled};
 ghost use Rattle.ground_eval.specs.Opened.{HaveConstants, IsOpened};
 
-use constants::{shifted_goal, with_constants};
+use open_evaluation::{shifted_goal, with_constants};
 use spec_core::{Goal, Spec, VarInfo};
 use std::alloc::Global;
 use term_core::{OutOfMemory, SortId, front};

@@ -13,7 +13,7 @@ use Rattle.clause_core.specs.Rewriting.{rule_row}
 use Rattle.clause_core.specs.CaseSplitting.{case_row}
 use Rattle.clause_core.specs.Simplifying.{decompose_row, clash_row, drop_row}
 use Rattle.clause_core.specs.Solving.{solve_row}
-use Rattle.clause_core.specs.Splitting.{cover_row}
+use Rattle.clause_core.specs.Covering.{cover_row}
 use Rattle.clause_core.specs.Generalizing.{generalize_row}
 use Rattle.inference_rules.proofs.Alone.{IsRelated, ComparesNothing}
 

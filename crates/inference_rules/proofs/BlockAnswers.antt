@@ -17,7 +17,7 @@ use Rattle.clause_core.specs.Rows.{Row}
 use Rattle.clause_core.specs.RuleInstances.{group_of}
 use Rattle.clause_core.specs.Rewriting.{rule_row}
 use Rattle.clause_core.specs.CaseSplitting.{case_child, case_row}
-use Rattle.clause_core.specs.Splitting.{ArePatternsFor, cover_row}
+use Rattle.clause_core.specs.Covering.{ArePatternsFor, cover_row}
 use Rattle.cond_rewrite.specs.RowAnswers.{RowAnswers, IsRefused}
 use Rattle.cond_rewrite.specs.Laws.{SaysInBlock}
 use Rattle.cond_rewrite.proofs.Blocks.{AreLesser, says_in_block}

@@ -13,7 +13,7 @@ use crate::nodes::StepError;
 use clause_core::{Children, Clause, Why, is_either, is_identity};
 use spec_core::{Signature, Spec};
 use std::alloc::Global;
-use term_core::{Node, SymId, Term, VarId};
+use term_core::{TermNode, SymId, Term, VarId};
 
 /// `trivial`: the sides of the conclusion are one term.
 pub(crate) fn trivial(alloc: Global, clause: &Clause, number: u16) -> Result<Children, StepError>
@@ -76,12 +76,12 @@ pub(crate) fn clashes(sig: &Signature, left: &Term, right: &Term) -> bool
     ensures { IsTrue result ↔ Clash sig.now left.now right.now }
 {
     match (&left.node, &right.node) {
-        (Node::App(f, _), Node::App(g, _)) => {
+        (TermNode::App(f, _), TermNode::App(g, _)) => {
             f != g && is_constructor(sig, *f) && is_constructor(sig, *g)
         }
-        (Node::Var(var), Node::App(_, _)) => stands_under(sig, *var, right),
-        (Node::App(_, _), Node::Var(var)) => stands_under(sig, *var, left),
-        (Node::Var(_), Node::Var(_)) => false,
+        (TermNode::Var(var), TermNode::App(_, _)) => stands_under(sig, *var, right),
+        (TermNode::App(_, _), TermNode::Var(var)) => stands_under(sig, *var, left),
+        (TermNode::Var(_), TermNode::Var(_)) => false,
     }
 }
 
@@ -91,8 +91,8 @@ fn stands_under(sig: &Signature, var: VarId, term: &Term) -> bool
     ensures { IsTrue result ↔ StandsUnder sig.now var.0 term.now }
 {
     match &term.node {
-        Node::Var(other) => var == *other,
-        Node::App(sym, args) => {
+        TermNode::Var(other) => var == *other,
+        TermNode::App(sym, args) => {
             is_constructor(sig, *sym) && stands_under_any(sig, var, args.as_slice())
         }
     }

@@ -1,7 +1,7 @@
 //! The step `cover`, by test_sets.
 
 ghost use Rattle.clause_core.specs.Clauses.{ClauseIsSorted};
-ghost use Rattle.clause_core.specs.Splitting.{cover_row};
+ghost use Rattle.clause_core.specs.Covering.{cover_row};
 ghost use Rattle.inference_rules.specs.Answers.{AnsweredAlone};
 
 use crate::making::{counted, with_relation};

@@ -14,7 +14,7 @@ use crate::nodes::StepError;
 use clause_core::{Children, Clause, Relation, Why};
 use spec_core::{Equation, Signature, Spec};
 use std::alloc::Global;
-use term_core::{Node, OutOfMemory, Seq, SortId, Term, Terms, VarId};
+use term_core::{TermNode, OutOfMemory, Seq, SortId, Term, Terms, VarId};
 
 /// `generalize`: a fresh variable stands for each occurrence of the term, which is sorted and no
 /// variable.
@@ -43,8 +43,8 @@ fn general_sort(sig: &Signature, ctx: &[SortId], term: &Term) -> Option<SortId>
         (λ s. IsGeneral sig.now ctx.now term.now s) }
 {
     match &term.node {
-        Node::Var(_) => None,
-        Node::App(_, _) => sig.sort_of(ctx, term),
+        TermNode::Var(_) => None,
+        TermNode::App(_, _) => sig.sort_of(ctx, term),
     }
 }
 
@@ -77,8 +77,8 @@ fn is_part(term: &Term, whole: &Term) -> bool
         return true;
     }
     match &whole.node {
-        Node::Var(_) => false,
-        Node::App(_, args) => is_part_of_any(term, args.as_slice()),
+        TermNode::Var(_) => false,
+        TermNode::App(_, args) => is_part_of_any(term, args.as_slice()),
     }
 }
 
@@ -145,8 +145,8 @@ fn abstracted(alloc: Global, whole: &Term, term: &Term, var: VarId) -> Result<Te
     ensures { IfOk result (λ made. made ≡ with_variable term.now var.0 whole.now) }
 {
     match &whole.node {
-        Node::Var(other) => Ok(Term::var(*other)),
-        Node::App(sym, args) => {
+        TermNode::Var(other) => Ok(Term::var(*other)),
+        TermNode::App(sym, args) => {
             if term.same(whole) {
                 return Ok(Term::var(var));
             }

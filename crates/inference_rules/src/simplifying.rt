@@ -16,7 +16,7 @@ use crate::nodes::StepError;
 use clause_core::{Children, Clause, Relation, Why};
 use spec_core::{Equation, Signature, Spec};
 use std::alloc::Global;
-use term_core::{Node, OutOfMemory, Term};
+use term_core::{TermNode, OutOfMemory, Term};
 
 /// `decompose`: both sides have the same constructor as head, and the arguments are equated in
 /// their place. Of a premise all these equations are there, of a conclusion each in its child.
@@ -88,7 +88,7 @@ fn arguments_of<'a>(sig: &Signature, equation: &'a Equation) -> Option<(&'a [Ter
         (λ args. (heads : SameHeads sig.now equation.now)
         × (heads.lefts ≡ trees_of args.0.now) × (heads.rights ≡ trees_of args.1.now)) }
 {
-    let (Node::App(f, lefts), Node::App(g, rights)) = (&equation.left.node, &equation.right.node)
+    let (TermNode::App(f, lefts), TermNode::App(g, rights)) = (&equation.left.node, &equation.right.node)
     else {
         return None;
     };

@@ -15,7 +15,7 @@ use clause_core::{Children, Clause, Relation, Why, instance, instance_within};
 use spec_core::{Equation, Signature, Spec};
 use std::alloc::Global;
 use substitutions::Subst;
-use term_core::{Node, Term, VarId};
+use term_core::{TermNode, Term, VarId};
 
 /// `solve`: the premise equates a variable to a term without functions in which it doesn't occur.
 /// The premise is left out, and the term is put for the variable everywhere. A child that passes
@@ -56,8 +56,8 @@ fn solved_for(equation: &Equation) -> Option<(VarId, &Term)>
         (λ found. Solves equation.now.left equation.now.right found.0.0 found.1.now) }
 {
     match (&equation.left.node, &equation.right.node) {
-        (Node::Var(var), _) => Some((*var, &equation.right)),
-        (_, Node::Var(var)) => Some((*var, &equation.left)),
+        (TermNode::Var(var), _) => Some((*var, &equation.right)),
+        (_, TermNode::Var(var)) => Some((*var, &equation.left)),
         _ => None,
     }
 }
@@ -68,8 +68,8 @@ fn is_pattern_without(sig: &Signature, var: VarId, term: &Term) -> bool
     ensures { IsTrue result ↔ (IsPattern sig.now term.now × (Occurs var.0 term.now → ⊥)) }
 {
     match &term.node {
-        Node::Var(other) => var != *other,
-        Node::App(sym, args) => {
+        TermNode::Var(other) => var != *other,
+        TermNode::App(sym, args) => {
             is_constructor(sig, *sym) && are_patterns_without(sig, var, args.as_slice())
         }
     }

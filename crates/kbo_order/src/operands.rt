@@ -6,7 +6,7 @@ ghost use Rattle.term_core.specs.Tree.{Tree};
 ghost use Rattle.term_order.specs.Operands.{meaning};
 ghost use Rattle.kbo_order.specs.Operands.{meanings, IsRoot};
 
-use term_core::{Node, SymId, Term, VarId};
+use term_core::{TermNode, SymId, Term, VarId};
 use term_order::Operand;
 
 /// Terms that are compared, all of them as they are or all as patterns.
@@ -32,8 +32,8 @@ impl<'a> Root<'a> {
         let resolved = operand.resolved(list);
         let term = resolved.term;
         match &term.node {
-            Node::Var(x) => Root::Var(*x),
-            Node::App(f, args) => Root::App(
+            TermNode::Var(x) => Root::Var(*x),
+            TermNode::App(f, args) => Root::App(
                 *f,
                 Operands {
                     terms: args.as_slice(),

@@ -6,7 +6,7 @@ ghost use Rattle.substitutions.specs.Substitution.{apply, apply_all};
 ghost use Rattle.matching.specs.Extending.{Binds, BindsAll};
 
 use crate::bindings::Bindings;
-use term_core::{Node, OutOfMemory, Term, VarId, front};
+use term_core::{TermNode, OutOfMemory, Term, VarId, front};
 
 /// Matches a pattern with a term, where `bindings` has the terms of the variables that were met. A
 /// variable that was met must meet the same tree again. Nothing is copied.
@@ -19,9 +19,9 @@ pub fn bind<'a>(
     ensures { IfOk result (Binds bindings.old pattern.now term.now bindings.new) }
 {
     match &pattern.node {
-        Node::Var(var) => bind_variable(*var, term, bindings),
-        Node::App(sym, patterns) => match &term.node {
-            Node::App(other, terms) if sym == other => {
+        TermNode::Var(var) => bind_variable(*var, term, bindings),
+        TermNode::App(sym, patterns) => match &term.node {
+            TermNode::App(other, terms) if sym == other => {
                 if some_is_larger(patterns.as_slice(), terms.as_slice()) {
                     return Ok(false);
                 }

@@ -3,7 +3,7 @@
 use clause_core::Clause;
 use spec_core::Equation;
 use std::alloc::Global;
-use term_core::{Node, OutOfMemory, Term, VarId};
+use term_core::{TermNode, OutOfMemory, Term, VarId};
 
 /// A term that is generalized, and the variable that stands for it.
 #[derive(Clone, Copy)]
@@ -47,11 +47,11 @@ fn add(term: &Term, general: Option<General>, found: &mut Vec<VarId>) -> Result<
         }
     }
     match &term.node {
-        Node::Var(var) => {
+        TermNode::Var(var) => {
             found.push(*var)?;
             Ok(())
         }
-        Node::App(_, args) => add_all(args.as_slice(), general, found),
+        TermNode::App(_, args) => add_all(args.as_slice(), general, found),
     }
 }
 

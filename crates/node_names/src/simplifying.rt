@@ -4,7 +4,7 @@ use clause_core::{Clause, MOST_SYMBOLS, instance};
 use spec_core::Equation;
 use std::alloc::Global;
 use substitutions::Subst;
-use term_core::{Node, OutOfMemory, Seq, Term, VarId};
+use term_core::{TermNode, OutOfMemory, Seq, Term, VarId};
 
 /// The clause without the conclusion (true) or premise of this number, if there is one.
 pub(crate) fn without(
@@ -32,7 +32,7 @@ pub(crate) fn taken_apart(
     let Some(equation) = clause.equation(conclusion, number) else {
         return Ok(None);
     };
-    let (Node::App(_, lefts), Node::App(_, rights)) = (&equation.left.node, &equation.right.node)
+    let (TermNode::App(_, lefts), TermNode::App(_, rights)) = (&equation.left.node, &equation.right.node)
     else {
         return Ok(None);
     };
@@ -80,10 +80,10 @@ pub(crate) fn solved(
 
 /// The side that is a variable, the left one where both are, and the other one.
 fn variable_side(equation: &Equation) -> Option<(VarId, &Term)> {
-    if let Node::Var(variable) = &equation.left.node {
+    if let TermNode::Var(variable) = &equation.left.node {
         return Some((*variable, &equation.right));
     }
-    if let Node::Var(variable) = &equation.right.node {
+    if let TermNode::Var(variable) = &equation.right.node {
         return Some((*variable, &equation.left));
     }
     None

@@ -1,7 +1,7 @@
 //! The sorts of variables of a pattern.
 
 use spec_core::Signature;
-use term_core::{Node, OutOfMemory, SortId, Term};
+use term_core::{TermNode, OutOfMemory, SortId, Term};
 
 /// Adds the sorts of the pattern's variables, from the left, where the pattern has this sort.
 #[cycle(add_sorts)]
@@ -12,11 +12,11 @@ pub(crate) fn add_sorts(
     found: &mut Vec<SortId>,
 ) -> Result<(), OutOfMemory> {
     match &pattern.node {
-        Node::Var(_) => {
+        TermNode::Var(_) => {
             found.push(sort)?;
             Ok(())
         }
-        Node::App(sym, args) => {
+        TermNode::App(sym, args) => {
             if sym.0 >= sig.symbols() {
                 return Ok(());
             }

@@ -4,7 +4,7 @@ ghost use Rattle.std.specs.Prelude.{IsTrue};
 ghost use Rattle.term_core.specs.Tree.{trees_of};
 ghost use Rattle.overlap_check.specs.Clashes.{HaveNoCommonInstance, HaveNoCommonInstances};
 
-use term_core::{Node, Term, front};
+use term_core::{TermNode, Term, front};
 
 /// Whether the terms have different symbols at one place, so that they have no instance in common.
 /// It binds no variable: terms that don't clash may still have none.
@@ -13,10 +13,10 @@ pub(crate) fn clash(left: &Term, right: &Term) -> bool
     ensures { IsTrue result → HaveNoCommonInstance left.now right.now }
 {
     match (&left.node, &right.node) {
-        (Node::App(sym, args), Node::App(other, others)) => {
+        (TermNode::App(sym, args), TermNode::App(other, others)) => {
             sym != other || clash_in_any(args.as_slice(), others.as_slice())
         }
-        (Node::Var(_), _) | (_, Node::Var(_)) => false,
+        (TermNode::Var(_), _) | (_, TermNode::Var(_)) => false,
     }
 }
 
@@ -25,7 +25,7 @@ pub(crate) fn are_of_two_symbols(left: &Term, right: &Term) -> bool
     ensures { IsTrue result → HaveNoCommonInstance left.now right.now }
 {
     match (&left.node, &right.node) {
-        (Node::App(sym, _), Node::App(other, _)) => sym != other,
+        (TermNode::App(sym, _), TermNode::App(other, _)) => sym != other,
         _ => false,
     }
 }

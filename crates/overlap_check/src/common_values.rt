@@ -14,7 +14,7 @@ use crate::clashes::clash;
 use spec_core::{Rule, Signature, VarInfo};
 use std::alloc::Global;
 use substitutions::Subst;
-use term_core::{Node, OutOfMemory, Seq, Term};
+use term_core::{TermNode, OutOfMemory, Seq, Term};
 use unifier::{ShiftError, shift, unify};
 
 /// The values that are named for the two left sides, if these are different and some values match
@@ -101,7 +101,7 @@ fn arguments(call: Term) -> Result<Seq<Term>, OutOfMemory>
     ensures { IfOk result (λ made. (f : ℕ) × (call ≡ application f (trees_of made))) }
 {
     match call.node {
-        Node::Var(_) => unreachable!(),
-        Node::App(_, args) => Ok(Seq::from_vec(args.into_vec()?)),
+        TermNode::Var(_) => unreachable!(),
+        TermNode::App(_, args) => Ok(Seq::from_vec(args.into_vec()?)),
     }
 }

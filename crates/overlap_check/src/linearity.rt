@@ -11,7 +11,7 @@ ghost use Rattle.overlap_check.specs.Occurrences.{IsTimes, AreTimes};
 use crate::answers::Linear;
 use spec_core::Spec;
 use std::alloc::Global;
-use term_core::{Node, OutOfMemory, Term, VarId, front};
+use term_core::{TermNode, OutOfMemory, Term, VarId, front};
 
 /// The first rule with a variable that occurs twice on its left side. It walks each left side once
 /// for each of its variables, of which there are at most 16, and takes no memory.
@@ -58,14 +58,14 @@ pub(crate) fn times(var: VarId, term: &Term) -> Frequency
     ensures { IsTimes var.0 term.now result }
 {
     match &term.node {
-        Node::Var(other) => {
+        TermNode::Var(other) => {
             if var == *other {
                 Frequency::Once
             } else {
                 Frequency::Never
             }
         }
-        Node::App(_, args) => times_in_all(var, args.as_slice()),
+        TermNode::App(_, args) => times_in_all(var, args.as_slice()),
     }
 }
 

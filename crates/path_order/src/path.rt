@@ -13,7 +13,7 @@ ghost use Rattle.term_core.specs.Precedence.{Precedence, IsPrecedence, by_number
 
 use crate::operands::Operands;
 use std::marker::Model;
-use term_core::{Node, Seq, SymId, Term, occurs};
+use term_core::{TermNode, Seq, SymId, Term, occurs};
 use term_order::{Operand, TermOrder};
 
 /// The lexicographic path ordering. A symbol of greater level has the greater precedence, and each
@@ -195,9 +195,9 @@ fn told_by_patterns(t: Operand, s: Operand) -> Option<Standing>
     }
     let (term, other) = (t.term, s.term);
     match (&term.node, &other.node) {
-        (Node::Var(x), Node::Var(y)) if x == y => Some(Standing::Same),
-        (Node::Var(x), Node::App(_, _)) if occurs(x.0 as usize, other) => Some(Standing::Neither),
-        (Node::App(_, _), Node::Var(y)) if occurs(y.0 as usize, term) => Some(Standing::Greater),
+        (TermNode::Var(x), TermNode::Var(y)) if x == y => Some(Standing::Same),
+        (TermNode::Var(x), TermNode::App(_, _)) if occurs(x.0 as usize, other) => Some(Standing::Neither),
+        (TermNode::App(_, _), TermNode::Var(y)) if occurs(y.0 as usize, term) => Some(Standing::Greater),
         _ => None,
     }
 }
@@ -215,15 +215,15 @@ fn compare<'a>(order: &'a Lpo, list: &'a [&'a Term], t: Operand<'a>, s: Operand<
     let s = s.resolved(list);
     let (term, other) = (t.term, s.term);
     match (&term.node, &other.node) {
-        (Node::Var(x), Node::Var(y)) => {
+        (TermNode::Var(x), TermNode::Var(y)) => {
             if x == y {
                 Standing::Same
             } else {
                 Standing::Neither
             }
         }
-        (Node::Var(_), Node::App(_, _)) => Standing::Neither,
-        (Node::App(_, ts), Node::Var(_)) => {
+        (TermNode::Var(_), TermNode::App(_, _)) => Standing::Neither,
+        (TermNode::App(_, ts), TermNode::Var(_)) => {
             Standing::greater_or_neither(some_reaches(
                 order,
                 list,
@@ -231,7 +231,7 @@ fn compare<'a>(order: &'a Lpo, list: &'a [&'a Term], t: Operand<'a>, s: Operand<
                 s,
             ))
         }
-        (Node::App(f, ts), Node::App(g, ss)) => {
+        (TermNode::App(f, ts), TermNode::App(g, ss)) => {
             let (ts, ss) = (ts.as_slice(), ss.as_slice());
             let (level, other_level) = (order.level(*f), order.level(*g));
             if other_level < level {

@@ -14,7 +14,7 @@ use Rattle.spec_core.specs.Declarations.{bool_sort}
 use Rattle.substitutions.specs.Substitution.{image, apply, apply_all}
 use Rattle.substitutions.proofs.Instances.{apply_values, occurs_apply}
 use Rattle.clause_core.specs.Instances.{variables}
-use Rattle.clause_core.specs.Splitting.{covered_by}
+use Rattle.clause_core.specs.Covering.{covered_by}
 use Rattle.clause_core.specs.Tidied.{place_of, renumbered, renumbered_all, variables_of, tidied}
 use Rattle.clause_core.proofs.Renumbering.{Met}
 use Rattle.clause_core.proofs.TidiedSorts.{at_place, variables_met}

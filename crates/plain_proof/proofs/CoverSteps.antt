@@ -15,7 +15,7 @@ use Rattle.spec_core.specs.WellSorted.{sorts_of}
 use Rattle.spec_core.proofs.Determined.{occurs_within}
 use Rattle.clause_core.specs.declared.clauses.Clause.{Clause}
 use Rattle.clause_core.specs.Limits.{IsWithin}
-use Rattle.clause_core.specs.Splitting.{ArePatternsFor, covered_by}
+use Rattle.clause_core.specs.Covering.{ArePatternsFor, covered_by}
 use Rattle.clause_core.specs.Tidied.{place_of, variables_of, tidied, written_clause}
 use Rattle.clause_core.proofs.Renumbering.{Met}
 use Rattle.clause_core.proofs.TidiedLimits.{tidied_within}

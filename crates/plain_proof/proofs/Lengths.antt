@@ -7,8 +7,8 @@ use Rattle.spec_core.specs.declared.records.Spec.{Spec}
 use Rattle.spec_core.specs.declared.records.SymInfo.{SymInfo}
 use Rattle.spec_core.specs.Sig.{info_of}
 use Rattle.spec_core.specs.WellSorted.{IsWellSorted}
-use Rattle.rewriting.specs.NormalForms.{RunsWithin}
-use Rattle.rewriting.proofs.OneRun.{one_normal}
+use Rattle.normalization.specs.NormalForms.{RunsWithin}
+use Rattle.normalization.proofs.OneRun.{one_normal}
 use Rattle.plain_proof.specs.Limits.{AreWithin}
 use Rattle.plain_proof.specs.Cases.{in_case, case_ctx}
 use Rattle.plain_proof.specs.Closings.{Closes}

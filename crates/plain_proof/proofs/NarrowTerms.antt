@@ -16,9 +16,9 @@ use Rattle.spec_core.specs.declared.records.Spec.{Spec}
 use Rattle.spec_core.specs.WellSorted.{IsWellSorted, sorts_of}
 use Rattle.spec_core.proofs.Determined.{occurs_within}
 use Rattle.substitutions.specs.Substitution.{image, apply, apply_all}
-use Rattle.rewriting.specs.Narrow.{IsNarrow, AreNarrow}
-use Rattle.rewriting.specs.FirstUses.{IsFirstUse}
-use Rattle.rewriting.proofs.Fine.{sorted_narrow}
+use Rattle.normalization.specs.Narrow.{IsNarrow, AreNarrow}
+use Rattle.normalization.specs.FirstUses.{IsFirstUse}
+use Rattle.normalization.proofs.Fine.{sorted_narrow}
 use Rattle.plain_proof.specs.Cases.{pattern, only, in_case}
 use Rattle.plain_proof.proofs.Replaced.{only_image}
 

@@ -5,8 +5,8 @@ use Rattle.term_core.specs.declared.ids.SortId.{SortId}
 use Rattle.spec_core.specs.declared.records.Equation.{Equation}
 use Rattle.spec_core.specs.declared.records.Spec.{Spec}
 use Rattle.spec_core.specs.WellSorted.{IsWellSorted}
-use Rattle.rewriting.specs.NormalForms.{RunsWithin, Runs}
-use Rattle.rewriting.proofs.OneRun.{one_normal}
+use Rattle.normalization.specs.NormalForms.{RunsWithin, Runs}
+use Rattle.normalization.proofs.OneRun.{one_normal}
 use Rattle.plain_proof.specs.PlainProofs.{CaseCloses, CasesClose}
 
 -- a chain within limits is a chain

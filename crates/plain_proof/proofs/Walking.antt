@@ -8,10 +8,10 @@ use Rattle.spec_core.specs.declared.records.Rule.{Rule}
 use Rattle.spec_core.specs.declared.records.Spec.{Spec}
 use Rattle.spec_core.specs.WellSorted.{IsWellSorted}
 use Rattle.substitutions.specs.Substitution.{apply}
-use Rattle.rewriting.specs.Uses.{Use}
-use Rattle.rewriting.specs.FirstUses.{IsFirstUse}
-use Rattle.rewriting.specs.NormalForms.{IsNormal, RunsWithin}
-use Rattle.rewriting.proofs.OneRun.{one_new, one_after}
+use Rattle.normalization.specs.Uses.{Use}
+use Rattle.normalization.specs.FirstUses.{IsFirstUse}
+use Rattle.normalization.specs.NormalForms.{IsNormal, RunsWithin}
+use Rattle.normalization.proofs.OneRun.{one_new, one_after}
 use Rattle.plain_proof.specs.Limits.{AreWithin}
 use Rattle.plain_proof.specs.Staying.{HasSide}
 

@@ -3,8 +3,8 @@ use Rattle.std.specs.Prelude.{ℕ, [], ◌∷◌, codes}
 use Rattle.term_core.specs.Tree.{var}
 use Rattle.spec_core.specs.declared.records.Goal.{Goal}
 use Rattle.spec_core.specs.Naturals.{naturals, unit_goal, variable, zero_term, succ_term, plus_term}
-use Rattle.rewriting.specs.FirstUses.{Before, IsFirstUse}
-use Rattle.rewriting.specs.NormalForms.{IsNormal}
+use Rattle.normalization.specs.FirstUses.{Before, IsFirstUse}
+use Rattle.normalization.specs.NormalForms.{IsNormal}
 use Rattle.plain_proof.specs.PlainProofs.{IsPlain}
 
 -- goal moved(x : Nat, y : Nat) : plus(succ(x), y) = succ(plus(x, y))

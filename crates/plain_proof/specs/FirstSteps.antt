@@ -9,7 +9,7 @@ use Rattle.spec_core.specs.Order.{constructors_of}
 use Rattle.spec_core.specs.WellSorted.{GoalIsSorted, sorts_of}
 use Rattle.clause_core.specs.declared.clauses.Clause.{Clause}
 use Rattle.clause_core.specs.Says.{Says}
-use Rattle.clause_core.specs.Splitting.{cover_row}
+use Rattle.clause_core.specs.Covering.{cover_row}
 use Rattle.clause_core.specs.Tidied.{variables_of, tidied, written_clause}
 use Rattle.test_sets.specs.Laws.{same_children}
 use Rattle.test_sets.specs.TestSets.{test_set_of}

@@ -8,7 +8,7 @@ use Rattle.spec_core.specs.declared.records.Spec.{Spec}
 use Rattle.spec_core.specs.WellSorted.{sorts_of}
 use Rattle.term_core.specs.Variables.{Occurs}
 use Rattle.spec_core.specs.Order.{constructors_of}
-use Rattle.rewriting.specs.NormalForms.{IsNormal, RunsWithin}
+use Rattle.normalization.specs.NormalForms.{IsNormal, RunsWithin}
 use Rattle.plain_proof.specs.Limits.{AreWithin}
 use Rattle.plain_proof.specs.Cases.{in_case, case_ctx}
 use Rattle.plain_proof.specs.Closings.{Closes}

@@ -2,7 +2,7 @@
 use Rattle.std.specs.Prelude.{◌≡◌, ◌≤◌, ℕ, List, Option, Some, None, length}
 use Rattle.term_core.specs.Tree.{Tree}
 use Rattle.spec_core.specs.declared.records.Spec.{Spec}
-use Rattle.rewriting.specs.NormalForms.{IsNormal, RunsWithin}
+use Rattle.normalization.specs.NormalForms.{IsNormal, RunsWithin}
 use Rattle.plain_proof.specs.Limits.{AreWithin}
 
 -- the second term is the normal form of a side by this many uses, where each term after a use is

@@ -10,7 +10,7 @@ ghost use Rattle.plain_proof.specs.ClosingAnswers.{Suffices, IsClosing, AreClosi
 use crate::instances::is_instance;
 use spec_core::{Equation, Signature};
 use std::alloc::Global;
-use term_core::{Node, OutOfMemory, SortId, Term, front};
+use term_core::{TermNode, OutOfMemory, SortId, Term, front};
 
 /// How a pair of normal forms is closed.
 #[derive(Clone, Copy)]
@@ -109,10 +109,10 @@ fn same_heads<'a>(sig: &Signature, a: &'a Term, b: &'a Term) -> Option<(&'a [Ter
         (λ p. (f : ℕ) × IsConstructor sig.now f × (a.now ≡ application f (trees_of p.0.now))
         × (b.now ≡ application f (trees_of p.1.now))) }
 {
-    let Node::App(f, xs) = &a.node else {
+    let TermNode::App(f, xs) = &a.node else {
         return None;
     };
-    let Node::App(g, ys) = &b.node else {
+    let TermNode::App(g, ys) = &b.node else {
         return None;
     };
     if f == g && f.0 < sig.constructors() {

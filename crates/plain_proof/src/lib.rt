@@ -1,7 +1,7 @@
 //! Plain proofs: which goals follow by cases of one variable, normal forms and their own
 //! instances.
 //!
-//! Uses rewriting, whose leftmost-innermost uses bring the sides to their normal forms,
+//! Uses normalization, whose leftmost-innermost uses bring the sides to their normal forms,
 //! clause_core, whose limits each clause on the way keeps, matching and test_sets.
 //! `specs/PlainProofs.antt` says what a plain proof of a goal on a variable is, and how long.
 //!

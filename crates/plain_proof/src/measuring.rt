@@ -11,7 +11,7 @@ use crate::cases::case_of;
 use crate::closing::close;
 use crate::limits::are_within;
 use crate::staying::normal_side;
-use rewriting::Rewriter;
+use normalization::Rewriter;
 use spec_core::{Equation, Spec};
 use std::alloc::Global;
 use term_core::{OutOfMemory, SortId, SymId, VarId};

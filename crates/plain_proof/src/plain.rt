@@ -8,7 +8,7 @@ ghost use Rattle.plain_proof.specs.FirstPlain.{IsFirstPlain};
 use crate::limits::are_within;
 use crate::measuring::has_cases;
 use crate::occurring::occurs_in;
-use rewriting::Rewriter;
+use normalization::Rewriter;
 use spec_core::{Equation, Goal, Spec, VarInfo};
 use std::alloc::Global;
 use term_core::{OutOfMemory, SortId, VarId};

@@ -3,13 +3,13 @@
 ghost use Rattle.std.specs.Prelude.{◌≡◌, IfOk};
 ghost use Rattle.spec_core.specs.WellSorted.{IsWellSorted};
 ghost use Rattle.term_core.specs.Tree.{Tree};
-ghost use Rattle.rewriting.specs.FirstUses.{IsFirstUse};
-ghost use Rattle.rewriting.specs.Narrow.{IsNarrow};
+ghost use Rattle.normalization.specs.FirstUses.{IsFirstUse};
+ghost use Rattle.normalization.specs.Narrow.{IsNarrow};
 ghost use Rattle.plain_proof.specs.Staying.{HasSide};
 
 use crate::limits::are_within;
 use matching::matches;
-use rewriting::Rewriter;
+use normalization::Rewriter;
 use spec_core::Spec;
 use std::alloc::Global;
 use term_core::{OutOfMemory, ReplaceError, Term};

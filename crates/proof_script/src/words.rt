@@ -13,7 +13,7 @@ ghost use Rattle.proof_script.specs.Written.{text_by, word_of};
 use clause_core::Place;
 use spec_core::{Signature, append_decimal};
 use std::alloc::Global;
-use term_core::{Name, Node, OutOfMemory, Term, front};
+use term_core::{Name, TermNode, OutOfMemory, Term, front};
 
 /// A word of a line.
 #[derive(Clone, Copy)]
@@ -181,8 +181,8 @@ fn append_pattern(sig: &Signature, pattern: &Term, text: &mut Vec<u8>) -> Result
     ensures { OnOk result (text.new.items ≡ text.old.items ++ pattern_text sig.now pattern.now) }
 {
     match &pattern.node {
-        Node::Var(_) => text.push(b'_')?,
-        Node::App(sym, args) => {
+        TermNode::Var(_) => text.push(b'_')?,
+        TermNode::App(sym, args) => {
             text.extend_from_slice(sig.name(*sym))?;
             let Some((first, others)) = front(args.as_slice()) else {
                 return Ok(());

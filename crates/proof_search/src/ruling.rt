@@ -15,7 +15,7 @@ use clause_core::{Place, Step};
 use clause_places::places_are_there;
 use routine_proof::Move;
 use std::alloc::Global;
-use term_core::{Node, OutOfMemory, Term};
+use term_core::{TermNode, OutOfMemory, Term};
 use term_order::TermOrder;
 
 /// The entries of the list that rewrite the term at a place by rules.
@@ -67,7 +67,7 @@ fn some_rule_fits(setting: &Setting, term: &Term) -> bool
     ensures { (n : ℕ) (by : RuleAt setting.now.spec.now n) →
         IsInstance by.rule term.now → IsTrue result }
 {
-    let Node::App(sym, _) = &term.node else {
+    let TermNode::App(sym, _) = &term.node else {
         return false;
     };
     for place in setting.rules.rules_of(*sym) {
@@ -93,7 +93,7 @@ fn ruling_at<O: TermOrder>(
         (rulings_by entry (place_of at.now index) (rules at.now.setting.now.spec.now))) }
 {
     let term = at.spots.term(index);
-    let Node::App(sym, _) = &term.node else {
+    let TermNode::App(sym, _) = &term.node else {
         return Ok(None);
     };
     let setting = at.setting;

@@ -9,7 +9,7 @@ ghost use Rattle.proof_words.specs.TermEvents.{style_of as style_with, term_even
 
 use crate::naming::{Naming, draw_variable, symbol_name};
 use page_core::{Page, Style};
-use term_core::{Node, OutOfMemory, Term, front};
+use term_core::{TermNode, OutOfMemory, Term, front};
 
 /// What is written for a term that isn't shown: `…`.
 const OMITTED: &[u8] = b"\xe2\x80\xa6";
@@ -74,8 +74,8 @@ fn draw_shown(
 {
     let style = style_of(mark);
     match &term.node {
-        Node::Var(var) => draw_variable(page, naming, style, var.0 as usize),
-        Node::App(symbol, arguments) => {
+        TermNode::Var(var) => draw_variable(page, naming, style, var.0 as usize),
+        TermNode::App(symbol, arguments) => {
             page.text(style, symbol_name(naming.sig, *symbol))?;
             let Some((first, others)) = front(arguments.as_slice()) else {
                 return Ok(());

@@ -19,7 +19,7 @@ use ground_eval::{Verdict, one_verdict, verdict};
 use spec_admit::Admitted;
 use spec_core::{Goal, Signature, Spec, VarInfo};
 use std::alloc::Global;
-use term_core::{Name, Node, OutOfMemory, SortId, Term};
+use term_core::{Name, TermNode, OutOfMemory, SortId, Term};
 use term_order::TermOrder;
 
 /// Tests whether the goal fails under the values, within this many steps for each side. The first
@@ -94,8 +94,8 @@ fn is_built(sig: &Signature, term: &Term) -> bool
     ensures { IsTrue result ↔ IsBuilt sig.now term.now }
 {
     match &term.node {
-        Node::Var(_) => false,
-        Node::App(sym, args) => sym.0 < sig.constructors() && are_built(sig, args.as_slice()),
+        TermNode::Var(_) => false,
+        TermNode::App(sym, args) => sym.0 < sig.constructors() && are_built(sig, args.as_slice()),
     }
 }
 

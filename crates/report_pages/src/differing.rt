@@ -6,7 +6,7 @@ ghost use Rattle.report_pages.specs.Differences.{difference as difference_of, di
 ghost use Rattle.report_pages.specs.Differences.{HasFewBelow, HaveFewBelow, IsPushed};
 
 use std::alloc::Global;
-use term_core::{Node, OutOfMemory, Term, front};
+use term_core::{TermNode, OutOfMemory, Term, front};
 
 /// The path to the first place at which the terms have different symbols.
 pub(crate) fn difference(
@@ -35,8 +35,8 @@ fn push_difference(left: &Term, right: &Term, path: &mut Vec<u8>) -> Result<bool
         (difference_of left.now right.now) found) }
 {
     match (&left.node, &right.node) {
-        (Node::Var(m), Node::Var(n)) => Ok(m.0 != n.0),
-        (Node::App(f, lefts), Node::App(g, rights)) => {
+        (TermNode::Var(m), TermNode::Var(n)) => Ok(m.0 != n.0),
+        (TermNode::App(f, lefts), TermNode::App(g, rights)) => {
             if f.0 == g.0 {
                 push_difference_from(1, lefts.as_slice(), rights.as_slice(), path)
             } else {

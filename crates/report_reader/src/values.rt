@@ -9,7 +9,7 @@ ghost use Rattle.report_reader.specs.ValueLines.{IsValueLine};
 use proof_script::{after, is_report_name, next_term, split_word};
 use spec_core::Signature;
 use std::alloc::Global;
-use term_core::{Name, Node, OutOfMemory, Term};
+use term_core::{Name, TermNode, OutOfMemory, Term};
 
 /// The name and the value that the line `NAME = VALUE` says, if they may appear in a report. The
 /// line comes without its newline.
@@ -48,8 +48,8 @@ fn is_closed(sig: &Signature, term: &Term) -> bool
     ensures { IsTrue result ↔ IsClosed sig.now term.now }
 {
     match &term.node {
-        Node::Var(_) => false,
-        Node::App(sym, args) => sym.0 < sig.constructors() && are_closed(sig, args.as_slice()),
+        TermNode::Var(_) => false,
+        TermNode::App(sym, args) => sym.0 < sig.constructors() && are_closed(sig, args.as_slice()),
     }
 }
 

@@ -27,7 +27,7 @@ use Rattle.clause_core.specs.Referred.{NodeAt, UsableGoal, AreTermsFor, instance
 use Rattle.clause_core.specs.Rows.{Row, needs, makes}
 use Rattle.clause_core.specs.RuleInstances.{RuleAt}
 use Rattle.clause_core.specs.Says.{Says}
-use Rattle.clause_core.specs.Splitting.{ArePatternsFor}
+use Rattle.clause_core.specs.Covering.{ArePatternsFor}
 use Rattle.clause_core.specs.Steps.{row_of}
 use Rattle.clause_core.specs.Tidied.{IsTidied, tidied, written_clause}
 use Rattle.clause_core.proofs.EquationPlaces.{number_within}

@@ -15,7 +15,7 @@ use crate::instructions::Kind;
 use crate::left_sides::LeftSide;
 use spec_core::{Rule, Signature};
 use std::alloc::Global;
-use term_core::{Node, OutOfMemory, Term};
+use term_core::{TermNode, OutOfMemory, Term};
 
 /// Adds the code of a rule, a block for each guard and one for the right side, and gives the places
 /// where the blocks begin. Each begins with the slots of the left side alone.
@@ -80,7 +80,7 @@ pub fn emit_body(
         (IsBody sig.now homes.now term.now next)) }
 {
     match &term.node {
-        Node::App(sym, args) if !sig.is_constructor(*sym) => {
+        TermNode::App(sym, args) if !sig.is_constructor(*sym) => {
             let mut slots = Vec::with_capacity(alloc, args.len())?;
             emit_all(alloc, sig, homes, args.as_slice(), next, code, &mut slots)?;
             code.push(Kind::Last(sym.0), &slots)

@@ -3,7 +3,7 @@
 use crate::symbols::Path;
 use spec_core::Rule;
 use std::alloc::Global;
-use term_core::{Node, OutOfMemory, Term, front};
+use term_core::{TermNode, OutOfMemory, Term, front};
 
 /// The first of the places at which the most rules have a symbol, among those of the first rule at
 /// which not all have the same one.
@@ -54,8 +54,8 @@ fn paths_of(alloc: Global, rule: &Rule) -> Result<Vec<Path>, OutOfMemory> {
     let mut paths = Vec::new(alloc);
     let mut way = Vec::new(alloc);
     match &rule.left.node {
-        Node::Var(_) => {}
-        Node::App(_, args) => add_paths(alloc, args.as_slice(), 0, &mut way, &mut paths)?,
+        TermNode::Var(_) => {}
+        TermNode::App(_, args) => add_paths(alloc, args.as_slice(), 0, &mut way, &mut paths)?,
     }
     Ok(paths)
 }
@@ -72,8 +72,8 @@ fn add_paths(
         return Ok(());
     };
     match &term.node {
-        Node::Var(_) => {}
-        Node::App(_, args) => {
+        TermNode::Var(_) => {}
+        TermNode::App(_, args) => {
             way.push(number)?;
             add_path(alloc, way, paths)?;
             add_paths(alloc, args.as_slice(), 0, way, paths)?;

@@ -10,7 +10,7 @@ use crate::code::Code;
 use crate::instructions::Kind;
 use spec_core::Signature;
 use std::alloc::Global;
-use term_core::{Node, OutOfMemory, Term, front};
+use term_core::{TermNode, OutOfMemory, Term, front};
 
 /// Adds the steps that put the term into a slot, where the slots below `next` are taken, and gives
 /// that slot, and the number of slots that are taken then. Variables are in the slots `homes`.
@@ -29,8 +29,8 @@ pub(crate) fn emit(
         r.1) }
 {
     match &term.node {
-        Node::Var(var) => Ok((homes[var.0 as usize], next)),
-        Node::App(sym, args) => {
+        TermNode::Var(var) => Ok((homes[var.0 as usize], next)),
+        TermNode::App(sym, args) => {
             let mut slots = Vec::with_capacity(alloc, args.len())?;
             let slot = emit_all(alloc, sig, homes, args.as_slice(), next, code, &mut slots)?;
             if slot == usize::MAX {

@@ -10,7 +10,7 @@ use crate::patterns::Patterns;
 use crate::tests::{Repeat, Test};
 use spec_core::{Rule, Signature};
 use std::alloc::Global;
-use term_core::{Node, OutOfMemory, Term};
+use term_core::{TermNode, OutOfMemory, Term};
 
 /// A left side: the tests of a call's arguments and of the slots that they open, the slots that hold
 /// one variable, the slot of each variable, and the number of all slots.
@@ -28,8 +28,8 @@ impl LeftSide {
         ensures { IfOk result (IsLeftSide rule.now) }
     {
         match &rule.left.node {
-            Node::Var(_) => unreachable!(),
-            Node::App(_, args) => {
+            TermNode::Var(_) => unreachable!(),
+            TermNode::App(_, args) => {
                 let (tests, patterns) = open(alloc, args.as_slice())?;
                 let homes = find_homes(alloc, &patterns, rule.vars.len())?;
                 let repeats = find_repeats(alloc, &patterns, &homes)?;
@@ -74,8 +74,8 @@ fn is_variable(pattern: &Term, number: usize) -> bool
     ensures { IsTrue result ↔ (pattern.now ≡ variable number) }
 {
     match &pattern.node {
-        Node::Var(var) => var.0 as usize == number,
-        Node::App(_, _) => false,
+        TermNode::Var(var) => var.0 as usize == number,
+        TermNode::App(_, _) => false,
     }
 }
 
@@ -93,8 +93,8 @@ fn find_repeats(
     let mut repeats = Vec::new(alloc);
     for slot in 0..patterns.len() {
         match &patterns.at(slot).node {
-            Node::App(_, _) => {}
-            Node::Var(var) => {
+            TermNode::App(_, _) => {}
+            TermNode::Var(var) => {
                 let first = homes[var.0 as usize];
                 if first != slot {
                     repeats.push(Repeat { first, again: slot })?;

@@ -6,7 +6,7 @@ ghost use Rattle.rule_code.specs.Matching.{Opens};
 use crate::patterns::Patterns;
 use crate::tests::Test;
 use std::alloc::Global;
-use term_core::{Node, OutOfMemory, Term};
+use term_core::{TermNode, OutOfMemory, Term};
 
 /// The tests of a left side's arguments, and the pattern of each slot.
 pub(crate) fn open<'a>(
@@ -22,8 +22,8 @@ pub(crate) fn open<'a>(
     while slot < opened.len() {
         let pattern = opened.at(slot);
         match &pattern.node {
-            Node::Var(_) => {}
-            Node::App(sym, args) => {
+            TermNode::Var(_) => {}
+            TermNode::App(sym, args) => {
                 tests.push(Test {
                     slot,
                     sym: sym.0,

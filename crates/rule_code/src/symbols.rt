@@ -7,7 +7,7 @@ ghost use Rattle.value_bank.specs.Cells.{AreTerms};
 ghost use Rattle.rule_code.specs.Symbols.{symbol_at, symbol_in};
 
 use spec_core::Rule;
-use term_core::{Node, Term, front};
+use term_core::{TermNode, Term, front};
 use value_bank::Bank;
 
 /// The way to a part of a call: the number of an argument, and the numbers of arguments below it.
@@ -24,8 +24,8 @@ impl Path {
     {
         let left = &rule.left;
         match &left.node {
-            Node::Var(_) => None,
-            Node::App(_, args) => symbol_at(args.as_slice(), self.argument, &self.below),
+            TermNode::Var(_) => None,
+            TermNode::App(_, args) => symbol_at(args.as_slice(), self.argument, &self.below),
         }
     }
 
@@ -58,8 +58,8 @@ fn symbol_at(terms: &[Term], argument: usize, below: &[usize]) -> Option<u32>
     match terms.get(argument) {
         None => None,
         Some(term) => match &term.node {
-            Node::Var(_) => None,
-            Node::App(sym, args) => match front(below) {
+            TermNode::Var(_) => None,
+            TermNode::App(sym, args) => match front(below) {
                 None => Some(sym.0),
                 Some((next, rest)) => symbol_at(args.as_slice(), *next, rest),
             },

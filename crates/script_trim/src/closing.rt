@@ -14,7 +14,7 @@ use clause_core::{Clause, Step, of_goal};
 use inference_rules::Node;
 use spec_core::Spec;
 use std::alloc::Global;
-use term_core::{Name, Node as Root, OutOfMemory, Seq, Term, VarId};
+use term_core::{Name, TermNode as Root, OutOfMemory, Seq, Term, VarId};
 
 /// Whether the step is one of the closing steps at a node with this clause.
 pub(crate) fn is_closing(

@@ -7,7 +7,7 @@ ghost use Rattle.script_trim.specs.Keys.{stirred, hashed, hashed_all, both_hashe
 use clause_core::Clause;
 use spec_core::Equation;
 use std::alloc::Global;
-use term_core::{Node, OutOfMemory, Term};
+use term_core::{TermNode, OutOfMemory, Term};
 
 /// The odd number next to 2^64 divided by the golden ratio (Knuth, 1973): bits of a product with it
 /// depend on all lower ones of the other factor, so the upper half is the key.
@@ -79,8 +79,8 @@ fn hash_term(hash: u64, term: &Term) -> u64
     ensures { result ≡ hashed hash term.now }
 {
     match &term.node {
-        Node::Var(var) => stir(hash, u64::from(var.0)),
-        Node::App(sym, args) => {
+        TermNode::Var(var) => stir(hash, u64::from(var.0)),
+        TermNode::App(sym, args) => {
             hash_terms(stir(hash, u64::from(sym.0) + SYMBOLS), args.as_slice())
         }
     }

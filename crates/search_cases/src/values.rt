@@ -6,7 +6,7 @@ ghost use Rattle.spec_core.specs.Truth.{AreValuesOf};
 ghost use Rattle.spec_core.specs.WellSorted.{sorts_of};
 
 use spec_core::{Signature, Spec, VarInfo};
-use term_core::{Node, SortId, Term, front};
+use term_core::{TermNode, SortId, Term, front};
 
 /// Whether the terms are values of the variables, one for each.
 pub fn are_values(spec: &Spec, vars: &[VarInfo], terms: &[Term]) -> bool
@@ -37,8 +37,8 @@ fn is_built(sig: &Signature, term: &Term) -> bool
     ensures { IsTrue result → IsBuilt sig.now term.now }
 {
     match &term.node {
-        Node::Var(_) => false,
-        Node::App(sym, args) => sym.0 < sig.constructors() && are_built(sig, args.as_slice()),
+        TermNode::Var(_) => false,
+        TermNode::App(sym, args) => sym.0 < sig.constructors() && are_built(sig, args.as_slice()),
     }
 }
 

@@ -8,7 +8,7 @@ ghost use Rattle.spec_core.specs.TermText.{term_text, others_text, variable_name
 use crate::records::VarInfo;
 use crate::symbols::Signature;
 use std::alloc::Global;
-use term_core::{Node, OutOfMemory, Term, VarId, front};
+use term_core::{TermNode, OutOfMemory, Term, VarId, front};
 
 /// Few terms have a longer text. The text of the others isn't moved while it grows.
 const USUAL_ROOM: usize = 256;
@@ -45,8 +45,8 @@ impl Signature {
             text.old.items ++ term_text self.now (variable_names names.now) term.now) }
     {
         match &term.node {
-            Node::Var(var) => append_variable(names, *var, text),
-            Node::App(sym, args) => {
+            TermNode::Var(var) => append_variable(names, *var, text),
+            TermNode::App(sym, args) => {
                 text.extend_from_slice(self.name(*sym))?;
                 let Some((first, others)) = front(args.as_slice()) else {
                     return Ok(());

@@ -6,7 +6,7 @@ ghost use Rattle.spec_core.specs.RuleTables.{IsTableOf, AddsPlace, HasSameLists}
 use crate::records::Spec;
 use std::alloc::Global;
 use std::marker::Model;
-use term_core::{Node, OutOfMemory, Seq, SymId};
+use term_core::{TermNode, OutOfMemory, Seq, SymId};
 
 /// For each symbol the places of its function's rules among all rules, from 0 and in their order.
 /// Contracts see the lists by the symbols' numbers, where those that are missing are empty.
@@ -32,8 +32,8 @@ impl RuleTable {
         for (place, rule) in spec.rules.as_slice().iter().enumerate() {
             let left = &rule.left;
             match &left.node {
-                Node::Var(_) => continue,
-                Node::App(sym, _) => add_place(alloc, &mut lists, *sym, place)?,
+                TermNode::Var(_) => continue,
+                TermNode::App(sym, _) => add_place(alloc, &mut lists, *sym, place)?,
             }
         }
         Ok(RuleTable { lists })

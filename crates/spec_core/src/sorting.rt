@@ -6,7 +6,7 @@ ghost use Rattle.term_core.specs.declared.ids.SortId.{SortId};
 ghost use Rattle.spec_core.specs.Sorts.{Sorted, SortedAll};
 
 use crate::symbols::Signature;
-use term_core::{Node, SortId, Term, front};
+use term_core::{TermNode, SortId, Term, front};
 
 impl Signature {
     /// The sort of the term, where the variable n has the sort at place n of `ctx`.
@@ -17,11 +17,11 @@ impl Signature {
             (λ s. Sorted self.now ctx.now term.now s) }
     {
         match &term.node {
-            Node::Var(var) => match ctx.get(var.0 as usize) {
+            TermNode::Var(var) => match ctx.get(var.0 as usize) {
                 Some(sort) => Some(*sort),
                 None => None,
             },
-            Node::App(sym, args) => {
+            TermNode::App(sym, args) => {
                 if sym.0 >= self.symbols() {
                     return None;
                 }

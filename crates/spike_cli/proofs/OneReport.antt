@@ -15,8 +15,8 @@ use Rattle.clause_core.specs.declared.reports.Claim.{Claim}
 use Rattle.clause_core.specs.declared.reports.Outcome.TheVariants.{Proved}
 use Rattle.clause_core.specs.declared.steps.Block.{Block}
 use Rattle.command_line.specs.declared.bounds.ProofBounds.{ProofBounds}
-use Rattle.plain_blocks.specs.Laws.{OneBlock}
-use Rattle.plain_blocks.specs.Blocks.{IsPlainBlock}
+use Rattle.plain_search.specs.Laws.{OneBlock}
+use Rattle.plain_search.specs.Blocks.{IsPlainBlock}
 use Rattle.proof_script.specs.Words.{lines_text}
 use Rattle.proof_script.specs.Claims.{claim_text, claims_text, header_lines, report_text}
 use Rattle.routine_proof.specs.Laws.{OneProof}

@@ -30,7 +30,7 @@ use Rattle.proof_script.specs.Steps.{step_line}
 use Rattle.proof_script.specs.Texts.{IsReportText}
 use Rattle.proof_script.specs.Words.{Word, fixed, name, number, variable, equation, place, side, term, terms, patterns, Line, line_text, lines_text}
 use Rattle.proof_script.proofs.Begun.{IsSmall, text_of_small}
-use Rattle.plain_blocks.specs.StandingBlocks.{PlainBlocksStand}
+use Rattle.plain_search.specs.StandingBlocks.{PlainBlocksStand}
 use Rattle.routine_proof.specs.Routine.{starts, IsProof}
 use Rattle.routine_proof.specs.Standing.{RoutineBlocksStand}
 use Rattle.search_claims.specs.Claims.{AreClaims, report_of}

@@ -18,7 +18,7 @@ use Rattle.clause_core.specs.declared.reports.Outcome.TheVariants.{Proved, Refut
 use Rattle.clause_core.specs.declared.steps.Step.{Step}
 use Rattle.clause_core.specs.Tidied.{goal_clause}
 use Rattle.plain_proof.specs.FirstPlain.{HasPlain, IsFirstPlain}
-use Rattle.plain_blocks.specs.Plain.{IsFirstBlock}
+use Rattle.plain_search.specs.Plain.{IsFirstBlock}
 use Rattle.routine_proof.specs.Routine.{Start, starts, IsProof, IsFirstProof}
 use Rattle.search_claims.specs.Claims.{named}
 use Rattle.soundness.specs.ReportTruth.{OutcomeIsTrue}

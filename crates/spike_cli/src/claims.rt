@@ -7,7 +7,7 @@ ghost use Rattle.spike_cli.specs.Lemmas.{AreLemmas};
 
 use clause_core::{Budget, Claim, Outcome};
 use command_line::ProofBounds;
-use plain_blocks::plain;
+use plain_search::plain;
 use proof_search::{Guided, guided};
 use routine_proof::proves_behind_claims;
 use soundness::accepted_are_true;

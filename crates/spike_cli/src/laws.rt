@@ -9,7 +9,7 @@ ghost use Rattle.spike_cli.specs.Upgrades.{UpgradesKeepMeaning};
 
 use acceptance::one_verdict;
 use command_line::one_request;
-use plain_blocks::one_block;
+use plain_search::one_block;
 use proof_script::{one_fault as one_faulty_line, one_report};
 use routine_proof::one_proof;
 use session_core::one_reading;

@@ -15,7 +15,7 @@ use clause_core::{Claim, Outcome};
 use command_line::{ProofBounds, SearchBounds};
 use file_replies::{Status, Stop};
 use io_core::{Sink, write_all};
-use plain_blocks::plain_blocks_stand;
+use plain_search::plain_blocks_stand;
 use proof_script::{print_claim, print_header};
 use routine_proof::{proves_behind_claims, routine_blocks_stand};
 use soundness::accepted_are_true;

@@ -1,6 +1,6 @@
 //! Cases of proof steps and of normal forms.
 //!
-//! Uses spec_syntax, sort_check, path_order, clause_core, rewriting and inference_rules. The
+//! Uses spec_syntax, sort_check, path_order, clause_core, normalization and inference_rules. The
 //! program doesn't show these calls. The cases were worked by hand. It prints those that come out
 //! otherwise. Its `stdin` has a specification, up to the line `end`, and then the cases, a line
 //! each: what is asked, `->` and the answer (`cases.rt`). Terms are written as in specifications,

@@ -5,7 +5,7 @@ use crate::nodes::number_of;
 use crate::steps::number;
 use crate::terms::term;
 use anyhow::{Context, Result, bail};
-use rewriting::{Normal, normalize};
+use normalization::{Normal, normalize};
 use spec_core::Spec;
 use std::alloc::Global;
 use term_core::Seq;

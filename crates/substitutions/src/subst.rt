@@ -11,7 +11,7 @@ ghost use Rattle.substitutions.specs.Updates.{IsSetTo};
 use spec_core::Signature;
 use std::alloc::Global;
 use std::mem;
-use term_core::{Node, OutOfMemory, Seq, SortId, Term, Terms, VarId};
+use term_core::{TermNode, OutOfMemory, Seq, SortId, Term, Terms, VarId};
 
 /// A substitution of terms for variables, by variable number. A variable without an entry stands
 /// for itself.
@@ -68,11 +68,11 @@ impl Subst {
             return term.copy(alloc);
         }
         match &term.node {
-            Node::Var(var) => match self.get(*var) {
+            TermNode::Var(var) => match self.get(*var) {
                 Some(image) => image.copy(alloc),
                 None => Ok(Term::var(*var)),
             },
-            Node::App(sym, args) => Ok(Term::app(*sym, self.apply_all(alloc, args.as_slice())?)),
+            TermNode::App(sym, args) => Ok(Term::app(*sym, self.apply_all(alloc, args.as_slice())?)),
         }
     }
 

@@ -4,7 +4,7 @@ ghost use Rattle.std.specs.Prelude.{◌↔◌, IsTrue};
 ghost use Rattle.term_core.specs.Tree.{trees_of};
 ghost use Rattle.term_core.specs.Variables.{Occurs, OccursAny};
 
-use crate::tree::{Node, Term};
+use crate::tree::{TermNode, Term};
 
 /// Whether the variable with this number occurs in the term. A clause that no contract limits may
 /// have more variables than a term can name, so the number isn't one of 32 bits.
@@ -13,8 +13,8 @@ pub fn occurs(number: usize, term: &Term) -> bool
     ensures { IsTrue result ↔ Occurs number term.now }
 {
     match &term.node {
-        Node::Var(var) => var.0 as usize == number,
-        Node::App(_, args) => {
+        TermNode::Var(var) => var.0 as usize == number,
+        TermNode::App(_, args) => {
             if number as u64 >= term.bound() {
                 return false;
             }

@@ -7,7 +7,7 @@ ghost use Rattle.term_core.specs.declared.places.ReplaceError.TheVariants.{OutOf
 
 use crate::lists::front;
 use crate::memory::OutOfMemory;
-use crate::tree::{Node, Term, Terms, copy_all};
+use crate::tree::{TermNode, Term, Terms, copy_all};
 use std::alloc::Global;
 use std::fmt;
 
@@ -51,7 +51,7 @@ impl Term {
         let Some((number, rest)) = front(path) else {
             return Some(self);
         };
-        let Node::App(_, args) = &self.node else {
+        let TermNode::App(_, args) = &self.node else {
             return None;
         };
         let Some((_, argument)) = numbered(args, *number) else {
@@ -70,7 +70,7 @@ impl Term {
         let Some((number, rest)) = front(path) else {
             return Ok(new);
         };
-        let Node::App(sym, args) = &self.node else {
+        let TermNode::App(sym, args) = &self.node else {
             return Err(ReplaceError::NoSuchPlace);
         };
         let Some((index, argument)) = numbered(args, *number) else {

@@ -19,13 +19,13 @@ use std::rc::Rc;
 #[cycle(term)]
 #[derive(Drop)]
 pub struct Term {
-    pub node: Node,
+    pub node: TermNode,
 }
 
 /// The root of a term.
 #[cycle(term)]
 #[derive(Drop)]
-pub enum Node {
+pub enum TermNode {
     Var(VarId),
     App(SymId, Terms),
 }
@@ -249,7 +249,7 @@ impl Term {
         ensures { result ≡ variable var.0 }
     {
         Term {
-            node: Node::Var(var),
+            node: TermNode::Var(var),
         }
     }
 
@@ -257,7 +257,7 @@ impl Term {
         ensures { result ≡ application sym.0 (trees_of args) }
     {
         Term {
-            node: Node::App(sym, args),
+            node: TermNode::App(sym, args),
         }
     }
 
@@ -266,8 +266,8 @@ impl Term {
         ensures { result ≡ measure_of self.now }
     {
         match &self.node {
-            Node::Var(var) => Measure::of_variable(*var),
-            Node::App(_, args) => args.measure().below_symbol(),
+            TermNode::Var(var) => Measure::of_variable(*var),
+            TermNode::App(_, args) => args.measure().below_symbol(),
         }
     }
 
@@ -312,8 +312,8 @@ impl Term {
         ensures { IsTrue result ↔ (self.now ≡ other.now) }
     {
         match (&self.node, &other.node) {
-            (Node::Var(a), Node::Var(b)) => a == b,
-            (Node::App(f, xs), Node::App(g, ys)) => {
+            (TermNode::Var(a), TermNode::Var(b)) => a == b,
+            (TermNode::App(f, xs), TermNode::App(g, ys)) => {
                 f == g && xs.measure() == ys.measure() && same_all(xs.as_slice(), ys.as_slice())
             }
             _ => false,
@@ -324,8 +324,8 @@ impl Term {
         ensures { IfOk result (λ r. r ≡ self.now) }
     {
         match &self.node {
-            Node::Var(var) => Ok(Term::var(*var)),
-            Node::App(sym, args) => Ok(Term::app(*sym, args.copy(alloc)?)),
+            TermNode::Var(var) => Ok(Term::var(*var)),
+            TermNode::App(sym, args) => Ok(Term::app(*sym, args.copy(alloc)?)),
         }
     }
 }

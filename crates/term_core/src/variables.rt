@@ -8,7 +8,7 @@ ghost use Rattle.term_core.specs.Gathered.{gathered};
 use crate::ids::VarId;
 use crate::lists::Seq;
 use crate::memory::OutOfMemory;
-use crate::tree::{Node, Term, Terms};
+use crate::tree::{TermNode, Term, Terms};
 use std::alloc::Global;
 
 impl Term {
@@ -30,13 +30,13 @@ fn gather(term: &Term, found: &mut Seq<VarId>) -> Result<(), OutOfMemory>
         (numbers_of found.new ≡ gathered (numbers_of found.old) (occurrences term.now)) }
 {
     match &term.node {
-        Node::Var(var) => {
+        TermNode::Var(var) => {
             if !found.as_slice().contains(var) {
                 found.push(*var)?;
             }
             Ok(())
         }
-        Node::App(_, args) => gather_all(args.as_slice(), found),
+        TermNode::App(_, args) => gather_all(args.as_slice(), found),
     }
 }
 

@@ -3,8 +3,8 @@ use Rattle.std.proofs.Common.{◌≡◌, ◌∙◌, ℕ, List, [], ◌∷◌, Bo
 use Rattle.term_core.specs.Tree.{Tree, app, some, trees_of, instance, instances}
 use Rattle.term_core.specs.View.{tree_of}
 use Rattle.term_core.specs.declared.ids.SymId.{SymId}
-use Rattle.term_core.specs.declared.tree.Node.{Node}
-use Rattle.term_core.specs.declared.tree.Node.TheVariants.{App}
+use Rattle.term_core.specs.declared.tree.TermNode.{TermNode}
+use Rattle.term_core.specs.declared.tree.TermNode.TheVariants.{App}
 use Rattle.term_order.specs.Operands.{read, meaning}
 use Rattle.term_order.specs.declared.operands.Operand.{Operand}
 
@@ -24,7 +24,7 @@ read_app values false f ts = ap (λ us. app f (trees_of us)) (sym (maps_nothing 
 
 -- its arguments are read as it is
 pub operand_app :
-    (values : List Tree) (o : Operand) {node : Node} (f : SymId) {args ts : List Tree} →
+    (values : List Tree) (o : Operand) {node : TermNode} (f : SymId) {args ts : List Tree} →
     ts ≡ args → node ≡ App f args → tree_of node ≡ o.term.now →
     meaning values o ≡ app f.0 (trees_of (map (read values o.is_pattern) ts))
 operand_app values o f {args} {ts} same is view =

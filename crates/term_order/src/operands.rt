@@ -5,7 +5,7 @@ ghost use Rattle.term_core.specs.References.{terms_of};
 ghost use Rattle.term_core.specs.Tree.{var as variable};
 ghost use Rattle.term_order.specs.Operands.{meaning};
 
-use term_core::{Node, Term};
+use term_core::{TermNode, Term};
 
 /// A term that is compared: as it is, or as a pattern, which means its instance by the list of
 /// the comparison.
@@ -27,14 +27,14 @@ impl<'a> Operand<'a> {
         }
         let term = self.term;
         match &term.node {
-            Node::Var(x) => match list.get(x.0 as usize) {
+            TermNode::Var(x) => match list.get(x.0 as usize) {
                 Some(image) => Operand {
                     term: *image,
                     is_pattern: false,
                 },
                 None => self,
             },
-            Node::App(_, _) => self,
+            TermNode::App(_, _) => self,
         }
     }
 }

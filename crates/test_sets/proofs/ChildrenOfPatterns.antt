@@ -10,7 +10,7 @@ use Rattle.spec_core.specs.Sig.{Sig}
 use Rattle.clause_core.specs.declared.clauses.Clause.{Clause}
 use Rattle.clause_core.specs.Tidied.{tidied}
 use Rattle.clause_core.specs.Patterns.{IsPatternOf}
-use Rattle.clause_core.specs.Splitting.{ArePatternsFor, covered_by}
+use Rattle.clause_core.specs.Covering.{ArePatternsFor, covered_by}
 use Rattle.test_sets.specs.Children.{sorts_in, child_by}
 use Rattle.test_sets.specs.Covers.{children_of}
 use Rattle.test_sets.proofs.PatternSorts.{pattern_sorts}

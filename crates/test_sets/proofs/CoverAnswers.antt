@@ -7,7 +7,7 @@ use Rattle.spec_core.specs.Sig.{Sig}
 use Rattle.clause_core.specs.declared.clauses.Clause.{Clause}
 use Rattle.clause_core.specs.Limits.{IsWithin}
 use Rattle.clause_core.specs.Patterns.{AreCovering}
-use Rattle.clause_core.specs.Splitting.{ArePatternsFor}
+use Rattle.clause_core.specs.Covering.{ArePatternsFor}
 use Rattle.test_sets.specs.declared.answers.CoverError.TheVariants.{NotCovering, Limit}
 use Rattle.test_sets.specs.Children.{child_by}
 use Rattle.test_sets.specs.Covers.{IsUncovered, AreChildren, IsRefused, children_of}

@@ -12,7 +12,7 @@ use Rattle.clause_core.specs.declared.answers.Child.{Child}
 use Rattle.clause_core.specs.Limits.{IsWithin}
 use Rattle.clause_core.specs.Tidied.{tidied}
 use Rattle.clause_core.specs.Says.{IsChild}
-use Rattle.clause_core.specs.Splitting.{covered_by, cover_child}
+use Rattle.clause_core.specs.Covering.{covered_by, cover_child}
 use Rattle.test_sets.specs.Covers.{children_of}
 use Rattle.test_sets.specs.Laws.{same_children, CoverIsItsRow}
 

@@ -13,7 +13,7 @@ use Rattle.spec_core.specs.Sig.{Sig}
 use Rattle.spec_core.specs.Sorts.{Sorted}
 use Rattle.clause_core.specs.declared.clauses.Clause.{Clause}
 use Rattle.clause_core.specs.Patterns.{IsPatternOf}
-use Rattle.clause_core.specs.Splitting.{ArePatternsFor}
+use Rattle.clause_core.specs.Covering.{ArePatternsFor}
 use Rattle.test_sets.specs.Children.{args_of, sorts_in, all_sorts_in, IsSomePattern}
 use Rattle.test_sets.specs.Numbering.{IsNumbered, AreNumbered}
 use Rattle.test_sets.proofs.PatternSorts.{pattern_sorts, occurring_count}

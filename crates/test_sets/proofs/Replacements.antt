@@ -15,7 +15,7 @@ use Rattle.substitutions.proofs.Instances.{image_entry, image_none, apply_same, 
 use Rattle.clause_core.specs.declared.clauses.Clause.{Clause}
 use Rattle.clause_core.specs.ClauseInstances.{equation_instance, clause_instance}
 use Rattle.clause_core.specs.Instances.{variables, with_term}
-use Rattle.clause_core.specs.Splitting.{covered_by}
+use Rattle.clause_core.specs.Covering.{covered_by}
 use Rattle.test_sets.specs.Children.{sorts_in}
 
 -- a list of terms as entries

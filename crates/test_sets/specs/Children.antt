@@ -7,7 +7,7 @@ use Rattle.spec_core.specs.Sig.{Sig, info_of}
 use Rattle.clause_core.specs.declared.clauses.Clause.{Clause}
 use Rattle.clause_core.specs.Tidied.{tidied}
 use Rattle.clause_core.specs.Patterns.{IsPatternOf}
-use Rattle.clause_core.specs.Splitting.{covered_by}
+use Rattle.clause_core.specs.Covering.{covered_by}
 
 -- the sorts of a symbol's arguments, and none if it isn't declared
 abbrev pub args_of : Option SymInfo → List SortId

@@ -10,7 +10,7 @@ use Rattle.clause_core.specs.declared.clauses.Clause.{Clause}
 use Rattle.clause_core.specs.Limits.{IsWithin}
 use Rattle.clause_core.specs.Tidied.{tidied}
 use Rattle.clause_core.specs.Patterns.{IsInstanceOf, AreCovering}
-use Rattle.clause_core.specs.Splitting.{ArePatternsFor, covered_by}
+use Rattle.clause_core.specs.Covering.{ArePatternsFor, covered_by}
 use Rattle.test_sets.specs.declared.answers.CoverError.{CoverError}
 use Rattle.test_sets.specs.declared.answers.CoverError.TheVariants.{NotCovering, Limit, OutOfMemory}
 

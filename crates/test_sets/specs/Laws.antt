@@ -11,7 +11,7 @@ use Rattle.clause_core.specs.declared.answers.Children.{Children}
 use Rattle.clause_core.specs.declared.answers.Why.TheVariants.{NotCovering as not_covering, Limit as past_limit}
 use Rattle.clause_core.specs.Patterns.{IsPatternOf, AreCovering}
 use Rattle.clause_core.specs.Says.{Says}
-use Rattle.clause_core.specs.Splitting.{ArePatternsFor, cover_row}
+use Rattle.clause_core.specs.Covering.{ArePatternsFor, cover_row}
 use Rattle.test_sets.specs.declared.answers.CoverError.TheVariants.{NotCovering, Limit}
 use Rattle.test_sets.specs.TestSets.{test_set_of, contexts_of}
 use Rattle.test_sets.specs.Covers.{AreChildren, IsRefused}

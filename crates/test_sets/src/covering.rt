@@ -2,7 +2,7 @@
 
 ghost use Rattle.std.specs.Prelude.{MatchResult};
 ghost use Rattle.clause_core.specs.Clauses.{ClauseIsSorted};
-ghost use Rattle.clause_core.specs.Splitting.{ArePatternsFor};
+ghost use Rattle.clause_core.specs.Covering.{ArePatternsFor};
 ghost use Rattle.test_sets.specs.Covers.{AreChildren, IsRefused};
 
 use crate::answers::CoverError;

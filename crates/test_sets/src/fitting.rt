@@ -4,7 +4,7 @@ ghost use Rattle.std.specs.Prelude.{◌≡◌, ◌↔◌, ◌+◌, IfOk, IsTrue,
 ghost use Rattle.term_core.specs.Tree.{trees_of};
 ghost use Rattle.term_core.specs.Variables.{occurrences, occurrences_all};
 ghost use Rattle.spec_core.specs.Sorts.{Sorted};
-ghost use Rattle.clause_core.specs.Splitting.{ArePatternsFor};
+ghost use Rattle.clause_core.specs.Covering.{ArePatternsFor};
 ghost use Rattle.test_sets.specs.Children.{IsSomePattern};
 ghost use Rattle.test_sets.specs.Numbering.{IsNumbered, AreNumbered};
 
@@ -12,7 +12,7 @@ use crate::patterns::push_sorts;
 use clause_core::Clause;
 use spec_core::Signature;
 use std::alloc::Global;
-use term_core::{Node, OutOfMemory, SortId, Term, VarId, front};
+use term_core::{TermNode, OutOfMemory, SortId, Term, VarId, front};
 
 /// Whether the clause has the variable, and the patterns are constructor terms of its sort, whose
 /// variables are numbered from 0 on and occur once each: then [`crate::cover`] may be asked.
@@ -71,13 +71,13 @@ fn numbered(sig: &Signature, pattern: &Term, from: usize) -> Option<usize>
         × (end ≡ from + length (occurrences pattern.now))) }
 {
     match &pattern.node {
-        Node::Var(var) => {
+        TermNode::Var(var) => {
             if var.0 as usize != from {
                 return None;
             }
             Some(from + 1)
         }
-        Node::App(sym, args) => {
+        TermNode::App(sym, args) => {
             if sym.0 >= sig.constructors() {
                 return None;
             }

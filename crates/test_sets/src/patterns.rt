@@ -14,7 +14,7 @@ use coverage_check::{Coverage, covers};
 use spec_core::Signature;
 use std::alloc::Global;
 use substitutions::Subst;
-use term_core::{Node, OutOfMemory, Seq, SortId, Term, Terms, VarId, front};
+use term_core::{TermNode, OutOfMemory, Seq, SortId, Term, Terms, VarId, front};
 
 /// The value of the sort that is named as matching no pattern.
 pub(crate) fn uncovered(
@@ -62,11 +62,11 @@ pub(crate) fn push_sorts(
         (sorts.new.items ≡ sorts.old.items ++ sorts_in sig.now sort pattern.now) }
 {
     match &pattern.node {
-        Node::Var(_) => {
+        TermNode::Var(_) => {
             sorts.push(sort)?;
             Ok(())
         }
-        Node::App(sym, args) => {
+        TermNode::App(sym, args) => {
             if sym.0 >= sig.symbols() {
                 return Ok(());
             }

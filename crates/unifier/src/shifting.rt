@@ -8,7 +8,7 @@ ghost use Rattle.unifier.specs.declared.shifting.ShiftError.TheVariants.{OutOfMe
 use std::alloc::Global;
 use std::error::Error;
 use std::fmt;
-use term_core::{Node, OutOfMemory, Term, Terms, VarId};
+use term_core::{TermNode, OutOfMemory, Term, Terms, VarId};
 
 /// Why a term has no copy with greater variable numbers.
 #[derive(Clone, Copy, Debug, PartialEq, Eq)]
@@ -51,11 +51,11 @@ pub fn shift(alloc: Global, term: &Term, by: u32) -> Result<Term, ShiftError>
     ensures too_large { result ≡ Err ShiftError.TooLarge → HasTooLarge by term.now }
 {
     match &term.node {
-        Node::Var(var) => match var.0.checked_add(by) {
+        TermNode::Var(var) => match var.0.checked_add(by) {
             Some(number) => Ok(Term::var(VarId(number))),
             None => Err(ShiftError::TooLarge),
         },
-        Node::App(sym, args) => Ok(Term::app(*sym, shift_all(alloc, args.as_slice(), by)?)),
+        TermNode::App(sym, args) => Ok(Term::app(*sym, shift_all(alloc, args.as_slice(), by)?)),
     }
 }
 

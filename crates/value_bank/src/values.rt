@@ -8,7 +8,7 @@ ghost use Rattle.value_bank.specs.Placing.{AddsPlaces};
 
 use crate::bank::{Bank, ValueId};
 use std::alloc::Global;
-use term_core::{Node, OutOfMemory, Term, front};
+use term_core::{TermNode, OutOfMemory, Term, front};
 
 impl Bank {
     /// The place of a ground term, whose cells are added if they aren't there. It calls itself as
@@ -31,8 +31,8 @@ impl Bank {
         ensures few { length self.new ≤ length self.old + tree_size value.now }
     {
         match &value.node {
-            Node::Var(_) => unreachable!(),
-            Node::App(sym, args) => {
+            TermNode::Var(_) => unreachable!(),
+            TermNode::App(sym, args) => {
                 let mut places = Vec::with_capacity(alloc, args.len())?;
                 self.place_all(alloc, args.as_slice(), &mut places)?;
                 self.add(sym.0, &places)

@@ -1,7 +1,7 @@
 use Rattle.std.proofs.Common.{◌≡◌, Some, sym, subst}
 use Rattle.std.specs.Prelude.{slice_get}
 use Rattle.spec_core.specs.WellSorted.{sorts_of}
-use Rattle.rewriting.proofs.Fine.{sorted_narrow}
+use Rattle.normalization.proofs.Fine.{sorted_narrow}
 use Rattle.bench_rewrite.proofs.normalized.Goals as goal
 
 pub normalize-requires-clause-narrow : goal.normalize-requires-clause-narrow

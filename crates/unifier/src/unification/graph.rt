@@ -6,7 +6,7 @@ ghost use Rattle.unifier.specs.Graph.{HasNoNode, IsNodeOf};
 ghost use Rattle.unifier.specs.Adding.{Adds, AddsAll};
 
 use std::alloc::Global;
-use term_core::{Node, OutOfMemory, Seq, SymId, Term, VarId};
+use term_core::{TermNode, OutOfMemory, Seq, SymId, Term, VarId};
 
 /// A node of a graph of terms: a variable, or a symbol with the nodes of its arguments.
 #[derive(Drop)]
@@ -23,11 +23,11 @@ pub(crate) fn add(alloc: Global, graph: &mut Vec<Shape>, term: &Term) -> Result<
     ensures { IfOk result (λ node. Adds graph.old.items term.now node graph.new.items) }
 {
     match &term.node {
-        Node::Var(var) => match node_of(graph, *var) {
+        TermNode::Var(var) => match node_of(graph, *var) {
             Some(node) => Ok(node),
             None => push(graph, Shape::Var(*var)),
         },
-        Node::App(sym, args) => {
+        TermNode::App(sym, args) => {
             let nodes = add_all(alloc, graph, args.as_slice())?;
             push(graph, Shape::App(*sym, nodes))
         }

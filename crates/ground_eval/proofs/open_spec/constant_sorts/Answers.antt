@@ -3,7 +3,7 @@ use Rattle.std.specs.List.{AllByRecursion}
 use Rattle.term_core.specs.declared.ids.SortId.{SortId}
 use Rattle.spec_core.specs.Sig.{IsSort}
 use Rattle.spec_core.specs.WellSorted.{sorts_of}
-use Rattle.constants.specs.Shifted.{IsNoBoolean}
+use Rattle.open_evaluation.specs.Shifted.{IsNoBoolean}
 use Rattle.ground_eval.specs.Opened.{HaveConstants}
 use Rattle.ground_eval.proofs.ConstantSorts.{filled_constants, filled_others, filled_in_range, filled_few, other_in_range, none_needed}
 use Rattle.ground_eval.proofs.open_spec.constant_sorts.Goals as goal

@@ -3,9 +3,9 @@ use Rattle.term_core.specs.Tree.{Tree, var, app}
 use Rattle.spec_core.specs.declared.records.Equation.{Equation}
 use Rattle.spec_core.specs.Naturals.{nat, naturals, naturals_sig, zero_term, succ_term, plus_term}
 use Rattle.substitutions.specs.Fitting.{Fits}
-use Rattle.rewriting.specs.FirstUses.{IsFirstUse}
-use Rattle.rewriting.specs.NormalForms.{IsNormal, RunsWithin}
-use Rattle.rewriting.proofs.Chains.{use_below}
+use Rattle.normalization.specs.FirstUses.{IsFirstUse}
+use Rattle.normalization.specs.NormalForms.{IsNormal, RunsWithin}
+use Rattle.normalization.proofs.Chains.{use_below}
 use Rattle.plain_proof.specs.Closings.{HaveSameHead, Closes, identical, stripped, instanced, no_pairs, more_pairs}
 use Rattle.plain_proof.specs.PlainProofs.{CaseCloses, CasesClose, IsPlain}
 use Rattle.spec_core.specs.Order.{constructors_of}

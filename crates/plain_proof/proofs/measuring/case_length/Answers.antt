@@ -2,7 +2,7 @@ use Rattle.std.proofs.Common.{◌≡◌, ℕ, ◌+◌, zero, suc, List, [], ◌�
 use Rattle.std.specs.Prelude.{slice_get}
 use Rattle.term_core.specs.Tree.{tree_size}
 use Rattle.term_core.specs.declared.ids.SortId.{SortId}
-use Rattle.rewriting.specs.Narrow.{IsNarrow}
+use Rattle.normalization.specs.Narrow.{IsNarrow}
 use Rattle.plain_proof.specs.Limits.{AreWithin}
 use Rattle.plain_proof.specs.Cases.{in_case}
 use Rattle.plain_proof.specs.ClosingAnswers.{IsClosing}

@@ -2,8 +2,8 @@ use Rattle.std.proofs.Common.{◌≡◌, ◌-◌, ◌<◌, ◌∙◌, ℕ, Optio
 use Rattle.std.specs.Global.{Vec}
 use Rattle.term_core.specs.Tree.{Tree}
 use Rattle.spec_core.specs.declared.records.Spec.{Spec}
-use Rattle.rewriting.specs.Firsts.{HasFirst}
-use Rattle.rewriting.specs.FirstUses.{IsFirstUse}
+use Rattle.normalization.specs.Firsts.{HasFirst}
+use Rattle.normalization.specs.FirstUses.{IsFirstUse}
 use Rattle.plain_proof.specs.Staying.{HasSide}
 use Rattle.plain_proof.proofs.NarrowTerms.{use_narrow}
 use Rattle.plain_proof.proofs.Walking.{goes_from_start, goes_one_further, goes_to_normal, side_out, side_zero}

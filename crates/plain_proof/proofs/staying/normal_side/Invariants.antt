@@ -1,4 +1,4 @@
-use Rattle.rewriting.specs.Narrow.{IsNarrow}
+use Rattle.normalization.specs.Narrow.{IsNarrow}
 use Rattle.plain_proof.proofs.Walking.{GoesOn}
 use Rattle.plain_proof.proofs.staying.normal_side.Given as goal
 

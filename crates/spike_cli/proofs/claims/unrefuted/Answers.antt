@@ -6,7 +6,7 @@ use Rattle.spec_core.specs.declared.records.Spec.{Spec}
 use Rattle.clause_core.specs.declared.steps.Block.{Block}
 use Rattle.spec_order.specs.Orders.{above_by}
 use Rattle.spec_order.proofs.OwnOrders.{by_own_order}
-use Rattle.plain_blocks.specs.Plain.{IsFirstBlock, IsPlainAnswer}
+use Rattle.plain_search.specs.Plain.{IsFirstBlock, IsPlainAnswer}
 use Rattle.plain_proof.specs.FirstPlain.{IsFirstPlain}
 use Rattle.proof_search.specs.Guided.{steps_in}
 use Rattle.proof_search.specs.declared.answers.Guided.{Guided}

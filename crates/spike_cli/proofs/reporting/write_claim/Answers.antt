@@ -4,7 +4,7 @@ use Rattle.term_core.proofs.Items.{all_at}
 use Rattle.clause_core.specs.declared.reports.Claim.{Claim}
 use Rattle.spec_order.specs.Orders.{order_of}
 use Rattle.spec_order.proofs.OwnOrders.{by_own_order}
-use Rattle.plain_blocks.specs.StandingBlocks.{PlainBlocksStand}
+use Rattle.plain_search.specs.StandingBlocks.{PlainBlocksStand}
 use Rattle.routine_proof.specs.Standing.{RoutineBlocksStand}
 use Rattle.search_claims.specs.Names.{GoalNamesStand}
 use Rattle.spike_cli.specs.Claims.{IsClaimOn}

@@ -7,7 +7,7 @@ use Rattle.spec_core.specs.declared.records.Goal.{Goal}
 use Rattle.clause_core.specs.declared.reports.Claim.{Claim}
 use Rattle.spec_order.specs.Orders.{order_of}
 use Rattle.spec_order.proofs.OwnOrders.{by_own_order}
-use Rattle.plain_blocks.specs.StandingBlocks.{PlainBlocksStand}
+use Rattle.plain_search.specs.StandingBlocks.{PlainBlocksStand}
 use Rattle.routine_proof.specs.Standing.{RoutineBlocksStand}
 use Rattle.routine_proof.specs.Laws.{ProvesBehindClaims}
 use Rattle.soundness.specs.AcceptedAreTrue.{AcceptedAreTrue}

@@ -2,7 +2,7 @@ use Rattle.std.proofs.Common.{◌≡◌, Some, length, get_or, refl, sym, subst}
 use Rattle.std.specs.Prelude.{slice_get}
 use Rattle.std.proofs.lemmas.Option.{slice_get_read}
 use Rattle.spec_core.specs.WellSorted.{sorts_of}
-use Rattle.rewriting.proofs.Fine.{sorted_narrow}
+use Rattle.normalization.proofs.Fine.{sorted_narrow}
 use Rattle.step_cases.proofs.normal_cases.holds.Goals as goal
 
 pub normalize-requires-clause-narrow : goal.normalize-requires-clause-narrow

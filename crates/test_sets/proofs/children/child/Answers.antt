@@ -2,7 +2,7 @@ use Rattle.std.proofs.Common.{◌≡◌, ap, sym, ◌∙◌, subst, arith}
 use Rattle.clause_core.specs.ClauseInstances.{clause_instance}
 use Rattle.clause_core.specs.Limits.{IsWithin}
 use Rattle.clause_core.specs.Tidied.{tidied}
-use Rattle.clause_core.specs.Splitting.{covered_by}
+use Rattle.clause_core.specs.Covering.{covered_by}
 use Rattle.clause_core.proofs.TidiedLimits.{tidied_within}
 use Rattle.test_sets.specs.Children.{sorts_in, child_by}
 use Rattle.test_sets.proofs.Replacements.{covered_by_steps}

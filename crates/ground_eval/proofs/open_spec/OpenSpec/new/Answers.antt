@@ -4,7 +4,7 @@ use Rattle.term_core.specs.declared.ids.SortId.{SortId}
 use Rattle.spec_core.specs.declared.records.VarInfo.{VarInfo}
 use Rattle.spec_core.specs.Sig.{IsSort}
 use Rattle.spec_core.specs.WellSorted.{sorts_of}
-use Rattle.constants.specs.Shifted.{IsExtended, shifted_goal}
+use Rattle.open_evaluation.specs.Shifted.{IsExtended, shifted_goal}
 use Rattle.ground_eval.specs.Opened.{HaveConstants}
 use Rattle.ground_eval.proofs.open_spec.OpenSpec.new.Goals as goal
 

@@ -3,7 +3,7 @@ use Rattle.spec_core.specs.declared.records.Spec.{Spec}
 use Rattle.spec_core.specs.declared.records.Goal.{Goal}
 use Rattle.spec_core.specs.WellSorted.{GoalIsSorted}
 use Rattle.rule_code.specs.Lengths.{rules_length}
-use Rattle.constants.proofs.ShiftedRules.{shifted_goal_sorted}
+use Rattle.open_evaluation.proofs.ShiftedRules.{shifted_goal_sorted}
 use Rattle.ground_eval.specs.Opened.{IsOpened}
 use Rattle.ground_eval.proofs.parts.PartialGoal.new.Goals as goal
 

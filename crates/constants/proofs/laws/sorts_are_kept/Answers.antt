@@ -1,5 +1,0 @@
-use Rattle.constants.proofs.Extended.{shifted_sorted}
-use Rattle.constants.proofs.laws.sorts_are_kept.Goals as goal
-
-pub returns : goal.returns
-returns c old new sorts more fine ctx t s h = shifted_sorted old new sorts more fine.signature ctx t s h

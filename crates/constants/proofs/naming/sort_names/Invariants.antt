@@ -1,6 +1,0 @@
-use Rattle.std.proofs.Common.{◌≡◌}
-use Rattle.constants.specs.Marks.{marks_from}
-use Rattle.constants.proofs.naming.sort_names.Given as goal
-
-abbrev pub invariant-loop-number : goal.invariant-loop-number
-invariant-loop-number l = l.names ≡ marks_from 5 l.number

@@ -1,6 +1,0 @@
-use Rattle.std.proofs.Common.{◌≡◌, map, take}
-use Rattle.constants.specs.Shifted.{shifted_equation}
-use Rattle.constants.proofs.rules.shift_equations.Given as goal
-
-abbrev pub invariant-loop-equation : goal.invariant-loop-equation
-invariant-loop-equation l = l.made ≡ map (shifted_equation l.constructors l.constants) (take l.equation-index l.equations)

@@ -1,6 +1,0 @@
-use Rattle.std.proofs.Common.{◌≡◌, map, take}
-use Rattle.constants.specs.Shifted.{shifted_guard}
-use Rattle.constants.proofs.rules.shift_guards.Given as goal
-
-abbrev pub invariant-loop-guard : goal.invariant-loop-guard
-invariant-loop-guard l = l.made ≡ map (shifted_guard l.constructors l.constants) (take l.guard-index l.guards)

@@ -1,5 +1,0 @@
-use Rattle.open_walk.proofs.ClosedTerms.{value_stays}
-use Rattle.open_walk.proofs.laws.closing_keeps_values.Goals as goal
-
-pub returns : goal.returns
-returns c sig u v built = value_stays sig u v built

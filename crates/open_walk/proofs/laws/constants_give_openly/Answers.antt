@@ -1,6 +1,0 @@
-use Rattle.std.proofs.Common.{refl}
-use Rattle.open_walk.proofs.OutOfConstants.{gives_out}
-use Rattle.open_walk.proofs.laws.constants_give_openly.Goals as goal
-
-pub returns : goal.returns
-returns c old new sorts t w n fine ext below gives = gives_out old new sorts fine ext gives t below refl

@@ -1,5 +1,0 @@
-use Rattle.rewriting.specs.Found.{NoneBefore}
-use Rattle.rewriting.proofs.rewriter.Rewriter.first_rule.Given as goal
-
-abbrev pub invariant-loop-place : goal.invariant-loop-place
-invariant-loop-place l = NoneBefore l.self.rules l.place-items l.term l.place-index
