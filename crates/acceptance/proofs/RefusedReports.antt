@@ -1,5 +1,6 @@
 -- Reports that are first refused at a line, and refuted claims.
-use Rattle.std.proofs.Common.{◌≡◌, ◌⊎◌, ℕ, zero, suc, ◌+◌, ◌<◌, List, [], ◌∷◌, ◌++◌, Some, None, inl, inr, refl, ap, ◌∙◌, arith}
+use Rattle.std.proofs.Common.{◌≡◌, ◌⊎◌, ℕ, zero, suc, ◌+◌, ◌<◌, List, [], ◌∷◌, ◌++◌, Some, None, inl, inr, refl, ap}
+use Rattle.std.proofs.Common.{◌∙◌, arith}
 use Rattle.std.specs.Prelude.{Any, codes, length}
 use Rattle.std.proofs.lemmas.List.Sorted.{IsPermutation-refl}
 use Rattle.term_core.specs.Tree.{var, app, none, some, instance}
@@ -21,7 +22,8 @@ use Rattle.clause_core.specs.declared.answers.Children.{Children}
 use Rattle.clause_core.specs.declared.answers.Why.{Why}
 use Rattle.clause_core.specs.declared.answers.Why.TheVariants.{NoSuchNode, NotProvedBefore, NotCovering}
 use Rattle.clause_core.specs.declared.reports.ReplayWhy.{ReplayWhy}
-use Rattle.clause_core.specs.declared.reports.ReplayWhy.TheVariants.{UnknownGoal, GoalTwice, Step as of_step, Pending, NotSmaller, Variables, NotFalse}
+use Rattle.clause_core.specs.declared.reports.ReplayWhy.TheVariants.{UnknownGoal, GoalTwice, Step as of_step, Pending}
+use Rattle.clause_core.specs.declared.reports.ReplayWhy.TheVariants.{NotSmaller, Variables, NotFalse}
 use Rattle.clause_core.specs.ClauseLaws.{OneRelation}
 use Rattle.clause_core.specs.Patterns.{IsInstanceOf}
 use Rattle.clause_core.specs.ExampleClauses.{unit_clause}
@@ -31,11 +33,13 @@ use Rattle.acceptance.specs.Claims.{IsGoalNamed, ProvedBefore}
 use Rattle.acceptance.specs.Accepting.{AreNamedValues}
 use Rattle.acceptance.specs.Refusals.{block_tests}
 use Rattle.acceptance.specs.StepRefusals.{StepIsRefused}
-use Rattle.acceptance.specs.Examples.{proves_unit, only, refutes, leaves_open, by_cases, by_lemma, unit_steps, circular_steps, x_and_y, AcceptedOnNaturals, RefusedOnNaturals}
+use Rattle.acceptance.specs.Examples.{proves_unit, only, refutes, leaves_open, by_cases, by_lemma, unit_steps}
+use Rattle.acceptance.specs.Examples.{circular_steps, x_and_y, AcceptedOnNaturals, RefusedOnNaturals}
 use Rattle.acceptance.proofs.Links.{allowed_by}
 use Rattle.acceptance.proofs.NoRefusal.{claim_clean, not_of_goal}
 use Rattle.acceptance.proofs.FirstRefusal.{first_step, first_pending, first_larger}
-use Rattle.acceptance.proofs.UnitProof.{at_zero, at_succ, both_cases, by_goal, made, cases_made, makes, zero_pattern, start_within, zero_within, succ_within, shown}
+use Rattle.acceptance.proofs.UnitProof.{at_zero, at_succ, both_cases, by_goal, made, cases_made, makes, zero_pattern}
+use Rattle.acceptance.proofs.UnitProof.{start_within, zero_within, succ_within, shown}
 
 unit_named : IsGoalNamed naturals (codes "unit") unit_goal
 unit_named = (1, refl, refl)
@@ -50,7 +54,8 @@ abbrev IsFirst : List Step → ℕ → ReplayWhy → Type 0
 IsFirst steps at why = First (block_tests AboveInSums naturals [] 3 (codes "unit") steps) (at, why)
 
 -- a report that proves the goal alone is first refused where its block is
-of_block : (steps : List Step) (at : ℕ) (why : ReplayWhy) → IsFirst steps at why → RefusedOnNaturals (only (proves_unit steps)) at why
+of_block : (steps : List Step) (at : ℕ) (why : ReplayWhy) → IsFirst steps at why →
+    RefusedOnNaturals (only (proves_unit steps)) at why
 of_block steps at why h = inl (inr (λ h. h (unit_goal, unit_named, tt), inr (λ h. h, h)))
 
 -- The block in which each case refers to the goal itself.
@@ -62,9 +67,41 @@ circle_makes : StepsMake AboveInSums naturals none_proved (unit_clause ∷ []) 0
 circle_makes = (
   cases_made naturals.goals none_proved,
   (
-    record { clause = at_zero; is = refl; says = inl (record { clause = unit_clause; is = refl }, inl (((_, refl, refl, tt), tt), inl (zero_within, inl ((tt, (inl (inl refl), tt)), (_, tt, ((refl, IsPermutation-refl _), tt), inl ((tt, omega arith), refl)))))) },
+    record {
+      clause = at_zero;
+      is = refl;
+      says = inl (
+        record { clause = unit_clause; is = refl },
+        inl (
+          ((_, refl, refl, tt), tt),
+          inl (
+            zero_within,
+            inl (
+              (tt, (inl (inl refl), tt)),
+              (_, tt, ((refl, IsPermutation-refl _), tt), inl ((tt, omega arith), refl)),
+            ),
+          ),
+        ),
+      );
+    },
     (
-      record { clause = at_succ; is = refl; says = inl (record { clause = unit_clause; is = refl }, inl (((_, refl, refl, (refl, tt)), tt), inl (succ_within, inl ((tt, (inl (inl refl), tt)), (_, tt, ((refl, IsPermutation-refl _), tt), inl ((tt, omega arith), refl)))))) },
+      record {
+        clause = at_succ;
+        is = refl;
+        says = inl (
+          record { clause = unit_clause; is = refl },
+          inl (
+            ((_, refl, refl, (refl, tt)), tt),
+            inl (
+              succ_within,
+              inl (
+                (tt, (inl (inl refl), tt)),
+                (_, tt, ((refl, IsPermutation-refl _), tt), inl ((tt, omega arith), refl)),
+              ),
+            ),
+          ),
+        );
+      },
       tt,
     ),
   ),
@@ -97,7 +134,9 @@ first_allowed zero l = allowed_by circle 0 _ refl (inr refl, (inr refl, tt)) tt
 first_allowed (suc j) l = absurd (omega arith)
 
 zero_is_not_succ : Any (IsInstanceOf (succ_term zero_term)) (zero_term ∷ []) → ⊥
-zero_is_not_succ (zero, p, l, is, (ts, h)) = let k : instance ts zero_term ≡ succ_term zero_term = ap (λ x. instance ts x) is ∙ h in let n : ◌≡◌ {A = ℕ} 2 3 = (let r : app 2 none ≡ app 3 (some (app 2 none) none) = k in cc) in omega arith
+zero_is_not_succ (zero, p, l, is, (ts, h)) = let k : instance ts zero_term ≡ succ_term zero_term = ap
+    (λ x. instance ts x) is ∙ h in
+    let n : ◌≡◌ {A = ℕ} 2 3 = (let r : app 2 none ≡ app 3 (some (app 2 none) none) = k in cc) in omega arith
 zero_is_not_succ (suc k, p, l, is, h) = omega (arith, l)
 
 not_same : (codes "same" ≡ codes "unit") ⊎ ⊥ → ⊥
@@ -120,14 +159,22 @@ module _ (relation : OneRelation AboveInSums) (fine : IsWellSorted naturals) whe
   longer = unit_steps ++ Trivial 1 ∷ []
 
   pub step_too_many : RefusedOnNaturals (only (proves_unit longer)) 10 (of_step NoSuchNode)
-  step_too_many = of_block longer 10 (of_step NoSuchNode) (step_refused longer 6 NoSuchNode (omega arith) (Trivial 1, made, refl, makes naturals.goals none_proved, inl (refl, refl)))
+  step_too_many = of_block longer 10 (of_step NoSuchNode)
+      (step_refused longer 6 NoSuchNode (omega arith) (
+        Trivial 1,
+        made,
+        refl,
+        makes naturals.goals none_proved,
+        inl (refl, refl),
+      ))
 
   pub unfinished : RefusedOnNaturals (only (proves_unit (by_cases ∷ []))) 3 Pending
   unfinished = of_block (by_cases ∷ []) 3 Pending
       (first_pending AboveInSums relation naturals fine [] 3 (codes "unit") unit_goal unit_named (by_cases ∷ [])
       start_within (both_cases ∷ []) (cases_made naturals.goals none_proved, tt) (omega arith))
 
-  pub claimed_twice : RefusedOnNaturals (record { steps = 1; claims = proves_unit unit_steps ∷ proves_unit unit_steps ∷ [] }) 10 GoalTwice
+  pub claimed_twice : RefusedOnNaturals
+      (record { steps = 1; claims = proves_unit unit_steps ∷ proves_unit unit_steps ∷ [] }) 10 GoalTwice
   claimed_twice = inr (
     claim_clean AboveInSums relation naturals fine 1 [] (proves_unit unit_steps)
         (shown 1 [] (λ h. h)),
@@ -138,13 +185,38 @@ module _ (relation : OneRelation AboveInSums) (fine : IsWellSorted naturals) whe
   short = Cover (record { 0 = 0 }) (zero_term ∷ []) ∷ []
 
   pub case_left_out : RefusedOnNaturals (only (proves_unit short)) 4 (of_step NotCovering)
-  case_left_out = of_block short 4 (of_step NotCovering) (step_refused short 0 NotCovering (omega arith) (_, [], refl, tt, inr (unit_clause, refl, inl (record { sort = nat; is = refl; contexts = [] ∷ []; each = (zero_pattern, tt) }, inr (λ c. zero_is_not_succ (c (succ_term zero_term) ((_, refl, refl, ((_, refl, refl, tt), tt)), (omega arith, ((omega arith, tt), tt)))), refl)))))
+  case_left_out = of_block short 4 (of_step NotCovering) (step_refused short 0 NotCovering (omega arith) (
+    _,
+    [],
+    refl,
+    tt,
+    inr (
+      unit_clause,
+      refl,
+      inl (
+        record { sort = nat; is = refl; contexts = [] ∷ []; each = (zero_pattern, tt) },
+        inr (
+          λ c. zero_is_not_succ (c (succ_term zero_term) (
+            (_, refl, refl, ((_, refl, refl, tt), tt)),
+            (omega arith, ((omega arith, tt), tt)),
+          )),
+          refl,
+        ),
+      ),
+    ),
+  ))
 
   abbrev own : List Step
   own = by_lemma (codes "unit") (var 0 ∷ [])
 
   pub by_itself : RefusedOnNaturals (only (proves_unit own)) 4 (of_step NotProvedBefore)
-  by_itself = of_block own 4 (of_step NotProvedBefore) (step_refused own 0 NotProvedBefore (omega arith) (_, [], refl, tt, inr (unit_clause, refl, inr (λ l. l.may_be_used.2, refl))))
+  by_itself = of_block own 4 (of_step NotProvedBefore) (step_refused own 0 NotProvedBefore (omega arith) (
+    _,
+    [],
+    refl,
+    tt,
+    inr (unit_clause, refl, inr (λ l. l.may_be_used.2, refl)),
+  ))
 
   abbrev by_same : List Step
   by_same = by_lemma (codes "same") (var 0 ∷ var 0 ∷ [])
@@ -156,7 +228,8 @@ module _ (relation : OneRelation AboveInSums) (fine : IsWellSorted naturals) whe
   none_before number (goal, at, inl p) = p.1
   none_before number (goal, at, inr h) = h
 
-  pub by_open : RefusedOnNaturals (record { steps = 1; claims = leaves_open ∷ proves_unit by_same ∷ [] }) 5 (of_step NotProvedBefore)
+  pub by_open : RefusedOnNaturals (record { steps = 1; claims = leaves_open ∷ proves_unit by_same ∷ [] }) 5
+      (of_step NotProvedBefore)
   by_open = inr (
     (λ h. h (same_goal, same_named, tt), (λ h. h, tt)),
     inl (inr (
@@ -178,43 +251,76 @@ module _ (relation : OneRelation AboveInSums) (fine : IsWellSorted naturals) whe
   one_value_of_nat : IsValue naturals_sig nat (succ_term zero_term)
   one_value_of_nat = ((_, refl, refl, ((_, refl, refl, tt), tt)), (omega arith, ((omega arith, tt), tt)))
 
-  pub refuted : IsVerdict naturals (zero_term ∷ succ_term zero_term ∷ []) 1 same_goal Fails → AcceptedOnNaturals (only (refutes (codes "same") (x_and_y zero_term (succ_term zero_term))))
-  refuted fails = (record { goal = same_goal; named = same_named; first = λ h. h; shown = (record { names = refl; sorts = (zero_value, (one_value_of_nat, tt)) }, fails) }, tt)
+  pub refuted : IsVerdict naturals (zero_term ∷ succ_term zero_term ∷ []) 1 same_goal Fails →
+      AcceptedOnNaturals (only (refutes (codes "same") (x_and_y zero_term (succ_term zero_term))))
+  refuted fails = (
+    record {
+      goal = same_goal;
+      named = same_named;
+      first = λ h. h;
+      shown = (record { names = refl; sorts = (zero_value, (one_value_of_nat, tt)) }, fails);
+    },
+    tt,
+  )
 
   -- with x = y = zero both sides are one term, which has one value
-  zeros_hold : OneValue → NoOverlap naturals → GroupsAreWhole naturals → IsVerdict naturals (zero_term ∷ zero_term ∷ []) 1 same_goal Fails → ⊥
+  zeros_hold : OneValue → NoOverlap naturals → GroupsAreWhole naturals →
+      IsVerdict naturals (zero_term ∷ zero_term ∷ []) 1 same_goal Fails → ⊥
   zeros_hold value apart whole (inl h) = let e : Fails ≡ Spent = h.1 in cc
   zeros_hold value apart whole (inr (inl h)) = let e : Fails ≡ Holds = h.1 in cc
-  zeros_hold value apart whole (inr (inr ((v, w, d, (n, g, l), (m, k, r)), e))) = d (value naturals (plus_term zero_term zero_term) v w n m nat fine apart whole (_, refl, refl, ((_, refl, refl, tt), ((_, refl, refl, tt), tt))) g k).0
+  zeros_hold value apart whole (inr (inr ((v, w, d, (n, g, l), (m, k, r)), e))) = d
+      (value naturals (plus_term zero_term zero_term) v w n m nat fine apart whole (
+        _,
+        refl,
+        refl,
+        ((_, refl, refl, tt), ((_, refl, refl, tt), tt)),
+      ) g k).0
 
-  pub not_refuted : OneValue → NoOverlap naturals → GroupsAreWhole naturals → RefusedOnNaturals (only (refutes (codes "same") (x_and_y zero_term zero_term))) 3 NotFalse
+  pub not_refuted : OneValue → NoOverlap naturals → GroupsAreWhole naturals →
+      RefusedOnNaturals (only (refutes (codes "same") (x_and_y zero_term zero_term))) 3 NotFalse
   not_refuted value apart whole = inl (inr (
     λ h. h (same_goal, same_named, tt),
     inr (
       λ h. h,
       inr (
-        not_of_goal naturals fine (codes "same") same_goal same_named (λ g. ¬ (AreNamedValues naturals g (x_and_y zero_term zero_term))) (λ h. h (record { names = refl; sorts = (zero_value, (zero_value, tt)) })),
+        not_of_goal naturals fine (codes "same") same_goal same_named
+            (λ g. ¬ (AreNamedValues naturals g (x_and_y zero_term zero_term)))
+            (λ h. h (record { names = refl; sorts = (zero_value, (zero_value, tt)) })),
         ((same_goal, same_named, zeros_hold value apart whole), refl),
       ),
     ),
   ))
 
 pub behind_open : AcceptedOnNaturals (record { steps = 1; claims = leaves_open ∷ proves_unit unit_steps ∷ [] })
-behind_open = (record { goal = same_goal; named = same_named; first = λ h. h; shown = tt }, (shown 1 (leaves_open ∷ []) not_same, tt))
+behind_open = (
+  record { goal = same_goal; named = same_named; first = λ h. h; shown = tt },
+  (shown 1 (leaves_open ∷ []) not_same, tt),
+)
 
 pub accepted : AcceptedOnNaturals (only (proves_unit unit_steps))
 accepted = (shown 1 [] (λ h. h), tt)
 
 other_names : AreNamedValues naturals same_goal ((codes "y", succ_term zero_term) ∷ (codes "x", zero_term) ∷ []) → ⊥
-other_names a = let e : ◌≡◌ {A = List (List ℕ)} (codes "y" ∷ codes "x" ∷ []) (codes "x" ∷ codes "y" ∷ []) = a.names in let k : ◌≡◌ {A = ℕ} 121 120 = cc in omega arith
+other_names a = let e : ◌≡◌ {A = List (List ℕ)} (codes "y" ∷ codes "x" ∷ [])
+    (codes "x" ∷ codes "y" ∷ []) = a.names in let k : ◌≡◌ {A = ℕ} 121 120 = cc in omega arith
 
-pub exchanged_names : RefusedOnNaturals (only (refutes (codes "same") ((codes "y", succ_term zero_term) ∷ (codes "x", zero_term) ∷ []))) 3 Variables
-exchanged_names = inl (inr (λ h. h (same_goal, same_named, tt), inr (λ h. h, inl ((same_goal, same_named, other_names), refl))))
+pub exchanged_names : RefusedOnNaturals
+    (only (refutes (codes "same") ((codes "y", succ_term zero_term) ∷ (codes "x", zero_term) ∷ []))) 3 Variables
+exchanged_names = inl (inr (
+  λ h. h (same_goal, same_named, tt),
+  inr (λ h. h, inl ((same_goal, same_named, other_names), refl)),
+))
 
 none_is_worse : (goal : Goal) → IsGoalNamed naturals (codes "worse") goal → ⊥
-none_is_worse goal (zero, at, n) = let q : Some same_goal ≡ Some goal = at in let e : same_goal ≡ goal = cc in let k : ◌≡◌ {A = List ℕ} (codes "same") (codes "worse") = ap (λ (g : Goal). g.name) e ∙ n in let h : ◌≡◌ {A = ℕ} 115 119 = cc in omega arith
-none_is_worse goal (suc zero, at, n) = let q : Some unit_goal ≡ Some goal = at in let e : unit_goal ≡ goal = cc in let k : ◌≡◌ {A = List ℕ} (codes "unit") (codes "worse") = ap (λ (g : Goal). g.name) e ∙ n in let h : ◌≡◌ {A = ℕ} 117 119 = cc in omega arith
+none_is_worse goal (zero, at, n) = let q : Some same_goal ≡ Some goal = at in let e : same_goal ≡ goal = cc in
+    let k : ◌≡◌ {A = List ℕ} (codes "same") (codes "worse") = ap (λ (g : Goal). g.name) e ∙ n in
+    let h : ◌≡◌ {A = ℕ} 115 119 = cc in omega arith
+none_is_worse goal (suc zero, at, n) = let q : Some unit_goal ≡ Some goal = at in
+    let e : unit_goal ≡ goal = cc in
+    let k : ◌≡◌ {A = List ℕ} (codes "unit") (codes "worse") = ap (λ (g : Goal). g.name) e ∙ n in
+    let h : ◌≡◌ {A = ℕ} 117 119 = cc in omega arith
 none_is_worse goal (suc (suc k), at, n) = let e : None ≡ Some goal = at in cc
 
-pub unknown_goal : RefusedOnNaturals (only (refutes (codes "worse") (x_and_y zero_term (succ_term zero_term)))) 3 UnknownGoal
+pub unknown_goal : RefusedOnNaturals (only (refutes (codes "worse") (x_and_y zero_term (succ_term zero_term))))
+    3 UnknownGoal
 unknown_goal = inl (inl (λ g. none_is_worse g.0 g.1, refl))

@@ -1,11 +1,13 @@
 -- What flags of strict nodes say of a node: whether it is strict, and whether its references are allowed.
-use Rattle.std.proofs.Common.{◌≡◌, ◌⊎◌, ℕ, zero, suc, ◌+◌, ◌<◌, Bool, true, false, List, [], ◌∷◌, get_or, length, inl, inr, subst, arith}
+use Rattle.std.proofs.Common.{◌≡◌, ◌⊎◌, ℕ, zero, suc, ◌+◌, ◌<◌, Bool, true, false, List, [], ◌∷◌, get_or, length, inl}
+use Rattle.std.proofs.Common.{inr, subst, arith}
 use Rattle.std.proofs.lemmas.Option.{slice_get_within}
 use Rattle.clause_core.specs.declared.clauses.Relation.{Relation}
 use Rattle.clause_core.specs.declared.clauses.Relation.TheVariants.{Less, Same}
 use Rattle.clause_core.specs.declared.answers.Children.{Children}
 use Rattle.acceptance.specs.Strict.{LeadsTo, Strict, strict, ReferenceIsAllowed, NodeIsAllowed}
-use Rattle.acceptance.specs.AllowedAnswers.{IsWholeBlock, TellsStrict, FallsBy, AllowedBy, ChildrenFallBy, ReferencesFallBy, ChildrenAreAllowed, ReferencesAllowedBy}
+use Rattle.acceptance.specs.AllowedAnswers.{IsWholeBlock, TellsStrict, FallsBy, AllowedBy, ChildrenFallBy}
+use Rattle.acceptance.specs.AllowedAnswers.{ReferencesFallBy, ChildrenAreAllowed, ReferencesAllowedBy}
 use Rattle.acceptance.proofs.Flags.{children_within}
 
 -- a flag that is set is in the list
@@ -20,7 +22,12 @@ same_is_not_less e = cc
 module _ (made : List Children) (whole : IsWholeBlock made) (flags : List Bool) (k : ℕ) where
   -- what a node leads to is a node
   leads_within : (j : ℕ) (r : Relation) → LeadsTo made k j r → j < length made
-  leads_within j r (inl (m, i, d, at, get, rel, num)) = omega (arith, num, slice_get_within m.clauses i d get, children_within made whole k m at)
+  leads_within j r (inl (m, i, d, at, get, rel, num)) = omega (
+    arith,
+    num,
+    slice_get_within m.clauses i d get,
+    children_within made whole k m at,
+  )
   leads_within j r (inr h) = whole.refs k j r h
 
   module _ (tells : TellsStrict made (k + 1) flags) where
@@ -43,7 +50,11 @@ module _ (made : List Children) (whole : IsWholeBlock made) (flags : List Bool) 
     falls_strictly : Strict made k → (j : ℕ) (r : Relation) → LeadsTo made k j r → FallsBy flags k j r
     falls_strictly (strict a b) j r h = elim (a j r h) [
       | inl e ↦ inl e
-      | inr p ↦ inr (p.0, p.1, (tells.tells j (omega (arith, p.1)) (leads_within j r h)).1 (b j (subst (λ q. LeadsTo made k j q) p.0 h)))
+      | inr p ↦ inr (
+        p.0,
+        p.1,
+        (tells.tells j (omega (arith, p.1)) (leads_within j r h)).1 (b j (subst (λ q. LeadsTo made k j q) p.0 h)),
+      )
     ]
 
     -- and there alone
@@ -57,7 +68,10 @@ module _ (made : List Children) (whole : IsWholeBlock made) (flags : List Bool) 
     by_flag : (j : ℕ) (r : Relation) → AllowedBy flags k j r → ReferenceIsAllowed made k j r
     by_flag j r (inl e) = inl e
     by_flag j r (inr (e, inl l)) = inr (e, inl l)
-    by_flag j r (inr (e, inr f)) = inr (e, inr ((tells.tells j (omega arith) (omega (arith, set_within flags j f, tells.long))).0 f))
+    by_flag j r (inr (e, inr f)) = inr (
+      e,
+      inr ((tells.tells j (omega arith) (omega (arith, set_within flags j f, tells.long))).0 f),
+    )
 
     flag_of : (j : ℕ) (r : Relation) → j < length made → ReferenceIsAllowed made k j r → AllowedBy flags k j r
     flag_of j r here (inl e) = inl e

@@ -10,7 +10,8 @@ use Rattle.spec_core.specs.declared.records.Goal.{Goal}
 use Rattle.spec_core.specs.declared.records.Spec.{Spec}
 use Rattle.spec_core.specs.declared.records.SymInfo.{SymInfo}
 use Rattle.spec_core.specs.Sorts.{Sorted, SortedAll, IsBuilt}
-use Rattle.spec_core.specs.Naturals.{nat, declares, naturals, naturals_sig, unit_goal, zero_term, succ_term, plus_term, plus_zero_rule, plus_succ_rule}
+use Rattle.spec_core.specs.Naturals.{nat, declares, naturals, naturals_sig, unit_goal, zero_term, succ_term, plus_term}
+use Rattle.spec_core.specs.Naturals.{plus_zero_rule, plus_succ_rule}
 use Rattle.spec_core.proofs.SortedNaturals.{bool_is_not_nat}
 use Rattle.sample_specs.specs.SumOrder.{AboveInSums}
 use Rattle.clause_core.specs.declared.clauses.Clause.{Clause}
@@ -57,7 +58,8 @@ abbrev pub by_goal : Children
 by_goal = record { clauses = []; refs = same_as_first ∷ [] }
 
 abbrev pub made : List Children
-made = both_cases ∷ makes_clauses (less zero_is_zero ∷ []) ∷ makes_clauses (less both_succ ∷ []) ∷ makes_clauses [] ∷ makes_clauses (less unit_clause ∷ []) ∷ by_goal ∷ []
+made = both_cases ∷ makes_clauses (less zero_is_zero ∷ []) ∷ makes_clauses (less both_succ ∷ []) ∷ makes_clauses
+    [] ∷ makes_clauses (less unit_clause ∷ []) ∷ by_goal ∷ []
 
 pub zero_pattern : IsPatternOf naturals_sig nat [] zero_term
 zero_pattern = record { sorted = (_, refl, refl, tt); pattern = (omega arith, tt); numbered = refl }
@@ -65,8 +67,10 @@ zero_pattern = record { sorted = (_, refl, refl, tt); pattern = (omega arith, tt
 succ_pattern : IsPatternOf naturals_sig nat one (succ_term (var 0))
 succ_pattern = record { sorted = (_, refl, refl, (refl, tt)); pattern = (omega arith, (tt, tt)); numbered = refl }
 
-args : (i : SymInfo) (ts : Trees) (ss : List SortId) → Some (declares ss) ≡ Some i → SortedAll naturals_sig [] ts i.args → SortedAll naturals_sig [] ts ss
-args i ts ss at s = let e : declares ss ≡ i = cc in subst (λ (x : SymInfo). SortedAll naturals_sig [] ts x.args) (sym e) s
+args : (i : SymInfo) (ts : Trees) (ss : List SortId) → Some (declares ss) ≡ Some i →
+    SortedAll naturals_sig [] ts i.args → SortedAll naturals_sig [] ts ss
+args i ts ss at s = let e : declares ss ≡ i = cc in
+    subst (λ (x : SymInfo). SortedAll naturals_sig [] ts x.args) (sym e) s
 
 nat_value : (v : Tree) → Sorted naturals_sig [] v nat → IsBuilt naturals_sig v → Any (IsInstanceOf v) zero_or_succ
 nat_value (var n) s b = absurd b
@@ -76,7 +80,8 @@ nat_value (app (suc (suc zero)) none) s b = (0, zero_term, omega arith, refl, ([
 nat_value (app (suc (suc zero)) (some t ts)) s b = absurd (args s.0 (some t ts) [] s.1 s.3)
 nat_value (app (suc (suc (suc zero))) none) s b = absurd (args s.0 none (nat ∷ []) s.1 s.3)
 nat_value (app (suc (suc (suc zero))) (some t none)) s b = (1, succ_term (var 0), omega arith, refl, (t ∷ [], refl))
-nat_value (app (suc (suc (suc zero))) (some t (some u us))) s b = absurd (args s.0 (some t (some u us)) (nat ∷ []) s.1 s.3).1
+nat_value (app (suc (suc (suc zero))) (some t (some u us))) s b = absurd
+    (args s.0 (some t (some u us)) (nat ∷ []) s.1 s.3).1
 nat_value (app (suc (suc (suc (suc f)))) ts) s b = let k : suc (suc (suc (suc f))) < 4 = b.0 in absurd (omega arith)
 
 covering : AreCovering naturals_sig nat zero_or_succ
@@ -109,21 +114,121 @@ module _ (goals : List Goal) (usable : ℕ → Type 0) where
   succ_rule_at = record { place = 1; rule = plus_succ_rule; counts = refl; is = refl }
 
   pub cases_made : StepMakes AboveInSums (with_goals goals) usable (unit_clause ∷ []) 0 by_cases both_cases
-  cases_made = record { clause = unit_clause; is = refl; says = inl (record { sort = nat; is = refl; contexts = [] ∷ (one ∷ []); each = (zero_pattern, (succ_pattern, tt)) }, inl (covering, (_, ((refl, refl), ((refl, refl), tt)), tt, inl (((zero_within, (succ_within, tt)), omega arith), refl)))) }
+  cases_made = record {
+    clause = unit_clause;
+    is = refl;
+    says = inl (
+      record { sort = nat; is = refl; contexts = [] ∷ (one ∷ []); each = (zero_pattern, (succ_pattern, tt)) },
+      inl (
+        covering,
+        (
+          _,
+          ((refl, refl), ((refl, refl), tt)),
+          tt,
+          inl (((zero_within, (succ_within, tt)), omega arith), refl),
+        ),
+      ),
+    );
+  }
 
   pub makes : StepsMake AboveInSums (with_goals goals) usable (unit_clause ∷ []) 0 unit_steps made
   makes = (
     cases_made,
     (
-      record { clause = at_zero; is = refl; says = inl (left_side [] _, inl (zero_rule_at, inl ((record { terms = zero_term ∷ []; long = refl; is = refl }, tt), (_, ((refl, refl), tt), tt, inl (((record { equations = omega arith; depth = omega arith; size = omega arith }, tt), omega arith), refl))))) },
+      record {
+        clause = at_zero;
+        is = refl;
+        says = inl (
+          left_side [] _,
+          inl (
+            zero_rule_at,
+            inl (
+              (record { terms = zero_term ∷ []; long = refl; is = refl }, tt),
+              (
+                _,
+                ((refl, refl), tt),
+                tt,
+                inl (
+                  ((record { equations = omega arith; depth = omega arith; size = omega arith }, tt), omega arith),
+                  refl,
+                ),
+              ),
+            ),
+          ),
+        );
+      },
       (
-        record { clause = at_succ; is = refl; says = inl (left_side one _, inl (succ_rule_at, inl ((record { terms = var 0 ∷ zero_term ∷ []; long = refl; is = refl }, tt), (_, ((refl, refl), tt), tt, inl (((record { equations = omega arith; depth = omega arith; size = omega arith }, tt), omega arith), refl))))) },
+        record {
+          clause = at_succ;
+          is = refl;
+          says = inl (
+            left_side one _,
+            inl (
+              succ_rule_at,
+              inl (
+                (record { terms = var 0 ∷ zero_term ∷ []; long = refl; is = refl }, tt),
+                (
+                  _,
+                  ((refl, refl), tt),
+                  tt,
+                  inl (
+                    (
+                      (record { equations = omega arith; depth = omega arith; size = omega arith }, tt),
+                      omega arith,
+                    ),
+                    refl,
+                  ),
+                ),
+              ),
+            ),
+          );
+        },
         (
-          record { clause = zero_is_zero; is = refl; says = inl (first [] _, inl (refl, (_, tt, tt, inl ((tt, omega arith), refl)))) },
+          record {
+            clause = zero_is_zero;
+            is = refl;
+            says = inl (
+              first [] _,
+              inl (refl, (_, tt, tt, inl ((tt, omega arith), refl))),
+            );
+          },
           (
-            record { clause = both_succ; is = refl; says = inl (first one _, inl (record { head = 3; lefts = _; rights = _; constructor = omega arith; is_left = refl; is_right = refl }, (_, ((refl, refl), tt), tt, inl (((start_within, tt), omega arith), refl)))) },
+            record {
+              clause = both_succ;
+              is = refl;
+              says = inl (
+                first one _,
+                inl (
+                  record {
+                    head = 3;
+                    lefts = _;
+                    rights = _;
+                    constructor = omega arith;
+                    is_left = refl;
+                    is_right = refl;
+                  },
+                  (_, ((refl, refl), tt), tt, inl (((start_within, tt), omega arith), refl)),
+                ),
+              );
+            },
             (
-              record { clause = unit_clause; is = refl; says = inl (record { clause = unit_clause; is = refl }, inl ((refl, tt), inl (start_within, inl ((tt, (inl (inl refl), tt)), (_, tt, ((refl, IsPermutation-refl _), tt), inl ((tt, omega arith), refl)))))) },
+              record {
+                clause = unit_clause;
+                is = refl;
+                says = inl (
+                  record { clause = unit_clause; is = refl },
+                  inl (
+                    (refl, tt),
+                    inl (
+                      start_within,
+                      inl (
+                        (tt, (inl (inl refl), tt)),
+                        (_, tt, ((refl, IsPermutation-refl _), tt), inl ((tt, omega arith), refl)),
+                      ),
+                    ),
+                  ),
+                );
+              },
               tt,
             ),
           ),
@@ -139,7 +244,10 @@ strict_succ : Strict made 2
 strict_succ = strict_by made 2 _ refl (inl refl, tt) tt
 
 strict_start : Strict made 0
-strict_start = strict_by made 0 _ refl (inr (refl, omega arith, strict_zero), (inr (refl, omega arith, strict_succ), tt)) tt
+strict_start = strict_by made 0 _ refl (
+  inr (refl, omega arith, strict_zero),
+  (inr (refl, omega arith, strict_succ), tt),
+) tt
 
 allowed : AllAreAllowed made
 allowed zero = allowed_by made 0 _ refl (inr refl, (inr refl, tt)) tt
@@ -154,7 +262,19 @@ module _ (budget : ℕ) (before : List Claim) (first : IsClaimed unit_goal.name 
   -- after claims that aren't on this goal
   shown_by : (goals : List Goal) → IsGoalNamed (with_goals goals) unit_goal.name unit_goal →
       ClaimIsAccepted AboveInSums (with_goals goals) budget before (proves_unit unit_steps)
-  shown_by goals named = record { goal = unit_goal; named = named; first = first; shown = record { within = start_within; made = made; makes = makes goals (ProvedBefore (with_goals goals) before); finished = refl; allowed = allowed } }
+  shown_by goals named = record {
+    goal = unit_goal;
+    named = named;
+    first = first;
+    shown = record {
+      within = start_within;
+      made = made;
+      makes = makes goals
+          (ProvedBefore (with_goals goals) before);
+      finished = refl;
+      allowed = allowed;
+    };
+  }
 
   pub shown : ClaimIsAccepted AboveInSums naturals budget before (proves_unit unit_steps)
   shown = shown_by naturals.goals (1, refl, refl)
@@ -180,7 +300,30 @@ again_shown = record {
   shown = record {
     within = start_within;
     made = closed;
-    makes = (record { clause = unit_clause; is = refl; says = inl (record { number = 0; goal = unit_goal; is = refl; named = refl; may_be_used = (unit_goal, refl, inl (refl, tt)) }, inl ((refl, tt), inl (start_within, inl ((tt, (inl (inl refl), tt)), (_, tt, tt, inl ((tt, omega arith), refl)))))) }, tt);
+    makes = (
+      record {
+        clause = unit_clause;
+        is = refl;
+        says = inl (
+          record {
+            number = 0;
+            goal = unit_goal;
+            is = refl;
+            named = refl;
+            may_be_used = (
+              unit_goal,
+              refl,
+              inl (refl, tt),
+            );
+          },
+          inl (
+            (refl, tt),
+            inl (start_within, inl ((tt, (inl (inl refl), tt)), (_, tt, tt, inl ((tt, omega arith), refl)))),
+          ),
+        );
+      },
+      tt,
+    );
     finished = refl;
     allowed = closed_allowed;
   };

@@ -1,5 +1,6 @@
 -- What the test of a block's children and references answers, and what it goes by.
-use Rattle.std.specs.Prelude.{◌≡◌, ◌⊎◌, ◌↔◌, ℕ, suc, ◌^◌, ◌<◌, ◌≤◌, List, Bool, false, IsTrue, length, map, sum, slice_index_or}
+use Rattle.std.specs.Prelude.{◌≡◌, ◌⊎◌, ◌↔◌, ℕ, suc, ◌^◌, ◌<◌, ◌≤◌, List, Bool, false, IsTrue, length, map, sum}
+use Rattle.std.specs.Prelude.{slice_index_or}
 use Rattle.clause_core.specs.declared.clauses.Relation.{Relation}
 use Rattle.clause_core.specs.declared.clauses.Relation.TheVariants.{Less, Same}
 use Rattle.clause_core.specs.declared.answers.Children.{Children}

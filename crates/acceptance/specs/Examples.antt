@@ -10,7 +10,8 @@ use Rattle.clause_core.specs.declared.steps.Step.{Step}
 use Rattle.clause_core.specs.declared.steps.Step.TheVariants.{Trivial, Subsume, ByLemma, Rule, Decompose, Cover}
 use Rattle.clause_core.specs.declared.answers.Why.TheVariants.{NoSuchNode, NotProvedBefore, NotCovering}
 use Rattle.clause_core.specs.declared.reports.ReplayWhy.{ReplayWhy}
-use Rattle.clause_core.specs.declared.reports.ReplayWhy.TheVariants.{UnknownGoal, GoalTwice, Step as of_step, Pending, NotSmaller, Variables, NotFalse}
+use Rattle.clause_core.specs.declared.reports.ReplayWhy.TheVariants.{UnknownGoal, GoalTwice, Step as of_step, Pending}
+use Rattle.clause_core.specs.declared.reports.ReplayWhy.TheVariants.{NotSmaller, Variables, NotFalse}
 use Rattle.clause_core.specs.declared.reports.Claim.{Claim}
 use Rattle.clause_core.specs.declared.reports.Outcome.TheVariants.{Proved, Refuted, Open}
 use Rattle.clause_core.specs.declared.reports.Report.{Report}

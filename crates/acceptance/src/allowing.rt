@@ -3,7 +3,9 @@
 
 ghost use Rattle.std.specs.Prelude.{◌≡◌, ◌↔◌, ◌+◌, ◌<◌, IfOk, IsTrue, length};
 ghost use Rattle.acceptance.specs.Strict.{first_child, Strict, NodeIsAllowed};
-ghost use Rattle.acceptance.specs.AllowedAnswers.{IsWholeBlock, TellsAllowed, TellsStrict, FallsBy, AllowedBy, ChildrenFallBy, ReferencesFallBy, ChildrenAreAllowed, ReferencesAllowedBy};
+ghost use Rattle.acceptance.specs.AllowedAnswers.{IsWholeBlock, TellsAllowed, TellsStrict, FallsBy};
+ghost use Rattle.acceptance.specs.AllowedAnswers.{AllowedBy, ChildrenFallBy, ReferencesFallBy};
+ghost use Rattle.acceptance.specs.AllowedAnswers.{ChildrenAreAllowed, ReferencesAllowedBy};
 
 use crate::answers::Allowed;
 use clause_core::{Children, Relation};

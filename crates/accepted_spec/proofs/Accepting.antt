@@ -10,7 +10,8 @@ use Rattle.spec_order.specs.Orders.{above_of}
 use Rattle.coverage_check.proofs.Namings.{named_missing}
 use Rattle.spec_admit.specs.FirstFault.{Tells as IsFirstFault}
 use Rattle.spec_admit.specs.declared.faults.AdmitFault.{AdmitFault}
-use Rattle.spec_admit.specs.declared.faults.AdmitFault.TheVariants.{Linear, Order, Overlap, Guards, Coverage, OutOfMemory as no_memory}
+use Rattle.spec_admit.specs.declared.faults.AdmitFault.TheVariants.{Linear, Order, Overlap, Guards, Coverage}
+use Rattle.spec_admit.specs.declared.faults.AdmitFault.TheVariants.{OutOfMemory as no_memory}
 use Rattle.accepted_spec.specs.declared.refusals.Refusal.{Refusal}
 use Rattle.accepted_spec.specs.declared.refusals.Refusal.TheVariants.{Line, OutOfMemory}
 use Rattle.accepted_spec.specs.Tellings.{Tells}
@@ -27,7 +28,8 @@ use Rattle.accepted_spec.proofs.SymbolsInRange.{values_in_range, symbol_in_range
 
 -- what is within a bound is within a greater one
 module _ (n m : ℕ) (more : n ≤ m) where
-  guards_within : (guards : List Guard) → AllByRecursion (λ (g : Guard). tree_size g.test ≤ n) guards → AllByRecursion (λ (g : Guard). tree_size g.test ≤ m) guards
+  guards_within : (guards : List Guard) → AllByRecursion (λ (g : Guard). tree_size g.test ≤ n) guards →
+      AllByRecursion (λ (g : Guard). tree_size g.test ≤ m) guards
   guards_within [] all = tt
   guards_within (g ∷ guards) all = (omega (arith, all.0), guards_within guards all.1)
 
@@ -47,11 +49,14 @@ pub fault_printable :
     IsPrintableFault spec.sig fault
 fault_printable spec (Linear rule name) f = tt
 fault_printable spec (Order rule part) f = tt
-fault_printable spec (Overlap first second values) f = let m = f.2.5.match_both in values_in_range spec.sig values m.info.args m.sorted
+fault_printable spec (Overlap first second values) f = let m = f.2.5.match_both in
+    values_in_range spec.sig values m.info.args m.sorted
 fault_printable spec (Guards rule) f = tt
 fault_printable spec (Coverage fun values) f =
-    let missing = named_missing spec.sig f.4.named in
-    (symbol_in_range spec.sig.table fun.0 f.4.info f.4.declared, values_in_range spec.sig values f.4.info.args missing.0.0)
+    let missing = named_missing spec.sig f.4.named in (
+      symbol_in_range spec.sig.table fun.0 f.4.info f.4.declared,
+      values_in_range spec.sig values f.4.info.args missing.0.0,
+    )
 fault_printable spec no_memory f = tt
 
 -- a refusal of a text that stands for nothing
@@ -68,7 +73,8 @@ admit_told bytes spec fault stands first (Line line) t = not_admitted spec fault
 admit_told bytes spec fault stands first OutOfMemory t = tt
 
 -- the specification that admission answers, and the one that it hands back
-module _ (bytes : List ℕ) (raw : RawSpec) (spec : Spec) (derived : TextDerives IsSpecText bytes raw) (stands : StandsFor raw spec) where
+module _ (bytes : List ℕ) (raw : RawSpec) (spec : Spec) (derived : TextDerives IsSpecText bytes raw)
+    (stands : StandsFor raw spec) where
   pub accepted_as : (made : Spec) → made ≡ spec → IsAdmitted (above_of spec) spec → IsAcceptedAs bytes raw made
   accepted_as made same admitted = record {
     derived = derived;

@@ -14,15 +14,19 @@ use Rattle.accepted_spec.specs.declared.refusals.Refusal.TheVariants.{Line, OutO
 use Rattle.accepted_spec.specs.Refusals.{IsFaultLine, IsSortLine, IsRefusalLine, faulty, unsorted}
 use Rattle.accepted_spec.specs.Tellings.{Tells}
 
-module _ {R : Type 0} (subject : Subject) (IsText : R → List Marked → Type 0) (HasFirst : R → ℕ → SortKind → Type 0) (bytes : List ℕ) where
-  pub syntax_told : (fault : SyntaxFault) → TellsFault IsText bytes fault → (r : Refusal) → Tells (IsFaultLine subject fault) r → Tells (IsRefusalLine subject IsText HasFirst bytes) r
+module _ {R : Type 0} (subject : Subject) (IsText : R → List Marked → Type 0) (HasFirst : R → ℕ → SortKind →
+    Type 0) (bytes : List ℕ) where
+  pub syntax_told : (fault : SyntaxFault) → TellsFault IsText bytes fault → (r : Refusal) →
+      Tells (IsFaultLine subject fault) r → Tells (IsRefusalLine subject IsText HasFirst bytes) r
   syntax_told fault h OutOfMemory t = tt
   syntax_told (syntax.Text at) h (Line line) t = faulty (syntax.Text at) h t
   syntax_told (syntax.Syntax at) h (Line line) t = faulty (syntax.Syntax at) h t
   syntax_told (syntax.Limit at what) h (Line line) t = faulty (syntax.Limit at what) h t
   syntax_told syntax.OutOfMemory h (Line line) t = absurd t
 
-  pub sort_told : (raw : R) → TextDerives IsText bytes raw → (fault : SortFault) → ((at : ℕ) (kind : SortKind) → fault ≡ sort.Sort at kind → HasFirst raw at kind) → (r : Refusal) → Tells (IsSortLine subject fault) r → Tells (IsRefusalLine subject IsText HasFirst bytes) r
+  pub sort_told : (raw : R) → TextDerives IsText bytes raw → (fault : SortFault) →
+      ((at : ℕ) (kind : SortKind) → fault ≡ sort.Sort at kind → HasFirst raw at kind) → (r : Refusal) →
+      Tells (IsSortLine subject fault) r → Tells (IsRefusalLine subject IsText HasFirst bytes) r
   sort_told raw d fault h OutOfMemory t = tt
   sort_told raw d (sort.Sort at kind) h (Line line) t = unsorted raw at kind d (h at kind refl) t
   sort_told raw d sort.OutOfMemory h (Line line) t = absurd t

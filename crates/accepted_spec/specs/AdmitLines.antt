@@ -6,7 +6,8 @@ use Rattle.term_core.specs.Tree.{Tree}
 use Rattle.spec_core.specs.Sig.{Sig, names_of}
 use Rattle.spec_core.specs.TermText.{symbol_text, term_text}
 use Rattle.spec_admit.specs.declared.faults.AdmitFault.{AdmitFault}
-use Rattle.spec_admit.specs.declared.faults.AdmitFault.TheVariants.{Linear, Order, Overlap, Guards, Coverage, OutOfMemory}
+use Rattle.spec_admit.specs.declared.faults.AdmitFault.TheVariants.{Linear, Order, Overlap, Guards, Coverage}
+use Rattle.spec_admit.specs.declared.faults.AdmitFault.TheVariants.{OutOfMemory}
 
 -- a value after `, `
 abbrev pub other_text : Sig → Tree → List ℕ

@@ -17,8 +17,8 @@ struct Link {
     before: u32,
 }
 
-/// Entries found by their hashes: a bucket leads to its last entry, and each entry to the one before
-/// it in its bucket. Contracts see the hashes of the entries, in their order.
+/// Entries found by their hashes: a bucket leads to its last entry, and each entry to the one
+/// before it in its bucket. Contracts see the hashes of the entries, in their order.
 #[derive(Drop)]
 pub struct Links {
     alloc: Global,

@@ -19,15 +19,27 @@ abbrev pub alone : Frame → State
 alone f = record { top = f; waiting = [] }
 
 -- a move of the top frame alone keeps what its code gives, less the cost of the move
-pub does_right : (spec : Spec) (top next : Frame) (c : ℕ) → IsWellSorted spec → Moves spec (alone top) c (alone next) → (w : Tree) (n : ℕ) → Does spec next.env next.steps next.end w n → Does spec top.env top.steps top.end w (c + n)
+pub does_right : (spec : Spec) (top next : Frame) (c : ℕ) → IsWellSorted spec →
+    Moves spec (alone top) c (alone next) → (w : Tree) (n : ℕ) → Does spec next.env next.steps next.end w n →
+    Does spec top.env top.steps top.end w (c + n)
 does_right spec top next c fine m w n d =
-    let g : StateGives spec (alone top) w (c + n) = move_right spec (alone top) (alone next) c w n fine m (w, n, 0, d, (refl, refl), omega arith) in
+    let g : StateGives spec (alone top) w (c + n) = move_right spec (alone top) (alone next) c w n fine m (
+      w,
+      n,
+      0,
+      d,
+      (refl, refl),
+      omega arith,
+    ) in
     let k : g.1 ≡ c + n = omega (arith, g.4.1, g.5) in
-    subst (λ x. Does spec top.env top.steps top.end w x) k (subst (λ u. Does spec top.env top.steps top.end u g.1) (sym g.4.0) g.3)
+    subst (λ x. Does spec top.env top.steps top.end w x) k
+    (subst (λ u. Does spec top.env top.steps top.end u g.1) (sym g.4.0) g.3)
 
 module _ (spec : Spec) (code : List Instruction) where
   -- the top frame is another one, and more of the budget is spent
-  pub owes_on : (top next : Frame) (c from to : ℕ) (hs : List Held) (fs : List Frame) → to + c ≡ from → ((w : Tree) (n : ℕ) → Does spec next.env next.steps next.end w n → Does spec top.env top.steps top.end w (c + n)) → Owes spec code top from hs fs → Owes spec code next to hs fs
+  pub owes_on : (top next : Frame) (c from to : ℕ) (hs : List Held) (fs : List Frame) → to + c ≡ from →
+      ((w : Tree) (n : ℕ) → Does spec next.env next.steps next.end w n →
+      Does spec top.env top.steps top.end w (c + n)) → Owes spec code top from hs fs → Owes spec code next to hs fs
   owes_on top next c from to [] fs e on o = tt
   owes_on top next c from to (h ∷ hs) [] e on o = tt
   owes_on top next c from to (h ∷ hs) (f ∷ fs) e on (g, ss, one, rest) =
@@ -42,7 +54,12 @@ module _ (spec : Spec) (code : List Instruction) where
       (g, ss, here, rest)
 
   -- a call is entered, and its frame waits
-  pub owes_entered : (fine : IsWellSorted spec) (env : List Tree) (f : ℕ) (ss : List ℕ) (rest : List Step) (end : End) (entered : Frame) → Enters spec f (slots env ss) entered → (base place left : ℕ) (hs : List Held) (fs : List Frame) → slice_get code place ≡ Some (does (call f ss)) → AreThere (length env) ss → 0 < left → Owes spec code (frame env (call f ss ∷ rest) end) left hs fs → Owes spec code entered (left - 1) (held base (place + 1) left ∷ hs) (frame env rest end ∷ fs)
+  pub owes_entered : (fine : IsWellSorted spec) (env : List Tree) (f : ℕ) (ss : List ℕ) (rest : List Step)
+      (end : End) (entered : Frame) → Enters spec f (slots env ss) entered →
+      (base place left : ℕ) (hs : List Held) (fs : List Frame) →
+      slice_get code place ≡ Some (does (call f ss)) → AreThere (length env) ss → 0 < left →
+      Owes spec code (frame env (call f ss ∷ rest) end) left hs fs →
+      Owes spec code entered (left - 1) (held base (place + 1) left ∷ hs) (frame env rest end ∷ fs)
   owes_entered fine env f ss rest end entered enters base place left hs fs there range funds o =
       let here : IsOwed spec code entered (left - 1) (held base (place + 1) left) (frame env rest end) f ss = record {
         place = place;
@@ -52,12 +69,14 @@ module _ (spec : Spec) (code : List Instruction) where
         paid = omega arith;
         gives = λ w n m d q.
             let k : 1 + n ≡ m = omega (arith, q, funds) in
-            subst (λ x. Gives spec (app f (slots env ss)) w x) k (entered_right spec fine f (slots env ss) entered enters w n d);
+            subst (λ x. Gives spec (app f (slots env ss)) w x) k
+            (entered_right spec fine f (slots env ss) entered enters w n d);
       } in
       (f, ss, here, o)
 
   -- a value is given to the frame that waits for it
-  module _ (top : Frame) (left : ℕ) (h : Held) (hs : List Held) (back : Frame) (fs : List Frame) (o : Owes spec code top left (h ∷ hs) (back ∷ fs)) (v : Tree) (d : Does spec top.env top.steps top.end v 0) where
+  module _ (top : Frame) (left : ℕ) (h : Held) (hs : List Held) (back : Frame) (fs : List Frame)
+      (o : Owes spec code top left (h ∷ hs) (back ∷ fs)) (v : Tree) (d : Does spec top.env top.steps top.end v 0) where
     abbrev pub function : ℕ
     function = o.0
 
@@ -72,5 +91,7 @@ module _ (spec : Spec) (code : List Instruction) where
 
     pub owes_returned : Owes spec code (frame (back.env ++ v ∷ []) back.steps back.end) left hs fs
     owes_returned =
-        owes_on (frame back.env (call o.0 o.1 ∷ back.steps) back.end) (frame (back.env ++ v ∷ []) back.steps back.end) (h.left - left) h.left left hs fs (omega (arith, owed.paid))
+        owes_on (frame back.env (call o.0 o.1 ∷ back.steps) back.end)
+        (frame (back.env ++ v ∷ []) back.steps back.end) (h.left - left) h.left left hs fs
+        (omega (arith, owed.paid))
         (λ w n more. (v, h.left - left, n, call_gives, more, refl)) o.3

@@ -1,5 +1,6 @@
 -- A run begins with the code of a term, and what it comes to is what the term gives.
-use Rattle.std.proofs.Common.{◌≡◌, ℕ, zero, suc, ◌<◌, List, [], ◌∷◌, Some, None, refl, ap, sym, ◌∙◌, subst, arith, map, length}
+use Rattle.std.proofs.Common.{◌≡◌, ℕ, zero, suc, ◌<◌, List, [], ◌∷◌, Some, None, refl, ap, sym, ◌∙◌, subst, arith, map}
+use Rattle.std.proofs.Common.{length}
 use Rattle.std.specs.Prelude.{slice_get}
 use Rattle.std.proofs.lemmas.List.{length-map}
 use Rattle.std.proofs.lemmas.Option.{slice_get_within}
@@ -29,7 +30,8 @@ use Rattle.bank_machine.proofs.Ranging.{body_ranged}
 use Rattle.bank_machine.proofs.Running.{run_gives, run_whole}
 
 -- the place of a value is within
-pub id_within : (cells : List Cell) (ids : List ValueId) (values : List Tree) → StandAt cells ids values → (i : ℕ) (id : ValueId) → slice_get ids i ≡ Some id → id.0 < length cells
+pub id_within : (cells : List Cell) (ids : List ValueId) (values : List Tree) → StandAt cells ids values →
+    (i : ℕ) (id : ValueId) → slice_get ids i ≡ Some id → id.0 < length cells
 id_within cells [] values h i id e = absurd (let q : None ≡ Some id = e in cc)
 id_within cells (x ∷ ids) [] h i id e = absurd h
 id_within cells (x ∷ ids) (v ∷ values) h zero id e =
@@ -38,18 +40,29 @@ id_within cells (x ∷ ids) (v ∷ values) h zero id e =
     subst (λ (z : ValueId). z.0 < length cells) is (term_within cells x.0 v h.0)
 id_within cells (x ∷ ids) (v ∷ values) h (suc i) id e = id_within cells ids values h.1 i id e
 
-module _ (p : Program) (fine : IsWellSorted p.spec) (cells : List Cell) (side : ℕ) (ids : List ValueId) (term : Tree) (values : List Tree) (sort : SortId) (c : CanRun p cells side ids term values sort) where
+module _ (p : Program) (fine : IsWellSorted p.spec) (cells : List Cell) (side : ℕ) (ids : List ValueId)
+    (term : Tree) (values : List Tree) (sort : SortId) (c : CanRun p cells side ids term values sort) where
   as_many : length values ≡ length ids
   as_many = terms_count cells (map (λ (id : ValueId). id.0) ids) values c.stand ∙ length-map ids _
 
   number_within : (n s : ℕ) → slice_get (first_numbers (length ids)) n ≡ Some s → s < length values
-  number_within n s at = omega (arith, first_number_at (length ids) n s at, slice_get_within (first_numbers (length ids)) n s at, first_numbers_count (length ids), as_many)
+  number_within n s at = omega (
+    arith,
+    first_number_at (length ids) n s at,
+    slice_get_within (first_numbers (length ids)) n s at,
+    first_numbers_count (length ids),
+    as_many,
+  )
 
   holds : Holds p.spec.sig (first_numbers (length ids)) values values
   holds n s at =
       let e : s ≡ n = first_number_at (length ids) n s at in
-      let lt = number_within n s at in
-      (lt, ap (λ z. instance values (var z)) (sym e), all_at (λ (v : Tree). IsBuilt p.spec.sig v) values c.built s (instance values (var s)) (some_slot values s lt))
+      let lt = number_within n s at in (
+        lt,
+        ap (λ z. instance values (var z)) (sym e),
+        all_at (λ (v : Tree). IsBuilt p.spec.sig v) values c.built s (instance values (var s))
+            (some_slot values s lt),
+      )
 
   body : IsBody p.spec.sig (first_numbers (length ids)) term (length values) c.code.0 c.code.1
   body = subst (λ n. IsBody p.spec.sig (first_numbers (length ids)) term n c.code.0 c.code.1) (sym as_many) c.code.3
@@ -57,17 +70,39 @@ module _ (p : Program) (fine : IsWellSorted p.spec) (cells : List Cell) (side : 
   abbrev pub start : State
   start = state values c.code.0 c.code.1 []
 
-  pub starts : (places : List ℕ) → places ≡ map (λ (id : ValueId). id.0) ids → Works p cells (stack places 0 side []) (state values c.code.0 c.code.1 []) sort
+  pub starts : (places : List ℕ) → places ≡ map (λ (id : ValueId). id.0) ids →
+      Works p cells (stack places 0 side []) (state values c.code.0 c.code.1 []) sort
   starts places e =
-      let there : AreThere (length values) (first_numbers (length ids)) = all_of (λ (s : ℕ). s < length values) (first_numbers (length ids)) number_within in
+      let there : AreThere (length values) (first_numbers (length ids)) = all_of (λ (s : ℕ). s < length values)
+      (first_numbers (length ids)) number_within in
       record {
-        at = record { within = omega arith; slots = subst (λ ps. AreTerms cells ps (trees_of values)) (sym e) c.stand; code = c.code.2; waits = refl };
-        sound = start_sound p.spec (first_numbers (length ids)) values values term c.code.0 c.code.1 sort fine body holds c.sorted;
-        ranged = record { top = body_ranged p.spec.rules p.spec.sig (first_numbers (length ids)) term (length values) c.code.0 c.code.1 there body; waiting = tt };
+        at = record {
+          within = omega arith;
+          slots = subst (λ ps. AreTerms cells ps (trees_of values)) (sym e)
+              c.stand;
+          code = c.code.2;
+          waits = refl;
+        };
+        sound = start_sound p.spec (first_numbers (length ids)) values values term c.code.0 c.code.1 sort fine
+            body holds c.sorted;
+        ranged = record {
+          top = body_ranged p.spec.rules p.spec.sig (first_numbers (length ids)) term
+              (length values) c.code.0 c.code.1 there body;
+          waiting = tt;
+        };
       }
 
-  pub evaluated : (new : List Cell) (budget : ℕ) (found : BankEval) → Ran p.spec new (state values c.code.0 c.code.1 []) budget found → IsBankEval p.spec new (instance values term) budget found
-  evaluated new budget (Value id n) (env, i, runs, at, le) = (instance env (var i), at, run_gives p.spec (first_numbers (length ids)) values values env term c.code.0 c.code.1 i n fine body holds runs, le)
+  pub evaluated : (new : List Cell) (budget : ℕ) (found : BankEval) →
+      Ran p.spec new (state values c.code.0 c.code.1 []) budget found →
+      IsBankEval p.spec new (instance values term) budget found
+  evaluated new budget (Value id n) (env, i, runs, at, le) = (
+    instance env (var i),
+    at,
+    run_gives p.spec (first_numbers (length ids)) values values env term c.code.0 c.code.1 i n fine body holds
+        runs,
+    le,
+  )
   evaluated new budget Spent (now, cost, left, runs, paid, stuck) = λ apart whole v n g le.
-      let r = run_whole p.spec (first_numbers (length ids)) values values term c.code.0 c.code.1 now cost v n fine apart whole body holds runs g in
+      let r = run_whole p.spec (first_numbers (length ids)) values values term c.code.0 c.code.1 now cost v n
+      fine apart whole body holds runs g in
       stuck apart whole v r.0 r.1 (omega (arith, le, paid, r.2))

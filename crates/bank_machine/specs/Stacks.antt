@@ -1,5 +1,6 @@
 -- States as a stack of places and a list of waiting frames.
-use Rattle.std.specs.Prelude.{◌≡◌, ℕ, ◌+◌, ◌≤◌, List, [], ◌∷◌, ◌++◌, Option, Some, None, take, drop, length, slice_index, reverse}
+use Rattle.std.specs.Prelude.{◌≡◌, ℕ, ◌+◌, ◌≤◌, List, [], ◌∷◌, ◌++◌, Option, Some, None, take, drop, length}
+use Rattle.std.specs.Prelude.{slice_index, reverse}
 use Rattle.term_core.specs.Tree.{trees_of}
 use Rattle.value_bank.specs.Cells.{Cell, AreTerms}
 use Rattle.rule_code.specs.Instructions.{Instruction, IsCodeAt}

@@ -3,7 +3,8 @@
 ghost use Rattle.std.specs.Prelude.{◌≡◌, ◌↔◌, List, None, IfOk, OnOk, OnErr, IfSome, IsTrue};
 ghost use Rattle.spec_core.specs.declared.records.Spec.{Spec};
 ghost use Rattle.value_bank.specs.Cells.{Cell};
-ghost use Rattle.bank_machine.specs.KeptCalls.{Says, SaysNoMore, SaysAlso, IsKept, HaveNoValues, AreRight};
+ghost use Rattle.bank_machine.specs.KeptCalls.{Says, SaysNoMore, SaysAlso, IsKept, HaveNoValues};
+ghost use Rattle.bank_machine.specs.KeptCalls.{AreRight};
 
 use std::alloc::Global;
 use term_core::OutOfMemory;

@@ -1,4 +1,6 @@
-ghost use Rattle.bank_machine.specs.Laws.{MovesAreRight, MovesAreWhole, AtItsEnd, CallsCost, NoMatchGivesNothing, NoneGoesOnGivesNothing, RunGives, RunIsWhole};
+ghost use Rattle.bank_machine.specs.Laws.{MovesAreRight, MovesAreWhole, AtItsEnd, CallsCost};
+ghost use Rattle.bank_machine.specs.Laws.{NoMatchGivesNothing, NoneGoesOnGivesNothing, RunGives};
+ghost use Rattle.bank_machine.specs.Laws.{RunIsWhole};
 ghost use Rattle.bank_machine.specs.SoundLaws.{StartIsSound, MovesKeepSound, SoundIsReady};
 
 /// What the next state gives at some cost, the state gives at that cost and the cost of the move.

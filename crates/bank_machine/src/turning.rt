@@ -1,9 +1,11 @@
 //! One move of the machine.
 
-ghost use Rattle.std.specs.Prelude.{ℕ, suc, List, ◌≡◌, ◌<◌, ◌≤◌, ◌+◌, ◌^◌, Some, IfOk, length, slice_get};
+ghost use Rattle.std.specs.Prelude.{ℕ, suc, List, ◌≡◌, ◌<◌, ◌≤◌, ◌+◌, ◌^◌, Some, IfOk, length};
+ghost use Rattle.std.specs.Prelude.{slice_get};
 ghost use Rattle.spec_core.specs.WellSorted.{IsWellSorted};
 ghost use Rattle.value_bank.specs.Cells.{AddsCells};
-ghost use Rattle.rule_code.specs.Code.{build as build_step, call as call_step, slot as slot_end, last as last_end, decide as decide_end};
+ghost use Rattle.rule_code.specs.Code.{build as build_step, call as call_step, slot as slot_end};
+ghost use Rattle.rule_code.specs.Code.{last as last_end, decide as decide_end};
 ghost use Rattle.rule_code.specs.Instructions.{does, ends};
 ghost use Rattle.bank_machine.specs.KeptCalls.{AreRight};
 ghost use Rattle.bank_machine.specs.Stacks.{shown};

@@ -1,13 +1,15 @@
 -- What is allowed in a block depends on the links of its nodes alone, and not on the clauses of
 -- children.
-use Rattle.std.proofs.Common.{◌≡◌, ℕ, zero, suc, ◌+◌, List, [], ◌∷◌, Some, None, inl, inr, refl, sym, ◌∙◌, ap, subst, arith, length, map, take}
+use Rattle.std.proofs.Common.{◌≡◌, ℕ, zero, suc, ◌+◌, List, [], ◌∷◌, Some, None, inl, inr, refl, sym, ◌∙◌, ap, subst}
+use Rattle.std.proofs.Common.{arith, length, map, take}
 use Rattle.std.specs.Prelude.{slice_get, sum}
 use Rattle.std.proofs.lemmas.List.{length-map}
 use Rattle.clause_core.specs.declared.clauses.Relation.{Relation}
 use Rattle.clause_core.specs.declared.clauses.Relation.TheVariants.{Same}
 use Rattle.clause_core.specs.declared.answers.Child.{Child}
 use Rattle.clause_core.specs.declared.answers.Children.{Children}
-use Rattle.acceptance.specs.Strict.{first_child, HasChild, RefersTo, LeadsTo, Strict, strict, ReferenceIsAllowed, NodeIsAllowed}
+use Rattle.acceptance.specs.Strict.{first_child, HasChild, RefersTo, LeadsTo, Strict, strict, ReferenceIsAllowed}
+use Rattle.acceptance.specs.Strict.{NodeIsAllowed}
 use Rattle.acceptance.specs.AllowedAnswers.{IsWholeBlock}
 use Rattle.block_links.specs.Links.{links_of, without_sides}
 

@@ -1,5 +1,6 @@
 -- The steps of a block that are taken one after the other, each of which is defined.
-use Rattle.std.proofs.Common.{◌≡◌, ℕ, zero, suc, ◌+◌, ◌<◌, List, [], ◌∷◌, ◌++◌, Option, Some, None, Ok, Err, refl, sym, ◌∙◌}
+use Rattle.std.proofs.Common.{◌≡◌, ℕ, zero, suc, ◌+◌, ◌<◌, List, [], ◌∷◌, ◌++◌, Option, Some, None, Ok, Err, refl, sym}
+use Rattle.std.proofs.Common.{◌∙◌}
 use Rattle.std.proofs.Common.{ap, subst, arith, length, map, take, get_or}
 use Rattle.std.specs.Prelude.{◌≤◌, flat_map, option_map, slice_get}
 use Rattle.std.proofs.lemmas.Grind.{flat_map-append}

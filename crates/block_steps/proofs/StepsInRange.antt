@@ -15,7 +15,9 @@ use Rattle.clause_core.specs.declared.clauses.Clause.{Clause}
 use Rattle.clause_core.specs.declared.reports.Outcome.TheVariants.{Proved}
 use Rattle.clause_core.specs.declared.steps.Block.{Block}
 use Rattle.clause_core.specs.declared.steps.Step.{Step}
-use Rattle.clause_core.specs.declared.steps.Step.TheVariants.{Trivial, Match, Absurd, Subsume, ByLemma, Rule, Case, Decompose, Clash, Drop, Solve, Cover, Generalize, Context, Hyp, Lemma}
+use Rattle.clause_core.specs.declared.steps.Step.TheVariants.{Trivial, Match, Absurd, Subsume, ByLemma, Rule, Case}
+use Rattle.clause_core.specs.declared.steps.Step.TheVariants.{Decompose, Clash, Drop, Solve, Cover, Generalize}
+use Rattle.clause_core.specs.declared.steps.Step.TheVariants.{Context, Hyp, Lemma}
 use Rattle.clause_core.specs.Generalizing.{IsGeneral}
 use Rattle.clause_core.specs.Patterns.{IsPatternOf}
 use Rattle.clause_core.specs.Says.{Says}

@@ -1,5 +1,6 @@
 -- Steps that are taken one after the other.
-use Rattle.std.proofs.Common.{◌≡◌, ℕ, zero, suc, ◌+◌, ◌≤◌, ◌<◌, List, [], ◌∷◌, ◌++◌, Some, inl, inr, sym, ◌∙◌, ap, subst, arith, length, length-append, get_or}
+use Rattle.std.proofs.Common.{◌≡◌, ℕ, zero, suc, ◌+◌, ◌≤◌, ◌<◌, List, [], ◌∷◌, ◌++◌, Some, inl, inr, sym, ◌∙◌, ap}
+use Rattle.std.proofs.Common.{subst, arith, length, length-append, get_or}
 use Rattle.std.specs.Prelude.{Result, Ok, Err, flat_map, slice_get}
 use Rattle.std.proofs.lemmas.Grind.{flat_map-append}
 use Rattle.std.proofs.lemmas.List.{append-nil, length-map}

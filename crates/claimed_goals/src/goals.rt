@@ -1,6 +1,7 @@
 //! `ClaimedGoals`: the goals that the claims so far are on.
 
-ghost use Rattle.std.specs.Prelude.{◌≡◌, ◌<◌, ◌^◌, ◌++◌, ℕ, List, [], ◌∷◌, Some, false, IfOk, OnOk, IsTrue, length, slice_get, slice_index_or};
+ghost use Rattle.std.specs.Prelude.{◌≡◌, ◌<◌, ◌^◌, ◌++◌, ℕ, List, [], ◌∷◌, Some, false, IfOk, OnOk};
+ghost use Rattle.std.specs.Prelude.{IsTrue, length, slice_get, slice_index_or};
 ghost use Rattle.clause_core.specs.declared.reports.Claim.{Claim as ClaimOf};
 ghost use Rattle.spec_core.specs.declared.records.Spec.{Spec as SpecOf};
 ghost use Rattle.spec_core.specs.WellSorted.{IsWellSorted};

@@ -1,5 +1,6 @@
 -- Equations among the ones from a place on.
-use Rattle.std.proofs.Common.{◌≡◌, ℕ, zero, suc, ◌+◌, ◌<◌, ◌≤◌, List, [], ◌∷◌, inl, inr, length, drop, get_or, add-one, sym, subst, arith}
+use Rattle.std.proofs.Common.{◌≡◌, ℕ, zero, suc, ◌+◌, ◌<◌, ◌≤◌, List, [], ◌∷◌, inl, inr, length, drop, get_or, add-one}
+use Rattle.std.proofs.Common.{sym, subst, arith}
 use Rattle.spec_core.specs.declared.records.Equation.{Equation}
 use Rattle.clause_core.specs.Equations.{IsEither, Among}
 
@@ -11,13 +12,15 @@ among_rest e (d ∷ es) zero h = h
 among_rest e (d ∷ es) (suc i) h = inr (among_rest e es i h)
 
 -- the equation at a place is among them
-pub among_here : (e : Equation) (es : List Equation) (i : ℕ) (d : Equation) → i < length es → d ≡ get_or es i d → IsEither e d → Among e es
+pub among_here : (e : Equation) (es : List Equation) (i : ℕ) (d : Equation) → i < length es →
+    d ≡ get_or es i d → IsEither e d → Among e es
 among_here e [] i d lt is h = absurd (omega arith)
 among_here e (x ∷ es) zero d lt is h = inl (subst (IsEither e) is h)
 among_here e (x ∷ es) (suc i) d lt is h = inr (among_here e es i d (omega arith) is h)
 
 -- what is among the equations from a place on and isn't the one there is among the ones after it
-pub among_later : (e : Equation) (es : List Equation) (i : ℕ) (d : Equation) → i < length es → d ≡ get_or es i d → (IsEither e d → ⊥) → Among e (drop i es) → Among e (drop (i + 1) es)
+pub among_later : (e : Equation) (es : List Equation) (i : ℕ) (d : Equation) → i < length es →
+    d ≡ get_or es i d → (IsEither e d → ⊥) → Among e (drop i es) → Among e (drop (i + 1) es)
 among_later e [] i d lt is h a = absurd (omega arith)
 among_later e (x ∷ es) zero d lt is h (inl a) = absurd (h (subst (IsEither e) (sym is) a))
 among_later e (x ∷ es) zero d lt is h (inr a) = a

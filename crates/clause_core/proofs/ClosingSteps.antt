@@ -47,13 +47,51 @@ examples = record {
   no_second = inr (λ at. omega (arith, at.place, number_in_range _ 2 at), refl);
   matches = inl ((first _ [], first _ []), inl (inr refl, (_, tt, tt, inl ((tt, omega arith), refl))));
   not_matching = inl ((first _ [], first _ []), inr (no_match, refl));
-  absurd_heads = inl (first _ [], inl ((omega arith, omega arith, λ e. omega (arith, e)), (_, tt, tt, inl ((tt, omega arith), refl))));
-  absurd_part = inl (first _ [], inl ((omega arith, inl (omega arith, inl refl)), (_, tt, tt, inl ((tt, omega arith), refl))));
+  absurd_heads = inl (
+    first _ [],
+    inl (
+      (omega arith, omega arith, λ e. omega (arith, e)),
+      (_, tt, tt, inl ((tt, omega arith), refl)),
+    ),
+  );
+  absurd_part = inl (
+    first _ [],
+    inl ((omega arith, inl (omega arith, inl refl)), (_, tt, tt, inl ((tt, omega arith), refl))),
+  );
   below_a_function = inl (first _ [], inr (λ h. omega (arith, h.0), refl));
   equal_heads = inl (first _ [], inr (λ h. h.2 refl, refl));
-  without_premise = inl (record { clause = unit_where_zero; is = refl }, inl ((refl, tt), inl (where_zero_within, inr (λ h. no_premise h.0.0, refl))));
-  with_premise = inl (record { clause = unit_where_zero; is = refl }, inl ((refl, tt), inl (where_zero_within, inl (((inl (inl (inr refl)), tt), (inl (inl refl), tt)), (_, tt, ((refl, record { moves = (0, 1) ∷ []; below = (omega arith, omega arith, tt); is = refl }), tt), inl ((tt, omega arith), refl))))));
+  without_premise = inl (
+    record { clause = unit_where_zero; is = refl },
+    inl ((refl, tt), inl (where_zero_within, inr (λ h. no_premise h.0.0, refl))),
+  );
+  with_premise = inl (
+    record { clause = unit_where_zero; is = refl },
+    inl (
+      (refl, tt),
+      inl (
+        where_zero_within,
+        inl (
+          ((inl (inl (inr refl)), tt), (inl (inl refl), tt)),
+          (
+            _,
+            tt,
+            ((refl, record { moves = (0, 1) ∷ []; below = (omega arith, omega arith, tt); is = refl }), tt),
+            inl ((tt, omega arith), refl),
+          ),
+        ),
+      ),
+    ),
+  );
   no_terms = inl (record { clause = unit_where_zero; is = refl }, inr (λ h. h, refl));
-  by_goal = inl (unit_usable, inl (((_, refl, refl, (refl, tt)), tt), inl (record { equations = omega arith; depth = omega arith; size = omega arith }, inl ((tt, (inl (inl refl), tt)), (_, tt, tt, inl ((tt, omega arith), refl))))));
+  by_goal = inl (
+    unit_usable,
+    inl (
+      ((_, refl, refl, (refl, tt)), tt),
+      inl (
+        record { equations = omega arith; depth = omega arith; size = omega arith },
+        inl ((tt, (inl (inl refl), tt)), (_, tt, tt, inl ((tt, omega arith), refl))),
+      ),
+    ),
+  );
   by_other_goal = inr (not_usable, refl);
 }

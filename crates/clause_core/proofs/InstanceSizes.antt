@@ -1,5 +1,6 @@
 -- Sizes and depths of instances: of one term more, and of an application.
-use Rattle.std.proofs.Common.{◌≡◌, ℕ, ◌+◌, ◌<◌, List, [], ◌∷◌, ◌++◌, Option, max, map, length, take, get_or, ap, sym, ◌∙◌, arith}
+use Rattle.std.proofs.Common.{◌≡◌, ℕ, ◌+◌, ◌<◌, List, [], ◌∷◌, ◌++◌, Option, max, map, length, take, get_or, ap, sym}
+use Rattle.std.proofs.Common.{◌∙◌, arith}
 use Rattle.std.proofs.lemmas.List.{map-append, length-map, get_or-map, take_all}
 use Rattle.term_core.specs.Tree.{Tree, app, trees_of, tree_size, sizes, tree_depth, depths}
 use Rattle.term_core.proofs.Items.{taken_next}
@@ -16,15 +17,19 @@ mapped_next f xs i x lt is = ap (λ ys. map f ys) (taken_next xs i x lt is) ∙ 
 
 pub instance_sizes_next :
     (entries : List (Option Tree)) (ts : List Tree) (i : ℕ) (t : Tree) → i < length ts → t ≡ get_or ts i t →
-    sizes (trees_of (map (apply entries) (take (i + 1) ts))) ≡ sizes (trees_of (map (apply entries) (take i ts))) + tree_size (apply entries t)
+    sizes (trees_of (map (apply entries) (take (i + 1) ts))) ≡ sizes
+    (trees_of (map (apply entries) (take i ts))) + tree_size (apply entries t)
 instance_sizes_next entries ts i t lt is =
-    ap (λ us. sizes (trees_of us)) (mapped_next (apply entries) ts i t lt is) ∙ sizes-append (map (apply entries) (take i ts)) (apply entries t)
+    ap (λ us. sizes (trees_of us)) (mapped_next (apply entries) ts i t lt is)
+    ∙ sizes-append (map (apply entries) (take i ts)) (apply entries t)
 
 pub instance_depths_next :
     (entries : List (Option Tree)) (ts : List Tree) (i : ℕ) (t : Tree) → i < length ts → t ≡ get_or ts i t →
-    depths (trees_of (map (apply entries) (take (i + 1) ts))) ≡ max (depths (trees_of (map (apply entries) (take i ts)))) (tree_depth (apply entries t))
+    depths (trees_of (map (apply entries) (take (i + 1) ts))) ≡ max
+    (depths (trees_of (map (apply entries) (take i ts)))) (tree_depth (apply entries t))
 instance_depths_next entries ts i t lt is =
-    ap (λ us. depths (trees_of us)) (mapped_next (apply entries) ts i t lt is) ∙ depths-append (map (apply entries) (take i ts)) (apply entries t)
+    ap (λ us. depths (trees_of us)) (mapped_next (apply entries) ts i t lt is)
+    ∙ depths-append (map (apply entries) (take i ts)) (apply entries t)
 
 -- the instance of an application, by the instances of its arguments
 pub size_of_instance :
@@ -42,12 +47,16 @@ pub instance_at :
     (entries : List (Option Tree)) (es : List Equation) (i : ℕ) (e : Equation) → i < length es → e ≡ get_or es i e →
     equation_instance entries e ≡ get_or (map (equation_instance entries) es) i (equation_instance entries e)
 instance_at entries es i e lt is =
-    ap (equation_instance entries) is ∙ sym (get_or-map (equation_instance entries) es i e (equation_instance entries e) lt)
+    ap (equation_instance entries) is
+    ∙ sym (get_or-map (equation_instance entries) es i e (equation_instance entries e) lt)
 
 pub instance_below :
-    (entries : List (Option Tree)) (es : List Equation) (i : ℕ) → i < length es → i < length (map (equation_instance entries) es)
+    (entries : List (Option Tree)) (es : List Equation) (i : ℕ) → i < length es →
+    i < length (map (equation_instance entries) es)
 instance_below entries es i lt = omega (arith, length-map es (equation_instance entries))
 
 pub all_instances :
-    (entries : List (Option Tree)) (es : List Equation) → take (length es) (map (equation_instance entries) es) ≡ map (equation_instance entries) es
-all_instances entries es = take_all (length es) (map (equation_instance entries) es) (omega (arith, length-map es (equation_instance entries)))
+    (entries : List (Option Tree)) (es : List Equation) →
+    take (length es) (map (equation_instance entries) es) ≡ map (equation_instance entries) es
+all_instances entries es = take_all (length es) (map (equation_instance entries) es)
+    (omega (arith, length-map es (equation_instance entries)))

@@ -34,10 +34,28 @@ emptied = record { clauses = less (record { ctx = []; premises = []; conclusions
 
 pub examples : LimitExamples
 examples = record {
-  instance_past = inl (record { clause = zero_sum; is = refl }, inl ((number_is_sorted (nat ∷ []) 100, tt), inr (λ w. (let d : 102 ≤ 100 = w.depth in omega (arith, d)), refl)));
+  instance_past = inl (
+    record { clause = zero_sum; is = refl },
+    inl ((number_is_sorted (nat ∷ []) 100, tt), inr (λ w. (let d : 102 ≤ 100 = w.depth in omega (arith, d)), refl)),
+  );
   terms_first = inl (record { clause = zero_sum; is = refl }, inr (λ h. h.1, refl));
-  child_past = inl (first _ [], inl (record { variable = 0; term = number 99; solves = (refl, refl); pattern = number_is_pattern 99; absent = number_is_ground 0 99 }, (past, ((refl, refl), tt), tt, inr (λ w. (let d : 101 ≤ 100 = w.0.0.depth in omega (arith, d)), refl))));
+  child_past = inl (
+    first _ [],
+    inl (
+      record {
+        variable = 0;
+        term = number 99;
+        solves = (refl, refl);
+        pattern = number_is_pattern 99;
+        absent = number_is_ground 0 99;
+      },
+      (past, ((refl, refl), tt), tt, inr (λ w. (let d : 101 ≤ 100 = w.0.0.depth in omega (arith, d)), refl)),
+    ),
+  );
   closes = λ nodes full. inl (first _ [], inl (refl, (_, tt, tt, inl ((tt, omega (arith, full)), refl))));
-  no_child = λ nodes full. inl (first _ [], (emptied, ((refl, refl), tt), tt, inr (λ w. omega (arith, full, w.1), refl)));
+  no_child = λ nodes full. inl (
+    first _ [],
+    (emptied, ((refl, refl), tt), tt, inr (λ w. omega (arith, full, w.1), refl)),
+  );
   fit_first = λ nodes full. inl (first _ [], inr (λ h. h, refl));
 }

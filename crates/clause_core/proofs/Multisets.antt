@@ -1,8 +1,12 @@
 -- Lists as multisets, by how often a member is in them.
-use Rattle.std.proofs.Common.{◌≡◌, ◌≢◌, ◌⊎◌, ℕ, zero, suc, ◌+◌, ◌≤◌, List, [], ◌∷◌, ◌++◌, length, subst, sym, refl, ◌∙◌, append_assoc, arith, inl, inr}
+use Rattle.std.proofs.Common.{◌≡◌, ◌≢◌, ◌⊎◌, ℕ, zero, suc, ◌+◌, ◌≤◌, List, [], ◌∷◌, ◌++◌, length, subst, sym, refl}
+use Rattle.std.proofs.Common.{◌∙◌, append_assoc, arith, inl, inr}
 use Rattle.std.specs.Prelude.{IsPermutation, Contains, sum_by}
 use Rattle.std.proofs.lemmas.List.{append-nil}
-use Rattle.std.proofs.lemmas.List.Sorted.{sum_by-IsPermutation, IsPermutation-refl, IsPermutation-sym, IsPermutation-trans, IsPermutation-cons, IsPermutation-middle, IsPermutation-append_left, IsPermutation-append_right, IsPermutation-append_comm, Contains-permutation}
+use Rattle.std.proofs.lemmas.List.Sorted.{sum_by-IsPermutation, IsPermutation-refl, IsPermutation-sym}
+use Rattle.std.proofs.lemmas.List.Sorted.{IsPermutation-trans, IsPermutation-cons, IsPermutation-middle}
+use Rattle.std.proofs.lemmas.List.Sorted.{IsPermutation-append_left, IsPermutation-append_right}
+use Rattle.std.proofs.lemmas.List.Sorted.{IsPermutation-append_comm, Contains-permutation}
 use Rattle.std.proofs.lemmas.List.Sums.{sum_by-append, sum_by-cons}
 use Rattle.term_core.proofs.Members.{In, in_contained, contained_in}
 use Rattle.clause_core.specs.Multisets.{AreRests, Exceeds, EachHasGreater}
@@ -27,13 +31,17 @@ in_second x [] ys i = i
 in_second x (y ∷ xs) ys i = inr (in_second x xs ys i)
 
 -- the members of what is left are members of the whole
-pub rest_in_first : {X : Type 0} (xs ys rest other : List X) → AreRests xs ys rest other → (x : X) → Contains rest x → Contains xs x
+pub rest_in_first : {X : Type 0} (xs ys rest other : List X) → AreRests xs ys rest other → (x : X) →
+    Contains rest x → Contains xs x
 rest_in_first xs ys rest other r x i =
-    Contains-permutation (r.common ++ rest) xs x (IsPermutation-sym xs (r.common ++ rest) r.of_first) (contained_in (r.common ++ rest) x (in_second x r.common rest (in_contained rest x i)))
+    Contains-permutation (r.common ++ rest) xs x (IsPermutation-sym xs (r.common ++ rest) r.of_first)
+    (contained_in (r.common ++ rest) x (in_second x r.common rest (in_contained rest x i)))
 
-pub other_in_second : {X : Type 0} (xs ys rest other : List X) → AreRests xs ys rest other → (x : X) → Contains other x → Contains ys x
+pub other_in_second : {X : Type 0} (xs ys rest other : List X) → AreRests xs ys rest other → (x : X) →
+    Contains other x → Contains ys x
 other_in_second xs ys rest other r x i =
-    Contains-permutation (r.common ++ other) ys x (IsPermutation-sym ys (r.common ++ other) r.of_second) (contained_in (r.common ++ other) x (in_second x r.common other (in_contained other x i)))
+    Contains-permutation (r.common ++ other) ys x (IsPermutation-sym ys (r.common ++ other) r.of_second)
+    (contained_in (r.common ++ other) x (in_second x r.common other (in_contained other x i)))
 
 -- one member more of the second list, which cancels with one of the rest of the first, or doesn't
 pub cancels :
@@ -43,10 +51,13 @@ cancels xs ys rest other y left r p = record {
   common = y ∷ r.common;
   of_first =
       IsPermutation-trans xs (r.common ++ rest) (y ∷ (r.common ++ left)) r.of_first
-      (IsPermutation-trans (r.common ++ rest) (r.common ++ y ∷ left) (y ∷ (r.common ++ left)) (IsPermutation-append_right r.common rest (y ∷ left) p) (IsPermutation-middle r.common y left));
+      (IsPermutation-trans (r.common ++ rest) (r.common ++ y ∷ left) (y ∷ (r.common ++ left))
+      (IsPermutation-append_right r.common rest (y ∷ left) p) (IsPermutation-middle r.common y left));
   of_second =
-      IsPermutation-trans (ys ++ y ∷ []) (y ∷ ys) (y ∷ (r.common ++ other)) (IsPermutation-append_comm ys (y ∷ [])) (IsPermutation-cons y ys (r.common ++ other) r.of_second);
-  apart = λ x i j. r.apart x (Contains-permutation (y ∷ left) rest x (IsPermutation-sym rest (y ∷ left) p) (contained_in (y ∷ left) x (inr (in_contained left x i)))) j;
+      IsPermutation-trans (ys ++ y ∷ []) (y ∷ ys) (y ∷ (r.common ++ other))
+      (IsPermutation-append_comm ys (y ∷ [])) (IsPermutation-cons y ys (r.common ++ other) r.of_second);
+  apart = λ x i j. r.apart x (Contains-permutation (y ∷ left) rest x (IsPermutation-sym rest (y ∷ left) p)
+      (contained_in (y ∷ left) x (inr (in_contained left x i)))) j;
 }
 
 pub stays :
@@ -56,7 +67,8 @@ stays {X} xs ys rest other y r new = record {
   common = r.common;
   of_first = r.of_first;
   of_second =
-      subst (λ us. IsPermutation (ys ++ y ∷ []) us) (append_assoc r.common other (y ∷ [])) (IsPermutation-append_left (y ∷ []) ys (r.common ++ other) r.of_second);
+      subst (λ us. IsPermutation (ys ++ y ∷ []) us) (append_assoc r.common other (y ∷ []))
+      (IsPermutation-append_left (y ∷ []) ys (r.common ++ other) r.of_second);
   apart = λ x i j. both x i (in_either x other (y ∷ []) (in_contained (other ++ y ∷ []) x j));
 }
   where
@@ -97,7 +109,8 @@ module _ {X : Type 0} (same_or_not : (x y : X) → (x ≡ y) ⊎ (x ≢ y)) wher
 
   hit-cases : (a x : X) → ((x ≡ a) × (hit a x ≡ 1)) ⊎ ((x ≢ a) × (hit a x ≡ 0))
   unfolding hit one_or_none
-  hit-cases a x = elim (same_or_not x a) as (λ s. ((x ≡ a) × (one_or_none s ≡ 1)) ⊎ ((x ≢ a) × (one_or_none s ≡ 0))) [ inl e ↦ inl (e, refl) | inr d ↦ inr (d, refl) ]
+  hit-cases a x = elim (same_or_not x a) as (λ s. ((x ≡ a) × (one_or_none s ≡ 1))
+      ⊎ ((x ≢ a) × (one_or_none s ≡ 0))) [ inl e ↦ inl (e, refl) | inr d ↦ inr (d, refl) ]
 
   -- how often a member is in the list
   count : X → List X → ℕ
@@ -134,15 +147,18 @@ module _ {X : Type 0} (same_or_not : (x y : X) → (x ≡ y) ⊎ (x ≢ y)) wher
   ]
   in_counted x (y ∷ ys) (inr i) = omega (arith, in_counted x ys i, count-cons x y ys)
 
-  either_none : (xs ys rest other : List X) → AreRests xs ys rest other → (a : X) → (count a rest ≡ 0) ⊎ (count a other ≡ 0)
+  either_none : (xs ys rest other : List X) → AreRests xs ys rest other → (a : X) →
+      (count a rest ≡ 0) ⊎ (count a other ≡ 0)
   either_none xs ys rest other r a = go (count a rest) refl (count a other) refl
     where
       go : (n : ℕ) → count a rest ≡ n → (m : ℕ) → count a other ≡ m → (count a rest ≡ 0) ⊎ (count a other ≡ 0)
       go zero e m f = inl e
       go (suc n) e zero f = inr f
-      go (suc n) e (suc m) f = absurd (r.apart a (contained_in rest a (counted_in a rest (omega (arith, e)))) (contained_in other a (counted_in a other (omega (arith, f)))))
+      go (suc n) e (suc m) f = absurd (r.apart a (contained_in rest a (counted_in a rest (omega (arith, e))))
+          (contained_in other a (counted_in a other (omega (arith, f)))))
 
-  module _ (xs ys rest other more others : List X) (r : AreRests xs ys rest other) (q : AreRests xs ys more others) where
+  module _ (xs ys rest other more others : List X) (r : AreRests xs ys rest other)
+      (q : AreRests xs ys more others) where
     -- what is left is the same, however common members cancel
     counts_agree : (a : X) → (count a rest ≡ count a more) × (count a other ≡ count a others)
     counts_agree a =
@@ -151,15 +167,35 @@ module _ {X : Type 0} (same_or_not : (x y : X) → (x ≡ y) ⊎ (x ≢ y)) wher
         let q0 = count-permutation a xs (q.common ++ more) q.of_first ∙ count-append a q.common more in
         let q1 = count-permutation a ys (q.common ++ others) q.of_second ∙ count-append a q.common others in
         elim (either_none xs ys rest other r a) [
-          | inl m ↦ elim (either_none xs ys more others q a) [ inl n ↦ (omega (arith, p0, p1, q0, q1, m, n), omega (arith, p0, p1, q0, q1, m, n)) | inr n ↦ (omega (arith, p0, p1, q0, q1, m, n), omega (arith, p0, p1, q0, q1, m, n)) ]
-          | inr m ↦ elim (either_none xs ys more others q a) [ inl n ↦ (omega (arith, p0, p1, q0, q1, m, n), omega (arith, p0, p1, q0, q1, m, n)) | inr n ↦ (omega (arith, p0, p1, q0, q1, m, n), omega (arith, p0, p1, q0, q1, m, n)) ]
+          | inl m ↦ elim (either_none xs ys more others q a) [
+            | inl n ↦ (
+              omega (arith, p0, p1, q0, q1, m, n),
+              omega (arith, p0, p1, q0, q1, m, n),
+            )
+            | inr n ↦ (
+              omega (arith, p0, p1, q0, q1, m, n),
+              omega (arith, p0, p1, q0, q1, m, n),
+            )
+          ]
+          | inr m ↦ elim (either_none xs ys more others q a) [
+            | inl n ↦ (
+              omega (arith, p0, p1, q0, q1, m, n),
+              omega (arith, p0, p1, q0, q1, m, n),
+            )
+            | inr n ↦ (
+              omega (arith, p0, p1, q0, q1, m, n),
+              omega (arith, p0, p1, q0, q1, m, n),
+            )
+          ]
         ]
 
     pub rests_agree : (a : X) → Contains rest a → Contains more a
-    rests_agree a i = contained_in more a (counted_in a more (omega (arith, (counts_agree a).0, in_counted a rest (in_contained rest a i))))
+    rests_agree a i = contained_in more a
+        (counted_in a more (omega (arith, (counts_agree a).0, in_counted a rest (in_contained rest a i))))
 
     pub others_agree : (a : X) → Contains other a → Contains others a
-    others_agree a i = contained_in others a (counted_in a others (omega (arith, (counts_agree a).1, in_counted a other (in_contained other a i))))
+    others_agree a i = contained_in others a
+        (counted_in a others (omega (arith, (counts_agree a).1, in_counted a other (in_contained other a i))))
 
   module _ (xs ys rest other : List X) (r : AreRests xs ys rest other) where
     pub nothing_left : IsPermutation xs ys → (rest ≡ []) × (other ≡ [])
@@ -173,7 +209,8 @@ module _ {X : Type 0} (same_or_not : (x y : X) → (x ≡ y) ⊎ (x ≢ y)) wher
       pub something_left : rest ≡ [] → ⊥
       something_left empty =
           let m = has_member e.rest e.not_empty in
-          none_in_nil m.0 (subst (λ us. Contains us m.0) empty (rests_agree xs ys e.rest e.other rest other e.rests r m.0 m.1))
+          none_in_nil m.0 (subst (λ us. Contains us m.0) empty
+          (rests_agree xs ys e.rest e.other rest other e.rests r m.0 m.1))
 
       pub each_exceeded : EachHasGreater greater rest other
       each_exceeded y i =

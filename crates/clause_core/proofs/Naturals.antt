@@ -11,9 +11,12 @@ use Rattle.clause_core.specs.Admitted.{RuleIsOrdered, RulesAreOrdered}
 use Rattle.clause_core.specs.Examples.{with_rule, looping_rule, is_true, one_sided_rule}
 
 -- what is so of both rules is so of each
-each_rule : (P : Rule → Type 0) → P plus_zero_rule → P plus_succ_rule → (k : ℕ) (rule : Rule) → slice_get naturals.rules k ≡ Some rule → P rule
-each_rule P p q zero rule at = let e : plus_zero_rule ≡ rule = let s : Some plus_zero_rule ≡ Some rule = at in cc in subst P e p
-each_rule P p q (suc zero) rule at = let e : plus_succ_rule ≡ rule = let s : Some plus_succ_rule ≡ Some rule = at in cc in subst P e q
+each_rule : (P : Rule → Type 0) → P plus_zero_rule → P plus_succ_rule → (k : ℕ) (rule : Rule) →
+    slice_get naturals.rules k ≡ Some rule → P rule
+each_rule P p q zero rule at = let e : plus_zero_rule ≡ rule = let s : Some plus_zero_rule ≡ Some rule = at in
+    cc in subst P e p
+each_rule P p q (suc zero) rule at = let e : plus_succ_rule ≡ rule = let s : Some plus_succ_rule ≡ Some
+    rule = at in cc in subst P e q
 each_rule P p q (suc (suc k)) rule at = absurd (let e : None ≡ Some rule = at in cc)
 
 zero_ordered : RuleIsOrdered AboveInSums plus_zero_rule
@@ -36,7 +39,8 @@ nothing_is_not_whole alone e = cc
 nothing_is_not_whole (split test begins at_true at_false) e = nothing_is_not_whole at_true (ap (wanting true) e)
 
 -- if one guard list wants a test true, and none wants it false
-one_sided : {ms : List (ℕ × List Guard)} → Whole ms → (n : ℕ) (test : Tree) (gs : List Guard) → ms ≡ (n, record { test = test; wanted = true } ∷ gs) ∷ [] → ⊥
+one_sided : {ms : List (ℕ × List Guard)} → Whole ms → (n : ℕ) (test : Tree) (gs : List Guard) →
+    ms ≡ (n, record { test = test; wanted = true } ∷ gs) ∷ [] → ⊥
 one_sided (alone {k}) n test gs e =
     let g : Guard = record { test = test; wanted = true } in
     let p : ◌≡◌ {A = ℕ × List Guard} (k, []) (n, g ∷ gs) = cc in

@@ -13,7 +13,8 @@ use Rattle.clause_core.specs.Generalizing.{IsGeneral, generalize_row}
 use Rattle.clause_core.proofs.OneAnswer.{Agree}
 
 -- a term has one sort
-sort_one : (sig : Sig) (ctx : List SortId) (t : Tree) (s r : SortId) → IsGeneral sig ctx t s → IsGeneral sig ctx t r → s ≡ r
+sort_one : (sig : Sig) (ctx : List SortId) (t : Tree) (s r : SortId) → IsGeneral sig ctx t s →
+    IsGeneral sig ctx t r → s ≡ r
 sort_one sig ctx (var n) s r p q = absurd p
 sort_one sig ctx (app f ts) s r p q = sort_unique sig ctx (app f ts) s r p q
 

@@ -18,8 +18,10 @@ solves_one (var k) r m n t u p q = (p.0 ∙ sym q.0, p.1 ∙ sym q.1)
 solves_one (app f ts) (var k) m n t u p q = (p.0 ∙ sym q.0, p.1 ∙ sym q.1)
 solves_one (app f ts) (app g us) m n t u p q = absurd p
 
-solved_one : (sig : Sig) (e d : Equation) → e ≡ d → (a : IsSolved sig e) (b : IsSolved sig d) → (a.variable ≡ b.variable) × (a.term ≡ b.term)
-solved_one sig e d q a b = solves_one e.left e.right a.variable b.variable a.term b.term a.solves (subst (λ (x : Equation). Solves x.left x.right b.variable b.term) (sym q) b.solves)
+solved_one : (sig : Sig) (e d : Equation) → e ≡ d → (a : IsSolved sig e) (b : IsSolved sig d) →
+    (a.variable ≡ b.variable) × (a.term ≡ b.term)
+solved_one sig e d q a b = solves_one e.left e.right a.variable b.variable a.term b.term a.solves
+    (subst (λ (x : Equation). Solves x.left x.right b.variable b.term) (sym q) b.solves)
 
 module _ (spec : Spec) (c : Clause) where
   pub solve_one : (n : ℕ) → Agree (solve_row spec c n) (solve_row spec c n)

@@ -6,7 +6,10 @@ use Rattle.spec_core.specs.declared.records.Spec.{Spec}
 use Rattle.spec_core.specs.WellSorted.{IsWellSorted}
 use Rattle.clause_core.specs.declared.clauses.Clause.{Clause}
 use Rattle.clause_core.specs.declared.steps.Step.{Step}
-use Rattle.clause_core.specs.declared.steps.Step.TheVariants.{Trivial, Match, Absurd, Subsume, ByLemma, Rule as RuleStep, Case, Decompose, Clash as ClashStep, Drop, Solve, Cover, Generalize, Context as ContextStep, Hyp, Lemma}
+use Rattle.clause_core.specs.declared.steps.Step.TheVariants.{Trivial, Match, Absurd, Subsume, ByLemma}
+use Rattle.clause_core.specs.declared.steps.Step.TheVariants.{Rule as RuleStep, Case, Decompose, Clash as ClashStep}
+use Rattle.clause_core.specs.declared.steps.Step.TheVariants.{Drop, Solve, Cover, Generalize, Context as ContextStep}
+use Rattle.clause_core.specs.declared.steps.Step.TheVariants.{Hyp, Lemma}
 use Rattle.clause_core.specs.Steps.{row_of}
 use Rattle.clause_core.specs.StepLaws.{OneAnswer}
 use Rattle.clause_core.proofs.OneAnswer.{Agree, says_one}
@@ -22,7 +25,8 @@ use Rattle.clause_core.proofs.OneRelation.{one_relation}
 
 module _ (spec : Spec) (fine : IsWellSorted spec) (c : Clause) where
   -- each step says one thing
-  pub step_one : (usable : ℕ → Type 0) (nodes : List Clause) (step : Step) → Agree (row_of spec usable nodes c step) (row_of spec usable nodes c step)
+  pub step_one : (usable : ℕ → Type 0) (nodes : List Clause) (step : Step) →
+      Agree (row_of spec usable nodes c step) (row_of spec usable nodes c step)
   step_one usable nodes (Trivial k) = trivial_one spec c k
   step_one usable nodes (Match k j) = match_one spec c k j
   step_one usable nodes (Absurd j) = absurd_one spec c j

@@ -24,7 +24,13 @@ exceeds_one : (common : List Tree) (xs ys : List Tree) (a b : Tree) → IsPermut
 exceeds_one common xs ys a b p q d above = record {
   rest = a ∷ [];
   other = b ∷ [];
-  rests = record { common = common; of_first = p; of_second = q; apart = λ x i j. different x (in_contained (a ∷ []) x i) (in_contained (b ∷ []) x j) };
+  rests = record {
+    common = common;
+    of_first = p;
+    of_second = q;
+    apart = λ x i j. different x
+        (in_contained (a ∷ []) x i) (in_contained (b ∷ []) x j);
+  };
   not_empty = omega arith;
   has_greater = λ y j. (a, (0, omega arith, refl), greater y (in_contained (b ∷ []) y j));
 }
@@ -42,7 +48,8 @@ abbrev sum : Tree
 sum = plus_term (var 0) zero_term
 
 succ_not : succ_term sum ≢ succ_term (var 0)
-succ_not e = let q : app 3 (some (app 4 (some (var 0) (some zero_term none))) none) ≡ app 3 (some (var 0) none) = e in cc
+succ_not e = let q : app 3 (some (app 4 (some (var 0) (some zero_term none))) none) ≡ app 3
+    (some (var 0) none) = e in cc
 
 succ_above : AboveInSums (succ_term sum) (succ_term (var 0))
 succ_above = λ env. omega arith
@@ -52,7 +59,14 @@ behind : Exceeds AboveInSums (succ_term sum ∷ succ_term (var 0) ∷ []) (sum �
 behind = record {
   rest = succ_term sum ∷ succ_term (var 0) ∷ [];
   other = sum ∷ var 0 ∷ [];
-  rests = record { common = []; of_first = IsPermutation-refl _; of_second = IsPermutation-refl _; apart = λ x i j. different x (in_contained (succ_term sum ∷ succ_term (var 0) ∷ []) x i) (in_contained (sum ∷ var 0 ∷ []) x j) };
+  rests = record {
+    common = [];
+    of_first = IsPermutation-refl _;
+    of_second = IsPermutation-refl _;
+    apart = λ x i
+        j. different x (in_contained (succ_term sum ∷ succ_term (var 0) ∷ []) x i)
+        (in_contained (sum ∷ var 0 ∷ []) x j);
+  };
   not_empty = omega arith;
   has_greater = λ y j. greater y (in_contained (sum ∷ var 0 ∷ []) y j);
 }
@@ -61,7 +75,8 @@ behind = record {
     different x (inl e) (inl f) = let q : succ_term sum ≡ sum = sym e ∙ f in let k : ◌≡◌ {A = ℕ} 3 4 = cc in omega arith
     different x (inl e) (inr (inl f)) = let q : succ_term sum ≡ var 0 = sym e ∙ f in cc
     different x (inl e) (inr (inr f)) = f
-    different x (inr (inl e)) (inl f) = let q : succ_term (var 0) ≡ sum = sym e ∙ f in let k : ◌≡◌ {A = ℕ} 3 4 = cc in omega arith
+    different x (inr (inl e)) (inl f) = let q : succ_term (var 0) ≡ sum = sym e ∙ f in
+        let k : ◌≡◌ {A = ℕ} 3 4 = cc in omega arith
     different x (inr (inl e)) (inr (inl f)) = let q : succ_term (var 0) ≡ var 0 = sym e ∙ f in cc
     different x (inr (inl e)) (inr (inr f)) = f
     different x (inr (inr e)) f = e
@@ -81,7 +96,8 @@ behind = record {
     greater y (inr (inr e)) = absurd e
 
 -- the place is plus(?0, zero) under succ
-abbrev inner : (premises : List Equation) → TermAt (record { ctx = one; premises = premises; conclusions = succ_sides ∷ [] }) first_argument
+abbrev inner : (premises : List Equation) →
+    TermAt (record { ctx = one; premises = premises; conclusions = succ_sides ∷ [] }) first_argument
 inner premises = record { at = first succ_sides []; round = under 3 none hole none; term = sum; is = refl; path = refl }
 
 -- plus(?0, zero) is exchanged for ?0 beside these sides
@@ -103,19 +119,100 @@ wrong_side r =
 -- succ(plus(?0, zero)) = succ(?0) compares with succ(?0) = succ(?0) as Less
 less_sides : Exceeds AboveInSums (succ_term sum ∷ succ_term (var 0) ∷ [])
     (succ_term (var 0) ∷ succ_term (var 0) ∷ [])
-less_sides = exceeds_one (succ_term (var 0) ∷ []) _ _ (succ_term sum) (succ_term (var 0)) (record { moves = (0, 1) ∷ []; below = (omega arith, omega arith, tt); is = refl }) (IsPermutation-refl _) succ_not succ_above
+less_sides = exceeds_one (succ_term (var 0) ∷ []) _ _ (succ_term sum) (succ_term (var 0))
+    (record { moves = (0, 1) ∷ []; below = (omega arith, omega arith, tt); is = refl }) (IsPermutation-refl _)
+    succ_not succ_above
 
 unit_within : IsWithin unit_clause
 unit_within = record { equations = omega arith; depth = omega arith; size = omega arith }
 
 pub examples : ReplacingExamples
 examples = record {
-  by_premise = inl ((inner (unit_of (var 0) ∷ []), first _ []), inl (refl, (_, ((refl, exceeds_one (sum ∷ var 0 ∷ succ_term (var 0) ∷ []) _ _ (succ_term sum) (succ_term (var 0)) (record { moves = (2, 3) ∷ []; below = (omega arith, omega arith, tt); is = refl }) (IsPermutation-refl _) succ_not succ_above), tt), tt, inl (((record { equations = omega arith; depth = omega arith; size = omega arith }, tt), omega arith), refl))));
+  by_premise = inl (
+    (inner (unit_of (var 0) ∷ []), first _ []),
+    inl (
+      refl,
+      (
+        _,
+        (
+          (
+            refl,
+            exceeds_one (sum ∷ var 0 ∷ succ_term (var 0) ∷ []) _ _ (succ_term sum)
+                (succ_term (var 0)) (record { moves = (2, 3) ∷ []; below = (omega arith, omega arith, tt); is = refl })
+                (IsPermutation-refl _) succ_not succ_above,
+          ),
+          tt,
+        ),
+        tt,
+        inl (((record { equations = omega arith; depth = omega arith; size = omega arith }, tt), omega arith), refl),
+      ),
+    ),
+  );
   not_by_premise = inl ((inner (unit_of (var 0) ∷ []), first _ []), inr (λ e. (let q : var 0 ≡ sum = e in cc), refl));
-  in_itself = inl ((record { at = first _ []; round = hole; term = sum; is = refl; path = refl }, first _ []), inl (refl, (_, ((refl, less_sum), tt), tt, inl (((record { equations = omega arith; depth = omega arith; size = omega arith }, tt), omega arith), refl))));
-  by_hypothesis = inl (record { clause = unit_clause; is = refl }, inl ((refl, tt), inl (unit_within, inl (inner [], inl (record { equation = unit_of (var 0); alone = refl; premises = tt; is = refl }, (_, ((refl, less_sides), tt), ((refl, behind), tt), inl (((record { equations = omega arith; depth = omega arith; size = omega arith }, tt), omega arith), refl)))))));
-  by_goal = inl (unit_usable, inl ((refl, tt), inl (unit_within, inl (inner [], inl (record { equation = unit_of (var 0); alone = refl; premises = tt; is = refl }, (_, ((refl, less_sides), tt), tt, inl (((record { equations = omega arith; depth = omega arith; size = omega arith }, tt), omega arith), refl)))))));
-  without_premise = inl (record { clause = unit_where_zero; is = refl }, inl ((refl, tt), inl (where_zero_within, inl (inner [], inr (λ r. no_premise r.premises.0, refl)))));
+  in_itself = inl (
+    (record { at = first _ []; round = hole; term = sum; is = refl; path = refl }, first _ []),
+    inl (
+      refl,
+      (
+        _,
+        ((refl, less_sum), tt),
+        tt,
+        inl (((record { equations = omega arith; depth = omega arith; size = omega arith }, tt), omega arith), refl),
+      ),
+    ),
+  );
+  by_hypothesis = inl (
+    record { clause = unit_clause; is = refl },
+    inl (
+      (refl, tt),
+      inl (
+        unit_within,
+        inl (
+          inner [],
+          inl (
+            record { equation = unit_of (var 0); alone = refl; premises = tt; is = refl },
+            (
+              _,
+              ((refl, less_sides), tt),
+              ((refl, behind), tt),
+              inl (
+                ((record { equations = omega arith; depth = omega arith; size = omega arith }, tt), omega arith),
+                refl,
+              ),
+            ),
+          ),
+        ),
+      ),
+    ),
+  );
+  by_goal = inl (
+    unit_usable,
+    inl (
+      (refl, tt),
+      inl (
+        unit_within,
+        inl (
+          inner [],
+          inl (
+            record { equation = unit_of (var 0); alone = refl; premises = tt; is = refl },
+            (
+              _,
+              ((refl, less_sides), tt),
+              tt,
+              inl (
+                ((record { equations = omega arith; depth = omega arith; size = omega arith }, tt), omega arith),
+                refl,
+              ),
+            ),
+          ),
+        ),
+      ),
+    ),
+  );
+  without_premise = inl (
+    record { clause = unit_where_zero; is = refl },
+    inl ((refl, tt), inl (where_zero_within, inl (inner [], inr (λ r. no_premise r.premises.0, refl)))),
+  );
   no_terms = inl (unit_usable, inr (λ h. h, refl));
   from_the_right = inl (unit_usable, inl ((refl, tt), inl (unit_within, inl (inner [], inr (wrong_side, refl)))));
 }

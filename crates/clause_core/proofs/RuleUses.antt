@@ -21,8 +21,13 @@ module _ (above : Tree → Tree → Type 0) (rank : ℕ → ℕ → Tree → ℕ
       (spec : Spec) (left : Tree) (gs : List Guard) → AllByRecursion (GuardIsOrdered above left) gs →
       AllByRecursion (λ (g : Guard). IsShallow g.test) gs → AllByRecursion (GuardRanksLower rank spec left) gs
   guards_rank_lower spec left [] a d = tt
-  guards_rank_lower spec left (g ∷ gs) a d =
-      ((instances_rank_lower spec left g.test a.0.0 d.0, instances_rank_lower spec left (boolean g.wanted) a.0.1 (constant_is_shallow g)), guards_rank_lower spec left gs a.1 d.1)
+  guards_rank_lower spec left (g ∷ gs) a d = (
+    (
+      instances_rank_lower spec left g.test a.0.0 d.0,
+      instances_rank_lower spec left (boolean g.wanted) a.0.1 (constant_is_shallow g),
+    ),
+    guards_rank_lower spec left gs a.1 d.1,
+  )
 
   pub rules_rank_lower : RulesRankLower above rank
   rules_rank_lower spec fine admitted k rule at =

@@ -1,5 +1,6 @@
 -- The sides of equations: of lists that are put together, and of one equation more.
-use Rattle.std.proofs.Common.{◌≡◌, ℕ, ◌+◌, ◌-◌, ◌<◌, ◌≤◌, List, [], ◌∷◌, ◌++◌, max, min, length, take, drop, get_or, refl, ap, ◌∙◌, arith}
+use Rattle.std.proofs.Common.{◌≡◌, ℕ, ◌+◌, ◌-◌, ◌<◌, ◌≤◌, List, [], ◌∷◌, ◌++◌, max, min, length, take, drop, get_or}
+use Rattle.std.proofs.Common.{refl, ap, ◌∙◌, arith}
 use Rattle.std.proofs.Math.Seq.{take-length}
 use Rattle.term_core.specs.Tree.{Tree, var, app, trees_of, sizes, tree_depth, depths}
 use Rattle.term_core.proofs.Items.{taken_next}
@@ -47,7 +48,8 @@ pub sizes_next :
     right ≡ min (sizes (trees_of (e.right ∷ []))) (cap - (sum + left)) →
     sum + left + right ≡ min (sizes (trees_of (sides_of (take (i + 1) es)))) cap
 sizes_next es i e cap sum left right lt is s l r =
-    let n = ap (λ ts. sizes (trees_of ts)) (sides_next es i e lt is) ∙ sizes_append (sides_of (take i es)) (e.left ∷ e.right ∷ []) in
+    let n = ap (λ ts. sizes (trees_of ts)) (sides_next es i e lt is)
+    ∙ sizes_append (sides_of (take i es)) (e.left ∷ e.right ∷ []) in
     omega (arith, n, s, l, r)
 
 pub depths_next :
@@ -56,13 +58,16 @@ pub depths_next :
     right ≡ min (depths (trees_of (e.right ∷ []))) cap →
     max (max most left) right ≡ min (depths (trees_of (sides_of (take (i + 1) es)))) cap
 depths_next es i e cap most left right lt is m l r =
-    let n = ap (λ ts. depths (trees_of ts)) (sides_next es i e lt is) ∙ depths_append (sides_of (take i es)) (e.left ∷ e.right ∷ []) in
+    let n = ap (λ ts. depths (trees_of ts)) (sides_next es i e lt is)
+    ∙ depths_append (sides_of (take i es)) (e.left ∷ e.right ∷ []) in
     omega (arith, n, m, l, r)
 
-pub clause_size_is : (c : Clause) → clause_size c ≡ sizes (trees_of (sides_of c.premises)) + sizes (trees_of (sides_of c.conclusions))
+pub clause_size_is : (c : Clause) →
+    clause_size c ≡ sizes (trees_of (sides_of c.premises)) + sizes (trees_of (sides_of c.conclusions))
 clause_size_is c = sizes_append (sides_of c.premises) (sides_of c.conclusions)
 
-pub clause_depth_is : (c : Clause) → clause_depth c ≡ max (depths (trees_of (sides_of c.premises))) (depths (trees_of (sides_of c.conclusions)))
+pub clause_depth_is : (c : Clause) →
+    clause_depth c ≡ max (depths (trees_of (sides_of c.premises))) (depths (trees_of (sides_of c.conclusions)))
 clause_depth_is c = depths_append (sides_of c.premises) (sides_of c.conclusions)
 
 -- the tests for the limits, where sums and maxima stop one above them
@@ -80,4 +85,7 @@ pub depth_within :
     (c : Clause) (first second most : ℕ) → first ≡ min (depths (trees_of (sides_of c.premises))) 101 →
     second ≡ min (depths (trees_of (sides_of c.conclusions))) 101 → most ≡ max first second →
     (most ≤ 100 → clause_depth c ≤ 100) × (clause_depth c ≤ 100 → most ≤ 100)
-depth_within c first second most p q m = (λ h. omega (arith, clause_depth_is c, p, q, m, h), λ h. omega (arith, clause_depth_is c, p, q, m, h))
+depth_within c first second most p q m = (
+  λ h. omega (arith, clause_depth_is c, p, q, m, h),
+  λ h. omega (arith, clause_depth_is c, p, q, m, h),
+)

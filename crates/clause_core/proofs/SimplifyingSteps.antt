@@ -22,21 +22,121 @@ not_in_succ (inl e) = omega (arith, e)
 not_in_succ (inr e) = e
 
 in_itself : IsSolved naturals.sig (equals (var 0) (succ_term (var 0))) → ⊥
-in_itself s = s.absent (subst (λ t. Occurs s.variable t) (sym s.solves.1) (subst (λ n. Occurs n (succ_term (var 0))) (sym s.solves.0) (inl refl)))
+in_itself s = s.absent
+    (subst (λ t. Occurs s.variable t) (sym s.solves.1)
+    (subst (λ n. Occurs n (succ_term (var 0))) (sym s.solves.0) (inl refl)))
 
 no_function : IsSolved naturals.sig (equals (var 0) (plus_term (var 1) (var 1))) → ⊥
-no_function s = let p : IsPattern naturals.sig (plus_term (var 1) (var 1)) = subst (λ t. IsPattern naturals.sig t) s.solves.1 s.pattern in omega (arith, p.0)
+no_function s = let p : IsPattern naturals.sig (plus_term (var 1) (var 1)) = subst
+    (λ t. IsPattern naturals.sig t) s.solves.1 s.pattern in omega (arith, p.0)
 
 pub examples : SimplifyingExamples
 examples = record {
-  premise = inl (first _ [], inl (record { head = 3; lefts = _; rights = _; constructor = omega arith; is_left = refl; is_right = refl }, (_, ((refl, refl), tt), tt, inl (((record { equations = omega arith; depth = omega arith; size = omega arith }, tt), omega arith), refl))));
-  conclusion = inl (first _ [], inl (record { head = 5; lefts = _; rights = _; constructor = omega arith; is_left = refl; is_right = refl }, (_, ((refl, refl), ((refl, refl), tt)), tt, inl (((record { equations = omega arith; depth = omega arith; size = omega arith }, (record { equations = omega arith; depth = omega arith; size = omega arith }, tt)), omega arith), refl))));
-  constants = inl (first _ [], inl (record { head = 2; lefts = none; rights = none; constructor = omega arith; is_left = refl; is_right = refl }, (_, tt, tt, inl ((tt, omega arith), refl))));
+  premise = inl (
+    first _ [],
+    inl (
+      record {
+        head = 3;
+        lefts = _;
+        rights = _;
+        constructor = omega arith;
+        is_left = refl;
+        is_right = refl;
+      },
+      (
+        _,
+        ((refl, refl), tt),
+        tt,
+        inl (((record { equations = omega arith; depth = omega arith; size = omega arith }, tt), omega arith), refl),
+      ),
+    ),
+  );
+  conclusion = inl (
+    first _ [],
+    inl (
+      record {
+        head = 5;
+        lefts = _;
+        rights = _;
+        constructor = omega arith;
+        is_left = refl;
+        is_right = refl;
+      },
+      (
+        _,
+        ((refl, refl), ((refl, refl), tt)),
+        tt,
+        inl (
+          (
+            (
+              record { equations = omega arith; depth = omega arith; size = omega arith },
+              (record { equations = omega arith; depth = omega arith; size = omega arith }, tt),
+            ),
+            omega arith,
+          ),
+          refl,
+        ),
+      ),
+    ),
+  );
+  constants = inl (
+    first _ [],
+    inl (
+      record {
+        head = 2;
+        lefts = none;
+        rights = none;
+        constructor = omega arith;
+        is_left = refl;
+        is_right = refl;
+      },
+      (_, tt, tt, inl ((tt, omega arith), refl)),
+    ),
+  );
   function_heads = inl (first _ [], inr (no_heads, refl));
-  clashes = inl (first _ _, inl ((omega arith, omega arith, λ e. omega (arith, e)), (_, ((refl, refl), tt), tt, inl (((record { equations = omega arith; depth = omega arith; size = omega arith }, tt), omega arith), refl))));
+  clashes = inl (
+    first _ _,
+    inl (
+      (omega arith, omega arith, λ e. omega (arith, e)),
+      (
+        _,
+        ((refl, refl), tt),
+        tt,
+        inl (((record { equations = omega arith; depth = omega arith; size = omega arith }, tt), omega arith), refl),
+      ),
+    ),
+  );
   equal_heads = inl (first _ [], inr (λ h. h.2 refl, refl));
-  drops = inl (first _ [], (_, ((refl, refl), tt), tt, inl (((record { equations = omega arith; depth = omega arith; size = omega arith }, tt), omega arith), refl)));
-  solves = inl (first _ [], inl (record { variable = 0; term = succ_term (var 1); solves = (refl, refl); pattern = (omega arith, (tt, tt)); absent = not_in_succ }, (_, ((refl, refl), tt), tt, inl (((record { equations = omega arith; depth = omega arith; size = omega arith }, tt), omega arith), refl))));
+  drops = inl (
+    first _ [],
+    (
+      _,
+      ((refl, refl), tt),
+      tt,
+      inl (((record { equations = omega arith; depth = omega arith; size = omega arith }, tt), omega arith), refl),
+    ),
+  );
+  solves = inl (
+    first _ [],
+    inl (
+      record {
+        variable = 0;
+        term = succ_term (var 1);
+        solves = (refl, refl);
+        pattern = (
+          omega arith,
+          (tt, tt),
+        );
+        absent = not_in_succ;
+      },
+      (
+        _,
+        ((refl, refl), tt),
+        tt,
+        inl (((record { equations = omega arith; depth = omega arith; size = omega arith }, tt), omega arith), refl),
+      ),
+    ),
+  );
   not_by_itself = inl (first _ [], inr (in_itself, refl));
   not_by_a_function = inl (first _ [], inr (no_function, refl));
 }

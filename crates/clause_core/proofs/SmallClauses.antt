@@ -1,7 +1,8 @@
 -- Comparing small clauses over naturals.
 use Rattle.std.proofs.Common.{◌≡◌, zero, suc, List, [], ◌∷◌, ◌++◌, Some, None, ◌⊎◌, inl, inr, refl, arith, subst}
 use Rattle.std.specs.Prelude.{Contains}
-use Rattle.std.proofs.lemmas.List.Sorted.{IsPermutation-refl, IsPermutation-sym, IsPermutation-append_comm, Contains-permutation}
+use Rattle.std.proofs.lemmas.List.Sorted.{IsPermutation-refl, IsPermutation-sym, IsPermutation-append_comm}
+use Rattle.std.proofs.lemmas.List.Sorted.{Contains-permutation}
 use Rattle.term_core.specs.Tree.{Tree, var}
 use Rattle.term_core.proofs.Members.{In, in_contained, contained_in}
 use Rattle.term_core.specs.declared.ids.SortId.{SortId}
@@ -68,8 +69,11 @@ nothing_below_x t s e a = let b : AboveInSums (var 0) s = subst (λ u. AboveInSu
 
 pub greater : Compares AboveInSums same_x zero_sum Neither
 greater = (
-  λ p. none (Contains-permutation (sides zero_sum) (same (var 0)) sum (IsPermutation-sym (same (var 0)) (sides zero_sum) p) here),
-  λ e. go e (in_either sum e.rests.common e.other (in_contained (e.rests.common ++ e.other) sum (Contains-permutation (sides zero_sum) (e.rests.common ++ e.other) sum e.rests.of_second here))),
+  λ p. none (Contains-permutation (sides zero_sum) (same (var 0)) sum
+      (IsPermutation-sym (same (var 0)) (sides zero_sum) p) here),
+  λ e. go e (in_either sum e.rests.common e.other
+      (in_contained (e.rests.common ++ e.other) sum
+      (Contains-permutation (sides zero_sum) (e.rests.common ++ e.other) sum e.rests.of_second here))),
 )
   where
     here : Contains (sides zero_sum) sum
@@ -80,23 +84,32 @@ greater = (
 
     back : (e : Exceeds AboveInSums (same (var 0)) (sides zero_sum)) (t : Tree) →
         In t (e.rests.common ++ e.rest) → Contains (same (var 0)) t
-    back e t i = Contains-permutation (e.rests.common ++ e.rest) (same (var 0)) t (IsPermutation-sym (same (var 0)) (e.rests.common ++ e.rest) e.rests.of_first) (contained_in (e.rests.common ++ e.rest) t i)
+    back e t i = Contains-permutation (e.rests.common ++ e.rest) (same (var 0)) t
+        (IsPermutation-sym (same (var 0)) (e.rests.common ++ e.rest) e.rests.of_first)
+        (contained_in (e.rests.common ++ e.rest) t i)
 
     go : (e : Exceeds AboveInSums (same (var 0)) (sides zero_sum)) → In sum e.rests.common ⊎ In sum e.other → ⊥
     go e (inl i) = none (back e sum (in_first sum e.rests.common e.rest i))
     go e (inr i) =
         let g = e.has_greater sum (contained_in e.other sum i) in
-        nothing_below_x g.0 sum (only_x g.0 (back e g.0 (in_second g.0 e.rests.common e.rest (in_contained e.rest g.0 g.1)))) g.2
+        nothing_below_x g.0 sum
+        (only_x g.0 (back e g.0 (in_second g.0 e.rests.common e.rest (in_contained e.rest g.0 g.1)))) g.2
 
 -- plus(zero, x) = x is sorted
 pub sorted_sum : ClauseIsSorted naturals_sig zero_sum
-sorted_sum = record { variables = (omega arith, tt); premises = λ k e at. absurd (let q : None ≡ Some e = at in cc); conclusions = conclusion }
+sorted_sum = record {
+  variables = (omega arith, tt);
+  premises = λ k e at. absurd (let q : None ≡ Some e = at in
+      cc);
+  conclusions = conclusion;
+}
   where
     conclusion : EquationsAreSorted naturals_sig (nat ∷ []) (equals sum (var 0) ∷ [])
     conclusion zero e at =
         let q : Some (equals sum (var 0)) ≡ Some e = at in
         let k : equals sum (var 0) ≡ e = cc in
-        subst (λ (d : Equation). (s : SortId) × Sorted naturals_sig (nat ∷ []) d.left s × Sorted naturals_sig (nat ∷ []) d.right s) k
+        subst (λ (d : Equation). (s : SortId) × Sorted naturals_sig (nat ∷ []) d.left s
+        × Sorted naturals_sig (nat ∷ []) d.right s) k
         (nat, (declares (nat ∷ nat ∷ []), refl, refl, ((declares [], refl, refl, tt), (refl, tt))), refl)
     conclusion (suc n) e at = absurd (let q : None ≡ Some e = at in cc)
 

@@ -16,11 +16,14 @@ pub first_is : (e : Equation) (es : List Equation) (at : EquationAt (e ∷ es) 1
 first_is e es at = (equation_one (e ∷ es) 1 at (first e es)).1
 
 -- the whole left side of the only conclusion
-abbrev pub left_side : (ctx : List SortId) (premises : List Equation) (e : Equation) → TermAt (record { ctx = ctx; premises = premises; conclusions = e ∷ [] }) (conclusion_side true [])
+abbrev pub left_side : (ctx : List SortId) (premises : List Equation) (e : Equation) →
+    TermAt (record { ctx = ctx; premises = premises; conclusions = e ∷ [] }) (conclusion_side true [])
 left_side ctx premises e = record { at = first e []; round = hole; term = e.left; is = refl; path = refl }
 
 -- the number of an equation is 1 at least, and the number of equations at most
-pub number_in_range : (own : List Equation) (n : ℕ) (at : EquationAt own n) → length at.before + (length at.after + 1) ≡ length own
+pub number_in_range : (own : List Equation) (n : ℕ) (at : EquationAt own n) →
+    length at.before + (length at.after + 1) ≡ length own
 number_in_range own n at =
-    let q : length own ≡ length (at.before ++ (at.equation ∷ at.after)) = ap (λ (es : List Equation). length es) at.is in
+    let q : length own ≡ length (at.before ++ (at.equation ∷ at.after)) = ap (λ (es : List Equation). length es)
+    at.is in
     omega (arith, q, length-append at.before (at.equation ∷ at.after))

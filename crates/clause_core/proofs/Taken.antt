@@ -1,5 +1,6 @@
 -- Terms are numbered by first occurrence if each variable is met in its turn.
-use Rattle.std.proofs.Common.{◌≡◌, ◌↔◌, ℕ, List, [], ◌∷◌, ◌++◌, Option, Some, None, inl, inr, refl, ap, sym, ◌∙◌, length, true, false, IsTrue, eqb, arith}
+use Rattle.std.proofs.Common.{◌≡◌, ◌↔◌, ℕ, List, [], ◌∷◌, ◌++◌, Option, Some, None, inl, inr, refl, ap, sym, ◌∙◌}
+use Rattle.std.proofs.Common.{length, true, false, IsTrue, eqb, arith}
 use Rattle.std.specs.Option.{option_eq}
 use Rattle.std.proofs.lemmas.Bool.{eq-eqb}
 use Rattle.std.proofs.lemmas.Bool.Decides.{nat_tests, eqb_tells}
@@ -10,7 +11,8 @@ use Rattle.clause_core.specs.Clauses.{sides}
 use Rattle.clause_core.specs.Taken.{taken_with, taken_after}
 use Rattle.clause_core.specs.Tidied.{IsTidied}
 
-pub taken_append : (taken : Option ℕ) (ms ns : List ℕ) → taken_after taken (ms ++ ns) ≡ taken_after (taken_after taken ms) ns
+pub taken_append : (taken : Option ℕ) (ms ns : List ℕ) →
+    taken_after taken (ms ++ ns) ≡ taken_after (taken_after taken ms) ns
 taken_append taken [] ns = refl
 taken_append taken (m ∷ ms) ns = taken_append (taken_with taken m) ms ns
 
@@ -47,17 +49,29 @@ mutual
   pub trees_in_turn : (ts : Trees) (k m : ℕ) → taken_after (Some k) (occurrences_all ts) ≡ Some m → NumberedAll k ts m
   trees_in_turn none k m h = cc
   trees_in_turn (some t ts) k m h =
-      let after : taken_after (taken_after (Some k) (occurrences t)) (occurrences_all ts) ≡ Some m = sym (taken_append (Some k) (occurrences t) (occurrences_all ts)) ∙ h in
-      let first = some_before (taken_after (Some k) (occurrences t)) (occurrences_all ts) m after in
-      (first.0, tree_in_turn t k first.0 first.1, trees_in_turn ts first.0 m (ap (λ j. taken_after j (occurrences_all ts)) (sym first.1) ∙ after))
+      let after : taken_after (taken_after (Some k) (occurrences t)) (occurrences_all ts) ≡ Some m = sym
+      (taken_append (Some k) (occurrences t) (occurrences_all ts)) ∙ h in
+      let first = some_before (taken_after (Some k) (occurrences t)) (occurrences_all ts) m after in (
+        first.0,
+        tree_in_turn t k first.0 first.1,
+        trees_in_turn ts first.0 m (ap (λ j. taken_after j (occurrences_all ts)) (sym first.1) ∙ after),
+      )
 
-pub taken_tidied : (c : Clause) → (taken_after (Some 0) (occurrences_all (trees_of (sides c))) ≡ Some (length c.ctx)) ↔ IsTidied c
-taken_tidied c = (λ h. trees_in_turn (trees_of (sides c)) 0 (length c.ctx) h, λ h. trees_taken (trees_of (sides c)) 0 (length c.ctx) h)
+pub taken_tidied : (c : Clause) →
+    (taken_after (Some 0) (occurrences_all (trees_of (sides c))) ≡ Some (length c.ctx)) ↔ IsTidied c
+taken_tidied c = (
+  λ h. trees_in_turn (trees_of (sides c)) 0 (length c.ctx) h,
+  λ h. trees_taken (trees_of (sides c)) 0 (length c.ctx) h,
+)
 
 -- the test whether this many numbers are taken
 pub same_taken : (taken : Option ℕ) (n : ℕ) → IsTrue (option_eq eqb taken (Some n)) ↔ (taken ≡ Some n)
 same_taken None n = (λ h. cc, λ e. cc)
-same_taken (Some m) n = (λ h. elim (eqb_tells m n) [ inl e ↦ ap (λ k. Some k) e.1 | inr e ↦ absurd (let q : false ≡ true = sym e.0 ∙ h in cc) ], λ e. eq-eqb m n (let q : Some m ≡ Some n = e in cc))
+same_taken (Some m) n = (
+  λ h. elim (eqb_tells m n)
+      [ inl e ↦ ap (λ k. Some k) e.1 | inr e ↦ absurd (let q : false ≡ true = sym e.0 ∙ h in cc) ],
+  λ e. eq-eqb m n (let q : Some m ≡ Some n = e in cc),
+)
 
 -- nothing is taken if a variable of the term isn't met in its turn
 pub none_taken :

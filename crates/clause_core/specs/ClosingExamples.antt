@@ -6,7 +6,8 @@ use Rattle.clause_core.specs.declared.clauses.Clause.{Clause}
 use Rattle.clause_core.specs.ClauseExamples.{equals, claims, implies, zero_sum, same_x}
 use Rattle.clause_core.specs.declared.steps.Step.TheVariants.{Trivial, Match, Absurd, Subsume, ByLemma}
 use Rattle.clause_core.specs.declared.answers.Why.TheVariants.{NoSuchPlace, DoesNotFit, NotProvedBefore, Sort}
-use Rattle.clause_core.specs.ExampleClauses.{one, two, denies, unit_of, unit_clause, SaysAlone, SaysWithGoal, SaysBehind, same_as_first, gives}
+use Rattle.clause_core.specs.ExampleClauses.{one, two, denies, unit_of, unit_clause, SaysAlone, SaysWithGoal}
+use Rattle.clause_core.specs.ExampleClauses.{SaysBehind, same_as_first, gives}
 
 -- ?0 = zero => plus(?0, zero) = ?0, and with the sides of the premise swapped
 abbrev pub unit_where_zero : Clause

@@ -9,7 +9,8 @@ use Rattle.clause_core.specs.declared.steps.Place.{Place}
 use Rattle.clause_core.specs.declared.steps.Step.TheVariants.{Context, Hyp, Lemma}
 use Rattle.clause_core.specs.declared.answers.Why.TheVariants.{DoesNotFit, Sort}
 use Rattle.clause_core.specs.ClosingExamples.{unit_where_zero}
-use Rattle.clause_core.specs.ExampleClauses.{one, unit_of, unit_clause, conclusion_side, SaysAlone, SaysWithGoal, SaysBehind, less, less_than_first, gives}
+use Rattle.clause_core.specs.ExampleClauses.{one, unit_of, unit_clause, conclusion_side, SaysAlone, SaysWithGoal}
+use Rattle.clause_core.specs.ExampleClauses.{SaysBehind, less, less_than_first, gives}
 
 -- => succ(plus(?0, zero)) = succ(?0), and => succ(?0) = succ(?0)
 abbrev pub succ_sides : Equation

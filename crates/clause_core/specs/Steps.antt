@@ -4,7 +4,9 @@ use Rattle.std.specs.Prelude.{ℕ, List}
 use Rattle.spec_core.specs.declared.records.Spec.{Spec}
 use Rattle.clause_core.specs.declared.clauses.Clause.{Clause}
 use Rattle.clause_core.specs.declared.steps.Step.{Step}
-use Rattle.clause_core.specs.declared.steps.Step.TheVariants.{Trivial, Match, Absurd, Subsume, ByLemma, Rule, Case, Decompose, Clash, Drop, Solve, Cover, Generalize, Context, Hyp, Lemma}
+use Rattle.clause_core.specs.declared.steps.Step.TheVariants.{Trivial, Match, Absurd, Subsume, ByLemma, Rule, Case}
+use Rattle.clause_core.specs.declared.steps.Step.TheVariants.{Decompose, Clash, Drop, Solve, Cover, Generalize}
+use Rattle.clause_core.specs.declared.steps.Step.TheVariants.{Context, Hyp, Lemma}
 use Rattle.clause_core.specs.Rows.{Row}
 use Rattle.clause_core.specs.Closing.{trivial_row, match_row, absurd_row}
 use Rattle.clause_core.specs.Subsuming.{subsume_row, by_lemma_row}

@@ -6,8 +6,10 @@ use Rattle.spec_core.specs.Naturals.{nat, naturals, zero_term, succ_term}
 use Rattle.clause_core.specs.declared.clauses.Clause.{Clause}
 use Rattle.clause_core.specs.ClauseExamples.{equals, claims, implies, zero_sum, same_x}
 use Rattle.clause_core.specs.declared.steps.Step.TheVariants.{Subsume, ByLemma, Rule, Case, Decompose, Cover, Context}
-use Rattle.clause_core.specs.declared.answers.Why.TheVariants.{NoSuchNode, NoSuchPlace, NoSuchRule, DoesNotFit, NotProvedBefore, NotCovering}
-use Rattle.clause_core.specs.Insertion.{list, insertion, true_term, false_term, cons_term, le_term, sorted_term, two_items}
+use Rattle.clause_core.specs.declared.answers.Why.TheVariants.{NoSuchNode, NoSuchPlace, NoSuchRule, DoesNotFit}
+use Rattle.clause_core.specs.declared.answers.Why.TheVariants.{NotProvedBefore, NotCovering}
+use Rattle.clause_core.specs.Insertion.{list, insertion, true_term, false_term, cons_term, le_term, sorted_term}
+use Rattle.clause_core.specs.Insertion.{two_items}
 use Rattle.clause_core.specs.ExampleClauses.{conclusion_side, SaysAlone, less, same, same_as_first, gives}
 
 -- two naturals and a list

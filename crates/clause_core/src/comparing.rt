@@ -1,11 +1,13 @@
 //! `compare`: sides cancel in pairs, then the test on what is left.
 
-ghost use Rattle.std.specs.Prelude.{◌≡◌, List, ◌++◌, ◌↔◌, Some, IfOk, OnOk, IsTrue, MatchOption, Contains, slice_get};
+ghost use Rattle.std.specs.Prelude.{◌≡◌, List, ◌++◌, ◌↔◌, Some, IfOk, OnOk, IsTrue, MatchOption};
+ghost use Rattle.std.specs.Prelude.{Contains, slice_get};
 ghost use Rattle.term_core.specs.Tree.{Tree};
 ghost use Rattle.term_core.specs.References.{terms_of};
 ghost use Rattle.clause_core.specs.Clauses.{sides_of, sides as sides_of_clause};
 ghost use Rattle.clause_core.specs.Multisets.{AreRests, HasGreater, EachHasGreater};
-ghost use Rattle.clause_core.specs.Comparing.{MultisetsCompare, Compares, IsTestable, AreTestable, SidesAreTestable};
+ghost use Rattle.clause_core.specs.Comparing.{MultisetsCompare, Compares, IsTestable, AreTestable};
+ghost use Rattle.clause_core.specs.Comparing.{SidesAreTestable};
 
 use crate::clauses::{Clause, Relation};
 use spec_core::Equation;

@@ -2,7 +2,9 @@
 
 ghost use Rattle.std.specs.Prelude.{◌≡◌, ◌↔◌, IsTrue, IfOk, MatchOption};
 ghost use Rattle.clause_core.specs.Equations.{IsEither, Among, IsIdentity};
-ghost use Rattle.clause_core.specs.NumberedEquations.{EquationAt, equations as equations_of, with_equations as with_other_equations, exchanged as exchanged_clause};
+ghost use Rattle.clause_core.specs.NumberedEquations.{EquationAt, equations as equations_of};
+ghost use Rattle.clause_core.specs.NumberedEquations.{with_equations as with_other_equations};
+ghost use Rattle.clause_core.specs.NumberedEquations.{exchanged as exchanged_clause};
 
 use crate::clauses::Clause;
 use crate::instances::copy_sorts;

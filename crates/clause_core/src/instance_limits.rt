@@ -12,7 +12,7 @@ use crate::clauses::Clause;
 use crate::limits::{MOST_EQUATIONS, MOST_LEVELS, MOST_SYMBOLS};
 use spec_core::Equation;
 use substitutions::Subst;
-use term_core::{TermNode, Term};
+use term_core::{Term, TermNode};
 
 /// Whether the clause with the entries of `theta` put in is within the limits of a clause in a
 /// proof. The instance is not built, and no side of it is walked much further than the limits: a

@@ -3,7 +3,8 @@
 ghost use Rattle.std.specs.Prelude.{◌≡◌, IfOk, MatchOption};
 ghost use Rattle.term_core.specs.Tree.{Tree};
 ghost use Rattle.term_core.specs.Places.{IsAt, IsReplaced};
-ghost use Rattle.clause_core.specs.Places.{TermAt, side as side_of, with_side, holding as holding_clause};
+ghost use Rattle.clause_core.specs.Places.{TermAt, side as side_of, with_side};
+ghost use Rattle.clause_core.specs.Places.{holding as holding_clause};
 
 use crate::clauses::Clause;
 use crate::steps::Place;

@@ -14,7 +14,7 @@ use crate::equations::copy_equations;
 use spec_core::{Equation, Goal, VarInfo};
 use std::alloc::Global;
 use std::mem;
-use term_core::{TermNode, OutOfMemory, Seq, SortId, Term, VarId};
+use term_core::{OutOfMemory, Seq, SortId, Term, TermNode, VarId};
 
 /// The clause with its variables numbered by first occurrence, premises before conclusions and
 /// left sides before right ones. Variables that don't occur are left out. Terms

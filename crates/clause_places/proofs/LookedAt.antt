@@ -1,5 +1,6 @@
 -- What patterns look at in a term, by what their arguments look at in its arguments.
-use Rattle.std.proofs.Common.{◌≡◌, ℕ, suc, ◌+◌, ◌<◌, List, [], ◌∷◌, ◌++◌, Bool, true, false, ◌||◌, ◌&&◌, cond, Option, Some, None, refl, ap, sym, ◌∙◌, arith, length, map, filter, take, drop, get_or}
+use Rattle.std.proofs.Common.{◌≡◌, ℕ, suc, ◌+◌, ◌<◌, List, [], ◌∷◌, ◌++◌, Bool, true, false, ◌||◌, ◌&&◌, cond, Option}
+use Rattle.std.proofs.Common.{Some, None, refl, ap, sym, ◌∙◌, arith, length, map, filter, take, drop, get_or}
 use Rattle.std.specs.Prelude.{slice_get, option_to_list}
 use Rattle.std.specs.List.{list_any}
 use Rattle.std.proofs.lemmas.List.{map-append}
@@ -8,7 +9,8 @@ use Rattle.term_core.specs.Tree.{Tree, Trees, var, app, some, trees_of, list_of}
 use Rattle.spec_core.specs.declared.records.Rule.{Rule}
 use Rattle.spec_core.specs.declared.records.Spec.{Spec}
 use Rattle.spec_core.specs.Sig.{Sig}
-use Rattle.clause_places.specs.Asked.{variable_paths, variable_paths_from, constructor_at, is_call_of, looks_at, asked_by}
+use Rattle.clause_places.specs.Asked.{variable_paths, variable_paths_from, constructor_at, is_call_of, looks_at}
+use Rattle.clause_places.specs.Asked.{asked_by}
 use Rattle.clause_places.specs.Demand.{left_sides_of, arguments_at, some_look_at, looked_at}
 use Rattle.clause_places.proofs.Firsts.{from_item, first_before, first_behind}
 

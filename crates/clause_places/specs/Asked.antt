@@ -1,5 +1,6 @@
 -- The variable that the calls of a clause ask for: one whose value a rule looks at before it fits.
-use Rattle.std.specs.Prelude.{ℕ, suc, pred, ◌==◌, nat_lt, ◌&&◌, Bool, false, List, [], ◌∷◌, ◌++◌, map, filter, flat_map, take, slice_get, Option, Some, None}
+use Rattle.std.specs.Prelude.{ℕ, suc, pred, ◌==◌, nat_lt, ◌&&◌, Bool, false, List, [], ◌∷◌, ◌++◌, map, filter}
+use Rattle.std.specs.Prelude.{flat_map, take, slice_get, Option, Some, None}
 use Rattle.std.specs.List.{list_any}
 use Rattle.term_core.specs.Tree.{Tree, Trees, var, app, none, some, list_of}
 use Rattle.spec_core.specs.declared.records.Rule.{Rule}

@@ -1,5 +1,6 @@
 -- Variables at whose paths some of a few patterns have constructors, one argument after the other.
-use Rattle.std.specs.Prelude.{◌≡◌, ℕ, Bool, List, map, filter, take, slice_get, Option, Some, None, option_map, option_to_list}
+use Rattle.std.specs.Prelude.{◌≡◌, ℕ, Bool, List, map, filter, take, slice_get, Option, Some, None, option_map}
+use Rattle.std.specs.Prelude.{option_to_list}
 use Rattle.std.specs.List.{list_any, flat_map}
 use Rattle.term_core.specs.Tree.{Tree, var, app, list_of}
 use Rattle.term_core.specs.declared.ids.VarId.{VarId}

@@ -10,7 +10,7 @@ use crate::patterns::{left_sides, looked_at_in_terms};
 use clause_core::Clause;
 use spec_core::{Equation, Spec};
 use std::alloc::Global;
-use term_core::{TermNode, OutOfMemory, SymId, Term, VarId};
+use term_core::{OutOfMemory, SymId, Term, TermNode, VarId};
 
 /// The first variable that the first place asks for, if some place asks. Once a variable is
 /// found, no other place is looked at.

@@ -2,12 +2,14 @@
 
 ghost use Rattle.std.specs.Prelude.{◌≡◌, [], Some, None, IfOk, MatchOption};
 ghost use Rattle.term_core.specs.Tree.{trees_of};
-ghost use Rattle.clause_places.specs.Asked.{is_call_of as is_call, constructor_at, variable_paths, variable_paths_from};
-ghost use Rattle.clause_places.specs.Demand.{IsFirst, left_sides_of, argument_at, arguments_at, some_look_at, looked_at};
+ghost use Rattle.clause_places.specs.Asked.{is_call_of as is_call, constructor_at, variable_paths};
+ghost use Rattle.clause_places.specs.Asked.{variable_paths_from};
+ghost use Rattle.clause_places.specs.Demand.{IsFirst, left_sides_of, argument_at, arguments_at};
+ghost use Rattle.clause_places.specs.Demand.{some_look_at, looked_at};
 
 use spec_core::{Rule, Signature};
 use std::alloc::Global;
-use term_core::{TermNode, OutOfMemory, SymId, Term, TermRefs, VarId};
+use term_core::{OutOfMemory, SymId, Term, TermNode, TermRefs, VarId};
 
 /// The left sides of the function's rules.
 pub(crate) fn left_sides<'a>(

@@ -9,7 +9,7 @@ ghost use Rattle.clause_places.specs.Counts.{counts_of};
 
 use spec_core::Equation;
 use std::alloc::Global;
-use term_core::{TermNode, OutOfMemory, Term, TermRefs};
+use term_core::{OutOfMemory, Term, TermNode, TermRefs};
 
 /// For how many terms there is room from the start: as many as fit a small allocation, and as a
 /// clause of usual size has.

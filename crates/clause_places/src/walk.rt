@@ -13,7 +13,7 @@ use crate::terms::Counts;
 use clause_core::Place;
 use spec_core::Equation;
 use std::alloc::Global;
-use term_core::{TermNode, OutOfMemory, Seq, Term};
+use term_core::{OutOfMemory, Seq, Term, TermNode};
 
 /// A side of an equation of a clause: a place but for its path.
 #[derive(Clone, Copy)]

@@ -1,5 +1,6 @@
 -- The table of commands: each entry is its command, and no two have one name.
-use Rattle.std.proofs.Common.{◌≡◌, ◌≢◌, ◌∙◌, ◌<◌, ◌+◌, ◌⊎◌, inl, inr, ℕ, zero, suc, not, true, false, true≢false, Bool, ◌&&◌, List}
+use Rattle.std.proofs.Common.{◌≡◌, ◌≢◌, ◌∙◌, ◌<◌, ◌+◌, ◌⊎◌, inl, inr, ℕ, zero, suc, not, true, false, true≢false, Bool}
+use Rattle.std.proofs.Common.{◌&&◌, List}
 use Rattle.std.proofs.Common.{[], ◌∷◌, ◌++◌, sym, subst, refl, ap, map, take, get_or, length, add-one}
 use Rattle.std.proofs.Math.Seq.{take-suc}
 use Rattle.std.proofs.lemmas.List.{map-append}

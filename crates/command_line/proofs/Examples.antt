@@ -103,60 +103,114 @@ refused = record {
 }
 
 -- a text of digits has the number that it writes
-number : (rows : List Row) (name : Text) (range : NumberRange) (n : ℕ) (text : Text) → one_of name rows ≡ Some text → IsNumeral 10 (without_leading_plus text)
+number : (rows : List Row) (name : Text) (range : NumberRange) (n : ℕ) (text : Text) →
+    one_of name rows ≡ Some text → IsNumeral 10 (without_leading_plus text)
     → digits_value 10 (without_leading_plus text) ≡ n → range.least ≤ n → n ≤ range.most → HasNumber rows name range n
 number rows name range n text found digits value least most =
-    record { text = text; found = found; writes = record { digits = digits; value = value }; least = least; most = most }
+    record {
+      text = text;
+      found = found;
+      writes = record { digits = digits; value = value };
+      least = least;
+      most = most;
+    }
 
-usual_steps : (rows : List Row) → one_of (codes "steps") rows ≡ Some (codes "1000") → HasNumber rows (codes "steps") STEPS 1000
+usual_steps : (rows : List Row) → one_of (codes "steps") rows ≡ Some (codes "1000") →
+    HasNumber rows (codes "steps") STEPS 1000
 usual_steps rows found =
-    number rows (codes "steps") STEPS 1000 (codes "1000") found (omega arith, (omega arith, (omega arith, (omega arith, (omega arith, tt))))) refl (omega arith) (omega arith)
+    number rows (codes "steps") STEPS 1000 (codes "1000") found (
+      omega arith,
+      (omega arith, (omega arith, (omega arith, (omega arith, tt)))),
+    ) refl (omega arith) (omega arith)
 
-has_usual_search : (rows : List Row) → one_of (codes "depth") rows ≡ Some (codes "3") → one_of (codes "tries") rows ≡ Some (codes "10000") → one_of (codes "steps") rows ≡ Some (codes "1000")
+has_usual_search : (rows : List Row) → one_of (codes "depth") rows ≡ Some (codes "3") →
+    one_of (codes "tries") rows ≡ Some (codes "10000") → one_of (codes "steps") rows ≡ Some (codes "1000")
     → AreBounds rows usual_search
 has_usual_search rows depth tries steps = record {
-  depth = number rows (codes "depth") DEPTHS 3 (codes "3") depth (omega arith, (omega arith, tt)) refl (omega arith) (omega arith);
-  tries = number rows (codes "tries") TRIES 10000 (codes "10000") tries (omega arith, (omega arith, (omega arith, (omega arith, (omega arith, (omega arith, tt)))))) refl (omega arith) (omega arith);
+  depth = number rows (codes "depth") DEPTHS 3 (codes "3") depth (omega arith, (omega arith, tt)) refl
+      (omega arith) (omega arith);
+  tries = number rows (codes "tries") TRIES 10000 (codes "10000") tries (
+    omega arith,
+    (omega arith, (omega arith, (omega arith, (omega arith, (omega arith, tt))))),
+  ) refl (omega arith) (omega arith);
   steps = usual_steps rows steps;
 }
 
-given_bounds : (rows : List Row) → one_of (codes "depth") rows ≡ Some (codes "+0") → one_of (codes "tries") rows ≡ Some (codes "007") → one_of (codes "steps") rows ≡ Some (codes "2000")
+given_bounds : (rows : List Row) → one_of (codes "depth") rows ≡ Some (codes "+0") →
+    one_of (codes "tries") rows ≡ Some (codes "007") → one_of (codes "steps") rows ≡ Some (codes "2000")
     → AreBounds rows given
 given_bounds rows depth tries steps = record {
-  depth = number rows (codes "depth") DEPTHS 0 (codes "+0") depth (omega arith, (omega arith, tt)) refl (omega arith) (omega arith);
-  tries = number rows (codes "tries") TRIES 7 (codes "007") tries (omega arith, (omega arith, (omega arith, (omega arith, tt)))) refl (omega arith) (omega arith);
-  steps = number rows (codes "steps") STEPS 2000 (codes "2000") steps (omega arith, (omega arith, (omega arith, (omega arith, (omega arith, tt))))) refl (omega arith) (omega arith);
+  depth = number rows (codes "depth") DEPTHS 0 (codes "+0") depth (omega arith, (omega arith, tt)) refl
+      (omega arith) (omega arith);
+  tries = number rows (codes "tries") TRIES 7 (codes "007") tries (
+    omega arith,
+    (omega arith, (omega arith, (omega arith, tt))),
+  ) refl (omega arith) (omega arith);
+  steps = number rows (codes "steps") STEPS 2000 (codes "2000") steps (
+    omega arith,
+    (omega arith, (omega arith, (omega arith, (omega arith, tt)))),
+  ) refl (omega arith) (omega arith);
 }
 
 plain : Asks (refute (codes "a" ∷ [])) (codes "a") (refuting usual_search)
 unfolding clap_on_literals
-plain = record { named = refl; taken = refl; file_is = refl; task_is = has_usual_search (matches_of refute_app (refute (codes "a" ∷ []))) refl refl refl }
+plain = record {
+  named = refl;
+  taken = refl;
+  file_is = refl;
+  task_is = has_usual_search
+      (matches_of refute_app (refute (codes "a" ∷ []))) refl refl refl;
+}
 
 abbrev all_numbers : List Text
 all_numbers = codes "--depth" ∷ codes "+0" ∷ codes "--tries=007" ∷ codes "a" ∷ codes "--steps" ∷ codes "2000" ∷ []
 
 numbers : Asks (refute all_numbers) (codes "a") (refuting given)
 unfolding clap_on_literals
-numbers = record { named = refl; taken = refl; file_is = refl; task_is = given_bounds (matches_of refute_app (refute all_numbers)) refl refl refl }
+numbers = record {
+  named = refl;
+  taken = refl;
+  file_is = refl;
+  task_is = given_bounds
+      (matches_of refute_app (refute all_numbers)) refl refl refl;
+}
 
 behind_dashes : Asks (refute (codes "--" ∷ codes "--help" ∷ [])) (codes "--help") (refuting usual_search)
 unfolding clap_on_literals
-behind_dashes = record { named = refl; taken = refl; file_is = refl; task_is = has_usual_search (matches_of refute_app (refute (codes "--" ∷ codes "--help" ∷ []))) refl refl refl }
+behind_dashes = record {
+  named = refl;
+  taken = refl;
+  file_is = refl;
+  task_is = has_usual_search
+      (matches_of refute_app (refute (codes "--" ∷ codes "--help" ∷ []))) refl refl refl;
+}
 
-proof_bounds : (rows : List Row) → AreBounds rows usual_search → one_of (codes "plain") rows ≡ Some (codes "500") → one_of (codes "nodes") rows ≡ Some (codes "2000")
+proof_bounds : (rows : List Row) → AreBounds rows usual_search →
+    one_of (codes "plain") rows ≡ Some (codes "500") → one_of (codes "nodes") rows ≡ Some (codes "2000")
     → AreProofBounds rows usual_bounds
 proof_bounds rows bounds plain nodes = record {
   search = bounds;
-  plain = number rows (codes "plain") PLAIN 500 (codes "500") plain (omega arith, (omega arith, (omega arith, (omega arith, tt)))) refl (omega arith) (omega arith);
-  nodes = number rows (codes "nodes") NODES 2000 (codes "2000") nodes (omega arith, (omega arith, (omega arith, (omega arith, (omega arith, tt))))) refl (omega arith) (omega arith);
+  plain = number rows (codes "plain") PLAIN 500 (codes "500") plain (
+    omega arith,
+    (omega arith, (omega arith, (omega arith, tt))),
+  ) refl (omega arith) (omega arith);
+  nodes = number rows (codes "nodes") NODES 2000 (codes "2000") nodes (
+    omega arith,
+    (omega arith, (omega arith, (omega arith, (omega arith, tt)))),
+  ) refl (omega arith) (omega arith);
 }
 
-given_proof_bounds : (rows : List Row) → AreBounds rows usual_search → one_of (codes "plain") rows ≡ Some (codes "1000") → one_of (codes "nodes") rows ≡ Some (codes "0")
+given_proof_bounds : (rows : List Row) → AreBounds rows usual_search →
+    one_of (codes "plain") rows ≡ Some (codes "1000") → one_of (codes "nodes") rows ≡ Some (codes "0")
     → AreProofBounds rows given_proof
 given_proof_bounds rows bounds plain nodes = record {
   search = bounds;
-  plain = number rows (codes "plain") PLAIN 1000 (codes "1000") plain (omega arith, (omega arith, (omega arith, (omega arith, (omega arith, tt))))) refl (omega arith) (omega arith);
-  nodes = number rows (codes "nodes") NODES 0 (codes "0") nodes (omega arith, (omega arith, tt)) refl (omega arith) (omega arith);
+  plain = number rows (codes "plain") PLAIN 1000 (codes "1000") plain (
+    omega arith,
+    (omega arith, (omega arith, (omega arith, (omega arith, tt)))),
+  ) refl (omega arith) (omega arith);
+  nodes = number rows (codes "nodes") NODES 0 (codes "0") nodes (omega arith, (omega arith, tt)) refl
+      (omega arith) (omega arith);
 }
 
 abbrev prove_rows : List Text → List Row
@@ -166,64 +220,149 @@ proved : Asks (prove (codes "a" ∷ [])) (codes "a") (proving usual_bounds)
 unfolding clap_on_literals
 proved =
     let rows = prove_rows (codes "a" ∷ []) in
-    record { named = refl; taken = refl; file_is = refl; task_is = proof_bounds rows (has_usual_search rows refl refl refl) refl refl }
+    record {
+      named = refl;
+      taken = refl;
+      file_is = refl;
+      task_is = proof_bounds rows
+          (has_usual_search rows refl refl refl) refl refl;
+    }
 
-proof_numbers : Asks (prove (codes "a" ∷ codes "--nodes=0" ∷ codes "--plain" ∷ codes "1000" ∷ [])) (codes "a") (proving given_proof)
+proof_numbers : Asks (prove (codes "a" ∷ codes "--nodes=0" ∷ codes "--plain" ∷ codes "1000" ∷ [])) (codes "a")
+    (proving given_proof)
 unfolding clap_on_literals
 proof_numbers =
     let rows = prove_rows (codes "a" ∷ codes "--nodes=0" ∷ codes "--plain" ∷ codes "1000" ∷ []) in
-    record { named = refl; taken = refl; file_is = refl; task_is = given_proof_bounds rows (has_usual_search rows refl refl refl) refl refl }
+    record {
+      named = refl;
+      taken = refl;
+      file_is = refl;
+      task_is = given_proof_bounds rows
+          (has_usual_search rows refl refl refl) refl refl;
+    }
 
-least_bounds : (rows : List Row) → one_of (codes "depth") rows ≡ Some (codes "0") → one_of (codes "tries") rows ≡ Some (codes "1") → one_of (codes "steps") rows ≡ Some (codes "1")
-    → one_of (codes "plain") rows ≡ Some (codes "0") → one_of (codes "nodes") rows ≡ Some (codes "0") → AreProofBounds rows least_numbers
+least_bounds : (rows : List Row) → one_of (codes "depth") rows ≡ Some (codes "0") →
+    one_of (codes "tries") rows ≡ Some (codes "1") → one_of (codes "steps") rows ≡ Some (codes "1")
+    → one_of (codes "plain") rows ≡ Some (codes "0") → one_of (codes "nodes") rows ≡ Some (codes "0") →
+    AreProofBounds rows least_numbers
 least_bounds rows depth tries steps plain nodes = record {
   search = record {
-    depth = number rows (codes "depth") DEPTHS 0 (codes "0") depth (omega arith, (omega arith, tt)) refl (omega arith) (omega arith);
-    tries = number rows (codes "tries") TRIES 1 (codes "1") tries (omega arith, (omega arith, tt)) refl (omega arith) (omega arith);
-    steps = number rows (codes "steps") STEPS 1 (codes "1") steps (omega arith, (omega arith, tt)) refl (omega arith) (omega arith);
+    depth = number rows (codes "depth") DEPTHS 0 (codes "0") depth (omega arith, (omega arith, tt)) refl
+        (omega arith) (omega arith);
+    tries = number rows (codes "tries") TRIES 1 (codes "1") tries (omega arith, (omega arith, tt)) refl
+        (omega arith) (omega arith);
+    steps = number rows (codes "steps") STEPS 1 (codes "1") steps (omega arith, (omega arith, tt)) refl
+        (omega arith) (omega arith);
   };
-  plain = number rows (codes "plain") PLAIN 0 (codes "0") plain (omega arith, (omega arith, tt)) refl (omega arith) (omega arith);
-  nodes = number rows (codes "nodes") NODES 0 (codes "0") nodes (omega arith, (omega arith, tt)) refl (omega arith) (omega arith);
+  plain = number rows (codes "plain") PLAIN 0 (codes "0") plain (omega arith, (omega arith, tt)) refl
+      (omega arith) (omega arith);
+  nodes = number rows (codes "nodes") NODES 0 (codes "0") nodes (omega arith, (omega arith, tt)) refl
+      (omega arith) (omega arith);
 }
 
-greatest_bounds : (rows : List Row) → one_of (codes "depth") rows ≡ Some (codes "8") → one_of (codes "tries") rows ≡ Some (codes "1000000") → one_of (codes "steps") rows ≡ Some (codes "100000")
-    → one_of (codes "plain") rows ≡ Some (codes "1000") → one_of (codes "nodes") rows ≡ Some (codes "10000") → AreProofBounds rows greatest_numbers
+greatest_bounds : (rows : List Row) → one_of (codes "depth") rows ≡ Some (codes "8") →
+    one_of (codes "tries") rows ≡ Some (codes "1000000") → one_of (codes "steps") rows ≡ Some (codes "100000")
+    → one_of (codes "plain") rows ≡ Some (codes "1000") → one_of (codes "nodes") rows ≡ Some (codes "10000") →
+    AreProofBounds rows greatest_numbers
 greatest_bounds rows depth tries steps plain nodes = record {
   search = record {
-    depth = number rows (codes "depth") DEPTHS 8 (codes "8") depth (omega arith, (omega arith, tt)) refl (omega arith) (omega arith);
-    tries = number rows (codes "tries") TRIES 1000000 (codes "1000000") tries (omega arith, (omega arith, (omega arith, (omega arith, (omega arith, (omega arith, (omega arith, (omega arith, tt)))))))) refl (omega arith) (omega arith);
-    steps = number rows (codes "steps") STEPS 100000 (codes "100000") steps (omega arith, (omega arith, (omega arith, (omega arith, (omega arith, (omega arith, (omega arith, tt))))))) refl (omega arith) (omega arith);
+    depth = number rows (codes "depth") DEPTHS 8 (codes "8") depth (omega arith, (omega arith, tt)) refl
+        (omega arith) (omega arith);
+    tries = number rows (codes "tries") TRIES 1000000 (codes "1000000") tries (
+      omega arith,
+      (
+        omega arith,
+        (
+          omega arith,
+          (omega arith, (omega arith, (omega arith, (omega arith, (omega arith, tt))))),
+        ),
+      ),
+    ) refl (omega arith)
+        (omega arith);
+    steps = number rows (codes "steps") STEPS 100000 (codes "100000") steps (
+      omega arith,
+      (omega arith, (omega arith, (omega arith, (omega arith, (omega arith, (omega arith, tt)))))),
+    ) refl
+        (omega arith) (omega arith);
   };
-  plain = number rows (codes "plain") PLAIN 1000 (codes "1000") plain (omega arith, (omega arith, (omega arith, (omega arith, (omega arith, tt))))) refl (omega arith) (omega arith);
-  nodes = number rows (codes "nodes") NODES 10000 (codes "10000") nodes (omega arith, (omega arith, (omega arith, (omega arith, (omega arith, (omega arith, tt)))))) refl (omega arith) (omega arith);
+  plain = number rows (codes "plain") PLAIN 1000 (codes "1000") plain (
+    omega arith,
+    (omega arith, (omega arith, (omega arith, (omega arith, tt)))),
+  ) refl (omega arith) (omega arith);
+  nodes = number rows (codes "nodes") NODES 10000 (codes "10000") nodes (
+    omega arith,
+    (omega arith, (omega arith, (omega arith, (omega arith, (omega arith, tt))))),
+  ) refl (omega arith) (omega arith);
 }
 
 least : Asks (prove least_words) (codes "a") (proving least_numbers)
 unfolding clap_on_literals
-least = record { named = refl; taken = refl; file_is = refl; task_is = least_bounds (prove_rows least_words) refl refl refl refl refl }
+least = record {
+  named = refl;
+  taken = refl;
+  file_is = refl;
+  task_is = least_bounds (prove_rows least_words)
+      refl refl refl refl refl;
+}
 
 greatest : Asks (prove greatest_words) (codes "a") (proving greatest_numbers)
 unfolding clap_on_literals
-greatest = record { named = refl; taken = refl; file_is = refl; task_is = greatest_bounds (prove_rows greatest_words) refl refl refl refl refl }
+greatest = record {
+  named = refl;
+  taken = refl;
+  file_is = refl;
+  task_is = greatest_bounds
+      (prove_rows greatest_words) refl refl refl refl refl;
+}
 
 one_dash : Asks (eval (codes "-" ∷ codes "x" ∷ [])) (codes "-") (evaluating (codes "x") 1000)
 unfolding clap_on_literals
-one_dash = record { named = refl; taken = refl; file_is = refl; task_is = (refl, usual_steps (matches_of eval_app (eval (codes "-" ∷ codes "x" ∷ []))) refl) }
+one_dash = record {
+  named = refl;
+  taken = refl;
+  file_is = refl;
+  task_is = (
+    refl,
+    usual_steps (matches_of eval_app (eval (codes "-" ∷ codes "x" ∷ []))) refl,
+  );
+}
 
 empty : Asks (eval (codes "" ∷ codes "help" ∷ [])) (codes "") (evaluating (codes "help") 1000)
 unfolding clap_on_literals
-empty = record { named = refl; taken = refl; file_is = refl; task_is = (refl, usual_steps (matches_of eval_app (eval (codes "" ∷ codes "help" ∷ []))) refl) }
+empty = record {
+  named = refl;
+  taken = refl;
+  file_is = refl;
+  task_is = (
+    refl,
+    usual_steps (matches_of eval_app (eval (codes "" ∷ codes "help" ∷ []))) refl,
+  );
+}
 
-print_is : (rows : List Row) (print : Bool) (text : Text) → first_of (codes "print") rows ≡ Some text → print ≡ bytes_eq text (codes "true") → IsTrue print ↔ IsGiven rows (codes "print")
-print_is rows print text found same = text_compared (first_of (codes "print") rows) text (codes "true") print (sym found) same
+print_is : (rows : List Row) (print : Bool) (text : Text) → first_of (codes "print") rows ≡ Some text →
+    print ≡ bytes_eq text (codes "true") → IsTrue print ↔ IsGiven rows (codes "print")
+print_is rows print text found same = text_compared (first_of (codes "print") rows) text (codes "true") print
+    (sym found) same
 
 printed : Asks (check (codes "--print" ∷ codes "a" ∷ [])) (codes "a") (checking true)
 unfolding clap_on_literals
-printed = record { named = refl; taken = refl; file_is = refl; task_is = print_is (matches_of check_app (check (codes "--print" ∷ codes "a" ∷ []))) true (codes "true") refl refl }
+printed = record {
+  named = refl;
+  taken = refl;
+  file_is = refl;
+  task_is = print_is
+      (matches_of check_app (check (codes "--print" ∷ codes "a" ∷ []))) true (codes "true") refl refl;
+}
 
 unprinted : Asks (check (codes "a" ∷ [])) (codes "a") (checking false)
 unfolding clap_on_literals
-unprinted = record { named = refl; taken = refl; file_is = refl; task_is = print_is (matches_of check_app (check (codes "a" ∷ []))) false (codes "false") refl refl }
+unprinted = record {
+  named = refl;
+  taken = refl;
+  file_is = refl;
+  task_is = print_is
+      (matches_of check_app (check (codes "a" ∷ []))) false (codes "false") refl refl;
+}
 
 replayed : Asks (replay (codes "a" ∷ codes "b" ∷ [])) (codes "a") (replaying (codes "b"))
 unfolding clap_on_literals

@@ -1,5 +1,6 @@
 -- A parse of a flat command has a text for each of its positional words and numbers.
-use Rattle.std.proofs.Common.{refl, ◌≡◌, ◌∙◌, ◌<◌, ◌≤◌, ap, ℕ, true, List, [], ◌∷◌, length, is_some, Option, Some, None, sym, subst, inl, inr, arith}
+use Rattle.std.proofs.Common.{refl, ◌≡◌, ◌∙◌, ◌<◌, ◌≤◌, ap, ℕ, true, List, [], ◌∷◌, length, is_some, Option, Some}
+use Rattle.std.proofs.Common.{None, sym, subst, inl, inr, arith}
 use Rattle.std.specs.List.{slice_index_or}
 use Rattle.std.specs.Str.{bytes_eq}
 use Rattle.std.specs.Prelude.{slice_get, option_and_then, option_map}
@@ -44,7 +45,9 @@ head (x ∷ xs) lt = x
 is_matched : (f : Found) (id : Text) → is_some (first_value f id) ≡ true → is_some (matched_of f id) ≡ true
 is_matched f id has = by (matched_of f id) has
   where
-    by : (o : Option MatchedArg) → is_some (option_and_then (λ (a : MatchedArg). option_map (λ (s : Bor (List ℕ)). s.now) (slice_get a.vals.items 0)) o) ≡ true → is_some o ≡ true
+    by : (o : Option MatchedArg) →
+        is_some (option_and_then (λ (a : MatchedArg). option_map (λ (s : Bor (List ℕ)). s.now)
+        (slice_get a.vals.items 0)) o) ≡ true → is_some o ≡ true
     by None has = has
     by (Some x) has = refl
 
@@ -57,22 +60,34 @@ module _ (c : Command) (m : ArgMatches) (flat : IsFlat (app_of c)) (p : IsParsed
       let frees = free_args c simple flat.free in
       let parts = both (has_simple_rules (shape_of c)) _ flat.ready in
       let rules = both (shape_of c).is_plain _ parts.0 in
-      let groups = simple_groups c rules.1 in
-      ((λ k d lt. ((frees k d lt).exclusive, (frees k d lt).conflicts, (frees k d lt).overrides, groups k d lt)), simple.groups)
+      let groups = simple_groups c rules.1 in (
+        (λ k d lt. (
+          (frees k d lt).exclusive,
+          (frees k d lt).conflicts,
+          (frees k d lt).overrides,
+          groups k d lt,
+        )),
+        simple.groups,
+      )
 
-  rule_at : (k : ℕ) (d : Arg) → k < length (args_of c) → rule_of (slice_index_or (args_of c) k d) ≡ slice_index_or (app_of c).top.rules k (rule_of d)
+  rule_at : (k : ℕ) (d : Arg) → k < length (args_of c) →
+      rule_of (slice_index_or (args_of c) k d) ≡ slice_index_or (app_of c).top.rules k (rule_of d)
   rule_at k d lt = sym (get_or-map rule_of (args_of c) k d (rule_of d) lt)
 
   -- no two arguments have one name
   unique : (k : ℕ) (d : Arg) → k < length (args_of c) → (j : ℕ) (e : Arg) → j < length (args_of c)
       → bytes_eq (slice_index_or (args_of c) j e).id.now (slice_index_or (args_of c) k d).id.now ≡ true → j ≡ k
   unique k d lt j e low same =
-      let at_j : (slice_index_or (args_of c) j e).id.now ≡ (slice_index_or (app_of c).top.rules j (rule_of e)).id = ap (λ (r : Rule). r.id) (rule_at j e low) in
-      let at_k : (slice_index_or (args_of c) k d).id.now ≡ (slice_index_or (app_of c).top.rules k (rule_of d)).id = ap (λ (r : Rule). r.id) (rule_at k d lt) in
-      distinct_rules (app_of c).top.rules flat.names j k (rule_of d) (rule_of e) (rw (length-map (args_of c) rule_of) low) (rw (length-map (args_of c) rule_of) lt) (rw (← at_j, ← at_k) same)
+      let at_j : (slice_index_or (args_of c) j e).id.now ≡ (slice_index_or (app_of c).top.rules j
+      (rule_of e)).id = ap (λ (r : Rule). r.id) (rule_at j e low) in
+      let at_k : (slice_index_or (args_of c) k d).id.now ≡ (slice_index_or (app_of c).top.rules k
+      (rule_of d)).id = ap (λ (r : Rule). r.id) (rule_at k d lt) in
+      distinct_rules (app_of c).top.rules flat.names j k (rule_of d) (rule_of e)
+      (rw (length-map (args_of c) rule_of) low) (rw (length-map (args_of c) rule_of) lt) (rw (← at_j, ← at_k) same)
 
   owned : (k : ℕ) (d : Arg) → k < length (args_of c) → is_own (slice_index_or (args_of c) k d).id.now ≡ true
-  owned k d lt = ap (λ (r : Rule). is_own r.id) (rule_at k d lt) ∙ own_at (app_of c).top.rules k (rule_of d) flat.names (rw (length-map (args_of c) rule_of) lt)
+  owned k d lt = ap (λ (r : Rule). is_own r.id) (rule_at k d lt)
+      ∙ own_at (app_of c).top.rules k (rule_of d) flat.names (rw (length-map (args_of c) rule_of) lt)
 
   -- no argument is one that `clap` adds
   not_auto : (k : ℕ) (d : Arg) → k < length (args_of c) → IsAuto (slice_index_or (args_of c) k d) → ⊥
@@ -84,7 +99,8 @@ module _ (c : Command) (m : ArgMatches) (flat : IsFlat (app_of c)) (p : IsParsed
       ]
 
   -- an argument without a range of its own takes one value at least
-  takes_one : (k : ℕ) (d : Arg) (r : Rule) → rule_of (slice_index_or (args_of c) k d) ≡ r → r.range ≡ None → 1 ≤ least_values (slice_index_or (args_of c) k d)
+  takes_one : (k : ℕ) (d : Arg) (r : Rule) → rule_of (slice_index_or (args_of c) k d) ≡ r → r.range ≡ None →
+      1 ≤ least_values (slice_index_or (args_of c) k d)
   takes_one k d r same none =
       let range : (slice_index_or (args_of c) k d).num_vals ≡ None = ap (λ (x : Rule). x.range) same ∙ none in
       subst (λ (o : Option ValueRange). 1 ≤ (unwrap_or_range o).start_inclusive) (sym range) (omega arith)
@@ -98,37 +114,51 @@ module _ (c : Command) (m : ArgMatches) (flat : IsFlat (app_of c)) (p : IsParsed
       let low = inside k r is in
       head (args_of c) (omega (arith, low))
 
-  same_rule : (k : ℕ) (r : Rule) (is : slice_get (app_of c).top.rules k ≡ Some r) → rule_of (slice_index_or (args_of c) k (some_arg k r is)) ≡ r
-  same_rule k r is = rule_at k (some_arg k r is) (inside k r is) ∙ get_or_from_slice_get (app_of c).top.rules k r (rule_of (some_arg k r is)) is
+  same_rule : (k : ℕ) (r : Rule) (is : slice_get (app_of c).top.rules k ≡ Some r) →
+      rule_of (slice_index_or (args_of c) k (some_arg k r is)) ≡ r
+  same_rule k r is = rule_at k (some_arg k r is) (inside k r is) ∙ get_or_from_slice_get (app_of c).top.rules k
+      r (rule_of (some_arg k r is)) is
 
   -- a positional word has a text
-  pub word_there : (k : ℕ) (name : Text) → slice_get (app_of c).top.rules k ≡ Some (word_rule name) → HasSomeWord (rows_of (found_of m)) name
+  pub word_there : (k : ℕ) (name : Text) → slice_get (app_of c).top.rules k ≡ Some (word_rule name) →
+      HasSomeWord (rows_of (found_of m)) name
   word_there k name is =
       let d = some_arg k (word_rule name) is in
       let low = inside k (word_rule name) is in
       let same = same_rule k (word_rule name) is in
       let a = slice_index_or (args_of c) k d in
-      let has = required_has_value c m p plain simple.globals flat.negates k d low (ap (λ (x : Rule). x.required) same) (ap (λ (x : Rule). x.action) same)
-      (simple.args k d low).delimiter (takes_one k d (word_rule name) same refl) (unique k d low) (own_parts a.id.now (owned k d low)).0 (not_auto k d low) in
+      let has = required_has_value c m p plain simple.globals flat.negates k d low
+      (ap (λ (x : Rule). x.required) same) (ap (λ (x : Rule). x.action) same)
+      (simple.args k d low).delimiter (takes_one k d (word_rule name) same refl) (unique k d low)
+      (own_parts a.id.now (owned k d low)).0 (not_auto k d low) in
       let id_is : a.id.now ≡ name = ap (λ (x : Rule). x.id) same in
-      ap is_some (sym (first_value-rows (found_of m) name)) ∙ subst (λ (i : Text). is_some (first_value (found_of m) i) ≡ true) id_is has
+      ap is_some (sym (first_value-rows (found_of m) name))
+      ∙ subst (λ (i : Text). is_some (first_value (found_of m) i) ≡ true) id_is has
 
   -- an option with a usual number has a text that writes a number of its range
-  pub number_there : (k : ℕ) (name usual : Text) (range : NumberRange) → slice_get (app_of c).top.rules k ≡ Some (number_rule name range usual) → HasSomeNumber (rows_of (found_of m)) name range
+  pub number_there : (k : ℕ) (name usual : Text) (range : NumberRange) →
+      slice_get (app_of c).top.rules k ≡ Some (number_rule name range usual) →
+      HasSomeNumber (rows_of (found_of m)) name range
   number_there k name usual range is =
       let r = number_rule name range usual in
       let d = some_arg k r is in
       let low = inside k r is in
       let same = same_rule k r is in
       let a = slice_index_or (args_of c) k d in
-      let wants : WantsDefault a = ((simple.args k d low).default_ifs, some_default (items_of a.default_vals) usual (ap (λ (x : Rule). x.defaults) same)) in
-      let read = default_reads c m p plain simple.globals k d low (unique k d low) (own_parts a.id.now (owned k d low)).0 (not_auto k d low) (ap (λ (x : Rule). x.action) same)
-      (simple.args k d low).delimiter (takes_one k d r same refl) wants (Unsigned range.least range.most) (ap (λ (x : Rule). x.parser) same) in
+      let wants : WantsDefault a = (
+        (simple.args k d low).default_ifs,
+        some_default (items_of a.default_vals) usual (ap (λ (x : Rule). x.defaults) same),
+      ) in
+      let read = default_reads c m p plain simple.globals k d low (unique k d low)
+      (own_parts a.id.now (owned k d low)).0 (not_auto k d low) (ap (λ (x : Rule). x.action) same)
+      (simple.args k d low).delimiter (takes_one k d r same refl) wants (Unsigned range.least range.most)
+      (ap (λ (x : Rule). x.parser) same) in
       let id_is : a.id.now ≡ name = ap (λ (x : Rule). x.id) same in
       let passed = read.2 in
       record {
         text = read.0;
-        found = sym (one_text-rows (found_of m) name) ∙ subst (λ (i : Text). one_text (found_of m) i ≡ Some read.0) id_is read.1;
+        found = sym (one_text-rows (found_of m) name)
+            ∙ subst (λ (i : Text). one_text (found_of m) i ≡ Some read.0) id_is read.1;
         digits = passed.0;
         least = passed.2;
         most = passed.3;

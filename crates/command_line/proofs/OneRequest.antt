@@ -17,7 +17,8 @@ use Rattle.command_line.proofs.Entries.{one_name}
 one_text : (o : Option Text) (s t : Text) → o ≡ Some s → o ≡ Some t → s ≡ t
 one_text o s t is is_too = ap (λ (x : Option Text). unwrap_or x s) (sym is ∙ is_too)
 
-one_number : (rows : List Row) (name : Text) (range : NumberRange) (n m : ℕ) → HasNumber rows name range n → HasNumber rows name range m → n ≡ m
+one_number : (rows : List Row) (name : Text) (range : NumberRange) (n m : ℕ) → HasNumber rows name range n →
+    HasNumber rows name range m → n ≡ m
 one_number rows name range n m is is_too =
     let same = one_text _ is.text is_too.text is.found is_too.found in
     sym is.writes.value ∙ (ap (λ (text : Text). digits_value 10 (without_leading_plus text)) same ∙ is_too.writes.value)
@@ -61,7 +62,8 @@ pub one_task :
     Asks words other another → (file ≡ other) × (task ≡ another)
 one_task words file other task another asks asks_too =
     let kind = one_kind task another (one_name words _ _ asks.named asks_too.named) in
-    let back : matches_of (app_for another) words ≡ matches_of (app_for task) words = ap (λ (a : App). matches_of a words) (sym kind.0) in
+    let back : matches_of (app_for another) words ≡ matches_of (app_for task) words = ap
+    (λ (a : App). matches_of a words) (sym kind.0) in
     let file_too = subst (λ (r : List Row). HasWord r (codes "FILE") other) back asks_too.file_is in
     let task_too = subst (λ (r : List Row). Say r another) back asks_too.task_is in
     (one_text _ file other asks.file_is file_too, kind.1 _ asks.task_is task_too)

@@ -14,5 +14,6 @@ none_among [] e is (inl h) other = other h
 none_among [] e is (inr h) other = h
 none_among (k ∷ ks) e is h other = cc
 
-pub refused : (app : App) (words : List Text) (e : Error) → HasKind (fault_of app words) e → (kind_of e ≡ OutOfMemory → ⊥) → Takes app words → ⊥
+pub refused : (app : App) (words : List Text) (e : Error) → HasKind (fault_of app words) e →
+    (kind_of e ≡ OutOfMemory → ⊥) → Takes app words → ⊥
 refused app words e kinds other taken = none_among (fault_of app words) e taken kinds other

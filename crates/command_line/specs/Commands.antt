@@ -1,10 +1,12 @@
 -- What words ask for, as a value of the code.
 use Rattle.std.specs.Prelude.{ℕ, List, Option, Some, None}
 use Rattle.command_line.specs.declared.commands.Command.{Command}
-use Rattle.command_line.specs.declared.commands.Command.TheVariants.{Refute, Prove, Eval, Check, Replay, Upgrade, Trim, Session}
+use Rattle.command_line.specs.declared.commands.Command.TheVariants.{Refute, Prove, Eval, Check, Replay, Upgrade, Trim}
+use Rattle.command_line.specs.declared.commands.Command.TheVariants.{Session}
 use Rattle.command_line.specs.declared.commands.Request.{Request}
 use Rattle.command_line.specs.declared.commands.Request.TheVariants.{OnFile, Load}
-use Rattle.command_line.specs.Tasks.{Task, refuting, proving, evaluating, checking, replaying, upgrading, trimming, carrying_out, Asks, AsksToLoad, AskNothing}
+use Rattle.command_line.specs.Tasks.{Task, refuting, proving, evaluating, checking, replaying, upgrading, trimming}
+use Rattle.command_line.specs.Tasks.{carrying_out, Asks, AsksToLoad, AskNothing}
 
 abbrev pub file_of : Command → List ℕ
 file_of (Refute file bounds) = file.now

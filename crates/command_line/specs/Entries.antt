@@ -5,9 +5,11 @@ use Rattle.clap.specs.Words.{App, Row, Rule, Text, new_app}
 use Rattle.command_line.specs.declared.commands.Request.{Request}
 use Rattle.command_line.specs.declared.commands.Request.TheVariants.{OnFile, Load as load}
 use Rattle.command_line.specs.declared.table.Argument.{Argument}
-use Rattle.command_line.specs.declared.table.Argument.TheVariants.{File, Term, Report, Commands, Goals, Print, Depth, Tries, Steps, Plain, Nodes}
+use Rattle.command_line.specs.declared.table.Argument.TheVariants.{File, Term, Report, Commands, Goals, Print, Depth}
+use Rattle.command_line.specs.declared.table.Argument.TheVariants.{Tries, Steps, Plain, Nodes}
 use Rattle.command_line.specs.declared.table.CommandWord.{CommandWord}
-use Rattle.command_line.specs.declared.table.CommandWord.TheVariants.{Check, Eval, Prove, Refute, Replay, Load, Upgrade, Trim, Session}
+use Rattle.command_line.specs.declared.table.CommandWord.TheVariants.{Check, Eval, Prove, Refute, Replay, Load}
+use Rattle.command_line.specs.declared.table.CommandWord.TheVariants.{Upgrade, Trim, Session}
 use Rattle.command_line.specs.Ranges.{goals_range}
 use Rattle.command_line.specs.Rules.{word_rule, numeral_rule, flag_rule}
 use Rattle.command_line.specs.Apps.{with_rules, depth_rule, tries_rule, steps_rule, plain_rule, nodes_rule}

@@ -3,7 +3,8 @@ use Rattle.std.specs.Prelude.{List, [], ◌∷◌, true, false, codes}
 use Rattle.clap.specs.Words.{Text}
 use Rattle.command_line.specs.declared.bounds.SearchBounds.{SearchBounds}
 use Rattle.command_line.specs.declared.bounds.ProofBounds.{ProofBounds}
-use Rattle.command_line.specs.Tasks.{refuting, proving, evaluating, checking, replaying, upgrading, trimming, carrying_out, Asks, AsksToLoad, AskNothing}
+use Rattle.command_line.specs.Tasks.{refuting, proving, evaluating, checking, replaying, upgrading, trimming}
+use Rattle.command_line.specs.Tasks.{carrying_out, Asks, AsksToLoad, AskNothing}
 use Rattle.command_line.specs.Usual.{usual_search, usual_bounds}
 
 abbrev pub refute : List Text → List Text

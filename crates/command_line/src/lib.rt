@@ -2,8 +2,8 @@
 //!
 //! Uses term_core and `clap`, which has one simple command for each command word
 //! (`specs/Apps.antt`). One table has the commands, with what each takes (`table.rt`), and the
-//! usage line has their words in its order. No text of `clap` leaves this crate. A program with other
-//! commands makes its positional words by [`word`] and reads them by [`word_of`].
+//! usage line has their words in its order. No text of `clap` leaves this crate. A program with
+//! other commands makes its positional words by [`word`] and reads them by [`word_of`].
 //!
 //! Proved: `request_of` answers a command, or a number of goals, exactly where `clap` finds no
 //! fault in the words after a known command word. The answer has their words and numbers, usual

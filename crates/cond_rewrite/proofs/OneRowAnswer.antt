@@ -13,7 +13,8 @@ use Rattle.clause_core.proofs.OneStep.{step_one}
 use Rattle.cond_rewrite.specs.RowAnswers.{clause_of, AnswersClauses, RowAnswers}
 use Rattle.cond_rewrite.specs.Laws.{OneRowAnswer}
 
-clauses_one : (xs ys : List Clause) (a b : Result (List Clause) Why) → xs ≡ ys → AnswersClauses xs a → AnswersClauses ys b → a ≡ b
+clauses_one : (xs ys : List Clause) (a b : Result (List Clause) Why) → xs ≡ ys → AnswersClauses xs a →
+    AnswersClauses ys b → a ≡ b
 clauses_one xs ys a b e (inl p) (inl q) = p.1 ∙ ap (λ x. Ok x) e ∙ sym q.1
 clauses_one xs ys a b e (inl p) (inr q) = absurd (q.0 (subst (λ ds. AllByRecursion IsWithin ds) e p.0))
 clauses_one xs ys a b e (inr p) (inl q) = absurd (p.0 (subst (λ ds. AllByRecursion IsWithin ds) (sym e) q.0))
@@ -26,10 +27,13 @@ one (needs P why rest) (needs Q other next) h a b (inr p) (inl q) = absurd (p.0 
 one (needs P why rest) (needs Q other next) h a b (inr p) (inr q) = p.1 ∙ ap (λ w. Err w) h.2 ∙ sym q.1
 one (needs P why rest) (makes ds ss) h a b p q = absurd h
 one (makes cs rs) (needs Q other next) h a b p q = absurd h
-one (makes cs rs) (makes ds ss) h a b p q = clauses_one (map clause_of cs) (map clause_of ds) a b (ap (λ ms. map clause_of ms) h.0) p q
+one (makes cs rs) (makes ds ss) h a b p q = clauses_one (map clause_of cs) (map clause_of ds) a b
+    (ap (λ ms. map clause_of ms) h.0) p q
 
 pub one_row_answer : OneRowAnswer
 one_row_answer spec c place number a b fine = (
-  one (rule_row spec c place number) (rule_row spec c place number) (step_one spec fine c (λ n. ⊥) [] (RuleStep place number)) a b,
-  one (case_row spec c place number) (case_row spec c place number) (step_one spec fine c (λ n. ⊥) [] (Case place number)) a b,
+  one (rule_row spec c place number) (rule_row spec c place number)
+      (step_one spec fine c (λ n. ⊥) [] (RuleStep place number)) a b,
+  one (case_row spec c place number) (case_row spec c place number)
+      (step_one spec fine c (λ n. ⊥) [] (Case place number)) a b,
 )

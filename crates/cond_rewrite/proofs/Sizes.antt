@@ -1,5 +1,6 @@
 -- A clause is at least as large as a term that it holds, and as equations that are added to it.
-use Rattle.std.proofs.Common.{◌≡◌, ℕ, zero, suc, ◌+◌, ◌<◌, ◌≤◌, List, [], ◌∷◌, ◌++◌, Bool, true, false, Option, map, length, get_or, ap, ◌∙◌, arith}
+use Rattle.std.proofs.Common.{◌≡◌, ℕ, zero, suc, ◌+◌, ◌<◌, ◌≤◌, List, [], ◌∷◌, ◌++◌, Bool, true, false, Option, map}
+use Rattle.std.proofs.Common.{length, get_or, ap, ◌∙◌, arith}
 use Rattle.term_core.specs.Tree.{Tree, Trees, none, some, trees_of, tree_size, sizes}
 use Rattle.term_core.specs.Contexts.{Context, hole, under, around, plug}
 use Rattle.spec_core.specs.declared.records.Equation.{Equation}
@@ -46,33 +47,58 @@ size_with_side false e t = omega arith
 size_between : (es ds gs : List Equation) → size_of ds ≤ size_of (es ++ (ds ++ gs))
 size_between es ds gs = omega (arith, size_append es (ds ++ gs), size_append ds gs)
 
-size_exchanged : (kind : Bool) (c : Clause) (n : ℕ) (at : EquationAt (equations kind c) n) (es : List Equation) → size_of es ≤ clause_size (exchanged kind c at es)
-size_exchanged true c n at es = omega (arith, clause_size_is (exchanged true c at es), size_between at.before es at.after)
-size_exchanged false c n at es = omega (arith, clause_size_is (exchanged false c at es), size_between at.before es at.after)
+size_exchanged : (kind : Bool) (c : Clause) (n : ℕ) (at : EquationAt (equations kind c) n)
+    (es : List Equation) → size_of es ≤ clause_size (exchanged kind c at es)
+size_exchanged true c n at es = omega (
+  arith,
+  clause_size_is (exchanged true c at es),
+  size_between at.before es at.after,
+)
+size_exchanged false c n at es = omega (
+  arith,
+  clause_size_is (exchanged false c at es),
+  size_between at.before es at.after,
+)
 
 size_holding : (c : Clause) (place : Place) (p : TermAt c place) (t : Tree) → tree_size t ≤ clause_size (holding p t)
 size_holding c place p t =
-    omega (arith, size_plug p.round t, size_with_side place.left p.at.equation (plug p.round t), size_exchanged place.conclusion c place.number p.at (with_side place.left p.at.equation (plug p.round t) ∷ []))
+    omega (
+      arith,
+      size_plug p.round t,
+      size_with_side place.left p.at.equation (plug p.round t),
+      size_exchanged place.conclusion c place.number p.at (with_side place.left p.at.equation (plug p.round t) ∷ []),
+    )
 
 size_with_premises : (c : Clause) (es : List Equation) → clause_size (with_premises c es) ≡ clause_size c + size_of es
-size_with_premises c es = omega (arith, clause_size_is (with_premises c es), clause_size_is c, size_append c.premises es)
+size_with_premises c es = omega (
+  arith,
+  clause_size_is (with_premises c es),
+  clause_size_is c,
+  size_append c.premises es,
+)
 
 not_within : (c : Clause) → 4000 < clause_size c → IsWithin (tidied c) → ⊥
 not_within c large w = let s : clause_size c ≤ 4000 = ((tidied_within c).0 w).size in omega arith
 
 -- a clause that holds a large term passes the limits, also with further premises
-pub held_too_large : (c : Clause) (place : Place) (p : TermAt c place) (t : Tree) → 4000 < tree_size t → IsWithin (tidied (holding p t)) → ⊥
+pub held_too_large : (c : Clause) (place : Place) (p : TermAt c place) (t : Tree) → 4000 < tree_size t →
+    IsWithin (tidied (holding p t)) → ⊥
 held_too_large c place p t large = not_within (holding p t) (omega (arith, large, size_holding c place p t))
 
-pub split_too_large : (c : Clause) (place : Place) (p : TermAt c place) (t : Tree) (es : List Equation) → 4000 < tree_size t → IsWithin (tidied (with_premises (holding p t) es)) → ⊥
-split_too_large c place p t es large = not_within (with_premises (holding p t) es) (omega (arith, large, size_holding c place p t, size_with_premises (holding p t) es))
+pub split_too_large : (c : Clause) (place : Place) (p : TermAt c place) (t : Tree) (es : List Equation) →
+    4000 < tree_size t → IsWithin (tidied (with_premises (holding p t) es)) → ⊥
+split_too_large c place p t es large = not_within (with_premises (holding p t) es)
+    (omega (arith, large, size_holding c place p t, size_with_premises (holding p t) es))
 
 -- and so does one with large further premises
-pub premises_too_large : (d : Clause) (es : List Equation) → 4000 < size_of es → IsWithin (tidied (with_premises d es)) → ⊥
+pub premises_too_large : (d : Clause) (es : List Equation) → 4000 < size_of es →
+    IsWithin (tidied (with_premises d es)) → ⊥
 premises_too_large d es large = not_within (with_premises d es) (omega (arith, large, size_with_premises d es))
 
 -- the instance of one guard is no larger than those of all
-pub guard_size : (s : List (Option Tree)) (gs : List Guard) (i : ℕ) (g : Guard) → i < length gs → g ≡ get_or gs i g → tree_size (apply s g.test) ≤ size_of (map (applied_guard s) gs)
+pub guard_size : (s : List (Option Tree)) (gs : List Guard) (i : ℕ) (g : Guard) → i < length gs →
+    g ≡ get_or gs i g → tree_size (apply s g.test) ≤ size_of (map (applied_guard s) gs)
 guard_size s [] i g lt is = absurd (omega arith)
-guard_size s (x ∷ gs) zero g lt is = let e : tree_size (apply s g.test) ≡ tree_size (apply s x.test) = ap (λ (y : Guard). tree_size (apply s y.test)) is in omega (arith, e)
+guard_size s (x ∷ gs) zero g lt is = let e : tree_size (apply s g.test) ≡ tree_size (apply s x.test) = ap
+    (λ (y : Guard). tree_size (apply s y.test)) is in omega (arith, e)
 guard_size s (x ∷ gs) (suc i) g lt is = omega (arith, guard_size s gs i g (omega arith) is)

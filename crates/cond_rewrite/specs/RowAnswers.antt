@@ -5,7 +5,10 @@ use Rattle.clause_core.specs.declared.clauses.Clause.{Clause}
 use Rattle.clause_core.specs.declared.answers.Why.{Why}
 use Rattle.clause_core.specs.declared.answers.Why.TheVariants.{NoSuchPlace, NoSuchRule, DoesNotFit, Limit}
 use Rattle.clause_core.specs.declared.answers.RewriteError.{RewriteError}
-use Rattle.clause_core.specs.declared.answers.RewriteError.TheVariants.{NoSuchPlace as no_such_place, NoSuchRule as no_such_rule, DoesNotFit as does_not_fit, Limit as limit, OutOfMemory as out_of_memory}
+use Rattle.clause_core.specs.declared.answers.RewriteError.TheVariants.{NoSuchPlace as no_such_place}
+use Rattle.clause_core.specs.declared.answers.RewriteError.TheVariants.{NoSuchRule as no_such_rule}
+use Rattle.clause_core.specs.declared.answers.RewriteError.TheVariants.{DoesNotFit as does_not_fit, Limit as limit}
+use Rattle.clause_core.specs.declared.answers.RewriteError.TheVariants.{OutOfMemory as out_of_memory}
 use Rattle.clause_core.specs.Limits.{IsWithin}
 use Rattle.clause_core.specs.Tidied.{tidied}
 use Rattle.clause_core.specs.Rows.{Made, Row, child, compared_child, needs, makes}

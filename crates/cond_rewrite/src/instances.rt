@@ -7,7 +7,7 @@ ghost use Rattle.substitutions.specs.Substitution.{apply};
 use clause_core::{MOST_SYMBOLS, instance_size};
 use std::alloc::Global;
 use substitutions::Subst;
-use term_core::{TermNode, OutOfMemory, Term};
+use term_core::{OutOfMemory, Term, TermNode};
 
 /// The instance of the term, or None if it alone has more symbols than a clause in a proof. It
 /// isn't built then: a variable may occur often and stand for a large term.

@@ -63,14 +63,16 @@ mutual
         keeps = all.keeps;
       }
 
-  pub all_made : (ps ts : Trees) (old : List Tree) → ((n : ℕ) → OccurTwice n ps → ⊥) → AdmitAll ps ts → AllMade ps ts old
+  pub all_made : (ps ts : Trees) (old : List Tree) → ((n : ℕ) → OccurTwice n ps → ⊥) → AdmitAll ps ts →
+      AllMade ps ts old
   all_made none none old once a = record { new = old; makes = refl; keeps = λ n h. refl }
   all_made none (some t ts) old once a = absurd a
   all_made (some p ps) none old once a = absurd a
   all_made (some p ps) (some t ts) old once a =
       let one = made p t old (λ n h. once n (inl h)) a.0 in
       let all = all_made ps ts one.new (λ n h. once n (inr (inr h))) a.1 in
-      let first : instance all.new p ≡ t = same_instance p all.new one.new (λ n o. all.keeps n (λ q. once n (inr (inl (o, q))))) ∙ one.makes in
+      let first : instance all.new p ≡ t = same_instance p all.new one.new
+      (λ n o. all.keeps n (λ q. once n (inr (inl (o, q))))) ∙ one.makes in
       let more : instances all.new ps ≡ ts = all.makes in
       record {
         new = all.new;
@@ -78,7 +80,8 @@ mutual
         keeps = λ n h. all.keeps n (λ q. h (inr q)) ∙ one.keeps n (λ q. h (inl q));
       }
 
-pub row_admits : (row vs : List Tree) → ((n : ℕ) → OccurTwice n (trees_of row) → ⊥) → AdmitAll (trees_of row) (trees_of vs) ↔ MatchesRow row vs
+pub row_admits : (row vs : List Tree) → ((n : ℕ) → OccurTwice n (trees_of row) → ⊥) →
+    AdmitAll (trees_of row) (trees_of vs) ↔ MatchesRow row vs
 row_admits row vs once = (
   λ a. let all = all_made (trees_of row) (trees_of vs) [] once a in (all.new, all.makes),
   λ m. admit_all (trees_of row) (trees_of vs) m.0 m.1,
@@ -91,7 +94,8 @@ some_admits (row ∷ rows) vs (inl m) = inl (admit_all (trees_of row) (trees_of 
 some_admits (row ∷ rows) vs (inr m) = inr (some_admits rows vs m)
 
 -- what some row of linear patterns admits matches it
-pub some_matches : (sig : Sig) (sorts : List SortId) (rows : List (List Tree)) (vs : List Tree) → AllByRecursion (IsRow sig sorts) rows → SomeAdmits rows vs → MatchesSome rows vs
+pub some_matches : (sig : Sig) (sorts : List SortId) (rows : List (List Tree)) (vs : List Tree) →
+    AllByRecursion (IsRow sig sorts) rows → SomeAdmits rows vs → MatchesSome rows vs
 some_matches sig sorts [] vs h a = absurd a
 some_matches sig sorts (row ∷ rows) vs h (inl a) = inl ((row_admits row vs h.0.linear).0 a)
 some_matches sig sorts (row ∷ rows) vs h (inr a) = inr (some_matches sig sorts rows vs h.1 a)

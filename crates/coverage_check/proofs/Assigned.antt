@@ -20,7 +20,8 @@ at_place k [] (suc n) t d = at_place (suc k) [] n t d
 at_place k (x ∷ xs) zero t d = refl
 at_place k (x ∷ xs) (suc n) t d = at_place (suc k) xs n t d
 
-other_place : (k : ℕ) (xs : List Tree) (n m : ℕ) (t : Tree) → (m ≡ n → ⊥) → slice_index_or (assigned_from k xs n t) m (var (k + m)) ≡ slice_index_or xs m (var (k + m))
+other_place : (k : ℕ) (xs : List Tree) (n m : ℕ) (t : Tree) → (m ≡ n → ⊥) →
+    slice_index_or (assigned_from k xs n t) m (var (k + m)) ≡ slice_index_or xs m (var (k + m))
 other_place k [] zero zero t h = absurd (h refl)
 other_place k [] zero (suc m) t h = refl
 other_place k [] (suc n) zero t h = let e : k ≡ k + 0 = omega arith in ap (λ j. var j) e
@@ -37,5 +38,6 @@ other_place k (x ∷ xs) (suc n) (suc m) t h =
 pub assigned_here : (xs : List Tree) (n : ℕ) (t : Tree) → instance (assigned xs n t) (var n) ≡ t
 assigned_here xs n t = at_place 0 xs n t (var n)
 
-pub assigned_elsewhere : (xs : List Tree) (n m : ℕ) (t : Tree) → (m ≡ n → ⊥) → instance (assigned xs n t) (var m) ≡ instance xs (var m)
+pub assigned_elsewhere : (xs : List Tree) (n m : ℕ) (t : Tree) → (m ≡ n → ⊥) →
+    instance (assigned xs n t) (var m) ≡ instance xs (var m)
 assigned_elsewhere xs n m t h = let e : 0 + m ≡ m = omega arith in rw e at (other_place 0 xs n m t h)

@@ -17,7 +17,8 @@ module _ (rows : List (List Tree)) (n count : ℕ) (is : count ≡ symbols_at n 
       by (inl b) = below k b
       by (inr e) = subst P (sym e) here
 
-  pub busier : (found : Option ℕ) (most : ℕ) → BusiestSoFar rows n found most → most < count → BusiestSoFar rows (n + 1) (Some n) count
+  pub busier : (found : Option ℕ) (most : ℕ) → BusiestSoFar rows n found most → most < count →
+      BusiestSoFar rows (n + 1) (Some n) count
   busier None most (zero_most, none_have) h = (
     is,
     record {
@@ -37,8 +38,12 @@ module _ (rows : List (List Tree)) (n count : ℕ) (is : count ≡ symbols_at n 
     },
   )
 
-  pub not_busier : (found : Option ℕ) (most : ℕ) → BusiestSoFar rows n found most → count ≤ most → BusiestSoFar rows (n + 1) found most
-  not_busier None most (zero_most, none_have) h = (zero_most, up_to (λ k. symbols_at k rows ≡ 0) none_have (omega arith))
+  pub not_busier : (found : Option ℕ) (most : ℕ) → BusiestSoFar rows n found most → count ≤ most →
+      BusiestSoFar rows (n + 1) found most
+  not_busier None most (zero_most, none_have) h = (
+    zero_most,
+    up_to (λ k. symbols_at k rows ≡ 0) none_have (omega arith),
+  )
   not_busier (Some j) most (most_is, best) h = (
     most_is,
     record {
@@ -49,6 +54,7 @@ module _ (rows : List (List Tree)) (n count : ℕ) (is : count ≡ symbols_at n 
     },
   )
 
-pub busiest_of_all : (rows : List (List Tree)) (n columns : ℕ) (found : Option ℕ) (most : ℕ) → n ≡ columns → BusiestSoFar rows n found most → MatchOption found (HasNoSymbols rows columns) (IsBusiest rows columns)
+pub busiest_of_all : (rows : List (List Tree)) (n columns : ℕ) (found : Option ℕ) (most : ℕ) → n ≡ columns →
+    BusiestSoFar rows n found most → MatchOption found (HasNoSymbols rows columns) (IsBusiest rows columns)
 busiest_of_all rows n columns None most e b = subst (λ k. HasNoSymbols rows k) e b.1
 busiest_of_all rows n columns (Some j) most e b = subst (λ k. IsBusiest rows k j) e b.1

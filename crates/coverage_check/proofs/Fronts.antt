@@ -1,5 +1,6 @@
 -- Lists with the item at a place before the others: what pairs two lists pairs them with both moved.
-use Rattle.std.proofs.Common.{◌≡◌, ℕ, zero, suc, ◌+◌, ◌-◌, ◌<◌, List, [], ◌∷◌, ◌++◌, map, length, get_or, take, drop, refl, ap, sym, ◌∙◌, arith}
+use Rattle.std.proofs.Common.{◌≡◌, ℕ, zero, suc, ◌+◌, ◌-◌, ◌<◌, List, [], ◌∷◌, ◌++◌, map, length, get_or, take, drop}
+use Rattle.std.proofs.Common.{refl, ap, sym, ◌∙◌, arith}
 use Rattle.std.specs.Borrow.{Bor}
 use Rattle.std.specs.List.{AllZip}
 use Rattle.std.proofs.lemmas.List.{take_all, length-drop, map-append}
@@ -8,13 +9,15 @@ use Rattle.term_core.specs.References.{terms_of}
 use Rattle.coverage_check.specs.Columns.{behind_first, fronted}
 
 module _ {X Y : Type 0} (R : X → Y → Type 0) where
-  behind : (x : X) (y : Y) (xs : List X) (ys : List Y) → R x y × AllZip R xs ys → AllZip R (behind_first x xs) (behind_first y ys)
+  behind : (x : X) (y : Y) (xs : List X) (ys : List Y) → R x y × AllZip R xs ys →
+      AllZip R (behind_first x xs) (behind_first y ys)
   behind x y [] [] h = h
   behind x y (a ∷ xs) (b ∷ ys) h = (h.1.0, (h.0, h.1.1))
   behind x y [] (b ∷ ys) h = absurd h.1
   behind x y (a ∷ xs) [] h = absurd h.1
 
-  ahead : (x : X) (y : Y) (xs : List X) (ys : List Y) → AllZip R (behind_first x xs) (behind_first y ys) → R x y × AllZip R xs ys
+  ahead : (x : X) (y : Y) (xs : List X) (ys : List Y) → AllZip R (behind_first x xs) (behind_first y ys) →
+      R x y × AllZip R xs ys
   ahead x y [] [] h = h
   ahead x y (a ∷ xs) (b ∷ ys) h = (h.1.0, (h.0, h.1.1))
   ahead x y [] (b ∷ ys) h = absurd h.1
@@ -45,7 +48,9 @@ module _ {X Y : Type 0} (R : X → Y → Type 0) where
   pairs_back (suc k) (x ∷ xs) [] h = absurd (unpaired_too x (fronted k xs) h)
 
   -- what is paired with a moved list is itself a moved list
-  before_move : (k : ℕ) (y : Y) (ys bs : List Y) → ((us : List X) → AllZip R us bs → (xs : List X) × (us ≡ fronted k xs) × AllZip R xs ys) → (ws : List X) → AllZip R ws (behind_first y bs) → (xs : List X) × (ws ≡ fronted (suc k) xs) × AllZip R xs (y ∷ ys)
+  before_move : (k : ℕ) (y : Y) (ys bs : List Y) →
+      ((us : List X) → AllZip R us bs → (xs : List X) × (us ≡ fronted k xs) × AllZip R xs ys) → (ws : List X) →
+      AllZip R ws (behind_first y bs) → (xs : List X) × (ws ≡ fronted (suc k) xs) × AllZip R xs (y ∷ ys)
   before_move k y ys [] back [] h = absurd h
   before_move k y ys [] back (w ∷ []) h =
       let r = back [] tt in
@@ -57,14 +62,16 @@ module _ {X Y : Type 0} (R : X → Y → Type 0) where
       let r = back (w ∷ ws) (h.0, h.1.1) in
       (v ∷ r.0, ap (λ us. behind_first v us) r.1, (h.1.0, r.2))
 
-  pub moved_back : (k : ℕ) (ys : List Y) (ws : List X) → AllZip R ws (fronted k ys) → (xs : List X) × (ws ≡ fronted k xs) × AllZip R xs ys
+  pub moved_back : (k : ℕ) (ys : List Y) (ws : List X) → AllZip R ws (fronted k ys) →
+      (xs : List X) × (ws ≡ fronted k xs) × AllZip R xs ys
   moved_back zero ys ws h = (ws, refl, h)
   moved_back (suc k) [] [] h = ([], refl, h)
   moved_back (suc k) [] (w ∷ ws) h = absurd h
   moved_back (suc k) (y ∷ ys) ws h = before_move k y ys (fronted k ys) (λ us p. moved_back k ys us p) ws h
 
 -- the item at the place, those before it and those after it
-pub fronted_is : {X : Type 0} (k : ℕ) (xs : List X) (d : X) → k < length xs → get_or xs k d ∷ (take k xs ++ drop (k + 1) xs) ≡ fronted k xs
+pub fronted_is : {X : Type 0} (k : ℕ) (xs : List X) (d : X) → k < length xs →
+    get_or xs k d ∷ (take k xs ++ drop (k + 1) xs) ≡ fronted k xs
 fronted_is zero [] d h = absurd (omega arith)
 fronted_is zero (x ∷ xs) d h = refl
 fronted_is (suc k) [] d h = absurd (omega arith)
@@ -95,13 +102,24 @@ all_behind : {X : Type 0} (n : ℕ) (xs : List X) → take (length xs - n) (drop
 all_behind n xs = take_all (length xs - n) (drop n xs) (omega (arith, length-drop n xs))
 
 -- the items that are pushed one part after the other
-pub front_made : {X : Type 0} (k : ℕ) (xs : List X) (x : X) (none made more all : List X) → k < length xs → x ≡ get_or xs k x → none ≡ [] → made ≡ none ++ x ∷ [] → more ≡ made ++ take k xs → all ≡ more ++ take (length xs - (k + 1)) (drop (k + 1) xs) → all ≡ fronted k xs
+pub front_made : {X : Type 0} (k : ℕ) (xs : List X) (x : X) (none made more all : List X) → k < length xs →
+    x ≡ get_or xs k x → none ≡ [] → made ≡ none ++ x ∷ [] → more ≡ made ++ take k xs →
+    all ≡ more ++ take (length xs - (k + 1)) (drop (k + 1) xs) → all ≡ fronted k xs
 front_made k xs x none made more all h is z a b c =
-    let e : x ∷ (take k xs ++ drop (k + 1) xs) ≡ fronted k xs = ap (λ y. y ∷ (take k xs ++ drop (k + 1) xs)) is ∙ fronted_is k xs x h in
-    c ∙ ap (λ ys. more ++ ys) (all_behind (k + 1) xs) ∙ ap (λ ys. ys ++ drop (k + 1) xs) (b ∙ ap (λ ys. ys ++ take k xs) (a ∙ ap (λ ys. ys ++ x ∷ []) z)) ∙ e
+    let e : x ∷ (take k xs ++ drop (k + 1) xs) ≡ fronted k xs = ap (λ y. y ∷ (take k xs ++ drop (k + 1) xs)) is
+    ∙ fronted_is k xs x h in
+    c ∙ ap (λ ys. more ++ ys) (all_behind (k + 1) xs)
+    ∙ ap (λ ys. ys ++ drop (k + 1) xs) (b ∙ ap (λ ys. ys ++ take k xs) (a ∙ ap (λ ys. ys ++ x ∷ []) z)) ∙ e
 
-pub row_made : (k : ℕ) (refs : List (Bor Tree)) (x : Bor Tree) (none made more all : List Tree) → k < length refs → x ≡ get_or refs k x → none ≡ [] → made ≡ none ++ x.now ∷ [] → more ≡ made ++ terms_of (take k refs) → all ≡ more ++ terms_of (take (length refs - (k + 1)) (drop (k + 1) refs)) → all ≡ fronted k (terms_of refs)
+pub row_made : (k : ℕ) (refs : List (Bor Tree)) (x : Bor Tree) (none made more all : List Tree) →
+    k < length refs → x ≡ get_or refs k x → none ≡ [] → made ≡ none ++ x.now ∷ [] →
+    more ≡ made ++ terms_of (take k refs) →
+    all ≡ more ++ terms_of (take (length refs - (k + 1)) (drop (k + 1) refs)) → all ≡ fronted k (terms_of refs)
 row_made k refs x none made more all h is z a b c =
     let now : Bor Tree → Tree = λ (t : Bor Tree). t.now in
-    let e : x ∷ (take k refs ++ drop (k + 1) refs) ≡ fronted k refs = ap (λ y. y ∷ (take k refs ++ drop (k + 1) refs)) is ∙ fronted_is k refs x h in
-    c ∙ ap (λ ys. more ++ terms_of ys) (all_behind (k + 1) refs) ∙ ap (λ ys. ys ++ terms_of (drop (k + 1) refs)) (b ∙ ap (λ ys. ys ++ terms_of (take k refs)) (a ∙ ap (λ ys. ys ++ x.now ∷ []) z)) ∙ ap (λ ts. x.now ∷ ts) (sym (map-append now (take k refs) (drop (k + 1) refs))) ∙ ap (λ rs. terms_of rs) e ∙ map_fronted now k refs
+    let e : x ∷ (take k refs ++ drop (k + 1) refs) ≡ fronted k refs = ap
+    (λ y. y ∷ (take k refs ++ drop (k + 1) refs)) is ∙ fronted_is k refs x h in
+    c ∙ ap (λ ys. more ++ terms_of ys) (all_behind (k + 1) refs) ∙ ap (λ ys. ys ++ terms_of (drop (k + 1) refs))
+    (b ∙ ap (λ ys. ys ++ terms_of (take k refs)) (a ∙ ap (λ ys. ys ++ x.now ∷ []) z))
+    ∙ ap (λ ts. x.now ∷ ts) (sym (map-append now (take k refs) (drop (k + 1) refs)))
+    ∙ ap (λ rs. terms_of rs) e ∙ map_fronted now k refs

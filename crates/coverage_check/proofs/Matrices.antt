@@ -12,17 +12,23 @@ use Rattle.coverage_check.proofs.NamedValues.{rests_sorts}
 use Rattle.coverage_check.proofs.OpenedRows.{opened_sorts}
 
 -- what the code opens by the length of a slice, and joins to it
-pub opened_by : (c : ℕ) (rows : List (List Tree)) {args slice : List SortId} {now made : List (List Tree)} → now ≡ made → made ≡ opened c (length slice) rows → slice ≡ args → now ≡ opened c (length args) rows
+pub opened_by : (c : ℕ) (rows : List (List Tree)) {args slice : List SortId} {now made : List (List Tree)} →
+    now ≡ made → made ≡ opened c (length slice) rows → slice ≡ args → now ≡ opened c (length args) rows
 opened_by c rows p q r = p ∙ q ∙ ap (λ (ss : List SortId). opened c (length ss) rows) r
 
-pub joined_by : (others : List SortId) {args slice now made : List SortId} → now ≡ made → made ≡ slice ++ others → slice ≡ args → now ≡ args ++ others
+pub joined_by : (others : List SortId) {args slice now made : List SortId} → now ≡ made →
+    made ≡ slice ++ others → slice ≡ args → now ≡ args ++ others
 joined_by others p q r = p ∙ q ∙ ap (λ ss. ss ++ others) r
 
 module _ (sig : Sig) (blank : Tree) where
-  pub matrix_along : {rows moved : List (List Tree)} {sorts others : List SortId} → moved ≡ rows → others ≡ sorts → IsMatrix sig rows sorts blank → IsMatrix sig moved others blank
-  matrix_along {rows} {moved} {sorts} {others} p q m = subst (λ rs. IsMatrix sig rs others blank) (sym p) (subst (λ ss. IsMatrix sig rows ss blank) (sym q) m)
+  pub matrix_along : {rows moved : List (List Tree)} {sorts others : List SortId} → moved ≡ rows →
+      others ≡ sorts → IsMatrix sig rows sorts blank → IsMatrix sig moved others blank
+  matrix_along {rows} {moved} {sorts} {others} p q m = subst (λ rs. IsMatrix sig rs others blank) (sym p)
+      (subst (λ ss. IsMatrix sig rows ss blank) (sym q) m)
 
-  pub opened_matrix : (c : ℕ) (i : SymInfo) (s : SortId) (ss : List SortId) (rows : List (List Tree)) → info_of sig c ≡ Some i → IsMatrix sig rows (s ∷ ss) blank → IsMatrix sig (opened c (length i.args) rows) (i.args ++ ss) blank
+  pub opened_matrix : (c : ℕ) (i : SymInfo) (s : SortId) (ss : List SortId) (rows : List (List Tree)) →
+      info_of sig c ≡ Some i → IsMatrix sig rows (s ∷ ss) blank →
+      IsMatrix sig (opened c (length i.args) rows) (i.args ++ ss) blank
   opened_matrix c i s ss rows at m = record {
     declared = m.declared;
     range = all_joined sig (IsSort sig) i.args ss (in_range sig m.declared c i at).1 m.range.1;
@@ -30,7 +36,8 @@ module _ (sig : Sig) (blank : Tree) where
     variable = m.variable;
   }
 
-  pub fronted_matrix : (k : ℕ) (sorts : List SortId) (rows : List (List Tree)) → IsMatrix sig rows sorts blank → IsMatrix sig (map (fronted k) rows) (fronted k sorts) blank
+  pub fronted_matrix : (k : ℕ) (sorts : List SortId) (rows : List (List Tree)) → IsMatrix sig rows sorts blank →
+      IsMatrix sig (map (fronted k) rows) (fronted k sorts) blank
   fronted_matrix k sorts rows m = record {
     declared = m.declared;
     range = sorts_fronted sig (IsSort sig) k sorts m.range;
@@ -38,7 +45,8 @@ module _ (sig : Sig) (blank : Tree) where
     variable = m.variable;
   }
 
-  pub rests_matrix : (s : SortId) (ss : List SortId) (rows : List (List Tree)) → IsMatrix sig rows (s ∷ ss) blank → IsMatrix sig (rests rows) ss blank
+  pub rests_matrix : (s : SortId) (ss : List SortId) (rows : List (List Tree)) →
+      IsMatrix sig rows (s ∷ ss) blank → IsMatrix sig (rests rows) ss blank
   rests_matrix s ss rows m = record {
     declared = m.declared;
     range = m.range.1;

@@ -1,10 +1,12 @@
 //! The columns of rows.
 
-ghost use Rattle.std.specs.Prelude.{◌≡◌, ◌↔◌, ◌<◌, ◌++◌, List, IfOk, IsTrue, MatchOption, length, map};
+ghost use Rattle.std.specs.Prelude.{◌≡◌, ◌↔◌, ◌<◌, ◌++◌, List, IfOk, IsTrue, MatchOption, length};
+ghost use Rattle.std.specs.Prelude.{map};
 ghost use Rattle.std.specs.List.{AllByRecursion, Any};
 ghost use Rattle.term_core.specs.Tree.{Tree};
 ghost use Rattle.coverage_check.specs.Opened.{BeginsWithVariable, rests};
-ghost use Rattle.coverage_check.specs.Columns.{IsVariable, IsBusiest, HasNoSymbols, symbols_at, fronted};
+ghost use Rattle.coverage_check.specs.Columns.{IsVariable, IsBusiest, HasNoSymbols, symbols_at};
+ghost use Rattle.coverage_check.specs.Columns.{fronted};
 ghost use Rattle.coverage_check.specs.Decisions.{BeginsOtherwise};
 
 use crate::rows::{

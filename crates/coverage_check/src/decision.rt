@@ -3,7 +3,9 @@
 ghost use Rattle.std.specs.Prelude.{◌<◌, ℕ, IfOk, MatchOption};
 ghost use Rattle.std.specs.List.{AllByRecursion};
 ghost use Rattle.coverage_check.specs.Columns.{symbols_at};
-ghost use Rattle.coverage_check.specs.Decisions.{IsMatrix, NoneMissing, IsDecision, IsDecisionUnder, IsFirstMissing, BeginsOtherwise, IsOf, FirstIsOf};
+ghost use Rattle.coverage_check.specs.Decisions.{IsMatrix, NoneMissing, IsDecision};
+ghost use Rattle.coverage_check.specs.Decisions.{IsDecisionUnder, IsFirstMissing, BeginsOtherwise};
+ghost use Rattle.coverage_check.specs.Decisions.{IsOf, FirstIsOf};
 
 use crate::columns::{begin_otherwise, busiest, fronted_rows, fronted_sorts, some_is_variables};
 use crate::openings::{joined, open_rows};

@@ -3,11 +3,12 @@
 ghost use Rattle.std.specs.Prelude.{◌≡◌, ◌++◌, IfOk, OnOk};
 ghost use Rattle.spec_core.specs.WellSorted.{IsWellSorted};
 ghost use Rattle.spec_core.specs.Linear.{LeftSidesAreLinear};
-ghost use Rattle.coverage_check.specs.LeftSides.{row_of, rows_of as rows_of_function, AreRowsFor, MatchLeftSides};
+ghost use Rattle.coverage_check.specs.LeftSides.{row_of, rows_of as rows_of_function, AreRowsFor};
+ghost use Rattle.coverage_check.specs.LeftSides.{MatchLeftSides};
 
 use spec_core::Spec;
 use std::alloc::Global;
-use term_core::{TermNode, OutOfMemory, SymId, Term, Terms};
+use term_core::{OutOfMemory, SymId, Term, TermNode, Terms};
 
 /// The argument patterns of the left sides of a function, in the order of its rules: what
 /// [`covers`](crate::covers) takes with the function's argument sorts.

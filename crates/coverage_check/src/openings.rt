@@ -7,7 +7,7 @@ ghost use Rattle.coverage_check.specs.Opened.{opened};
 ghost use Rattle.coverage_check.specs.Decisions.{IsOpening};
 
 use std::alloc::Global;
-use term_core::{TermNode, OutOfMemory, SortId, SymId, Term, TermRefs, front};
+use term_core::{OutOfMemory, SortId, SymId, Term, TermNode, TermRefs, front};
 
 /// The rows opened at a constructor with `count` arguments: of a row that begins with it, the
 /// arguments come first; of one that begins with a variable, as many variables; and a row that

@@ -8,7 +8,7 @@ ghost use Rattle.coverage_check.specs.Columns.{IsVariable, is_application, has_s
 ghost use Rattle.coverage_check.specs.Decisions.{BeginsOtherwise};
 
 use std::alloc::Global;
-use term_core::{TermNode, OutOfMemory, SymId, Term, TermRefs, front};
+use term_core::{OutOfMemory, SymId, Term, TermNode, TermRefs, front};
 
 /// Whether the pattern at the column is there and no variable.
 pub(crate) fn has_symbol_at(row: &TermRefs, column: usize) -> bool

@@ -2,17 +2,21 @@
 use Rattle.std.specs.Prelude.{ℕ}
 use Rattle.term_core.specs.Tree.{Tree}
 use Rattle.term_order.specs.Laws.{HasRanks}
-use Rattle.clause_core.specs.declared.steps.Step.TheVariants.{Trivial, Match, Absurd, Subsume, ByLemma, Rule, Case, Decompose, Clash, Drop, Solve, Cover, Generalize, Context, Hyp, Lemma}
+use Rattle.clause_core.specs.declared.steps.Step.TheVariants.{Trivial, Match, Absurd, Subsume, ByLemma, Rule, Case}
+use Rattle.clause_core.specs.declared.steps.Step.TheVariants.{Decompose, Clash, Drop, Solve, Cover, Generalize}
+use Rattle.clause_core.specs.declared.steps.Step.TheVariants.{Context, Hyp, Lemma}
 use Rattle.descent.specs.OneValue.{ValuesRankLower}
 use Rattle.descent.specs.Descent.{StepsDescend}
-use Rattle.descent.proofs.StepDescents.{trivial_descends, match_descends, absurd_descends, drop_descends, clash_descends, decompose_descends, solve_descends, cover_descends}
+use Rattle.descent.proofs.StepDescents.{trivial_descends, match_descends, absurd_descends, drop_descends}
+use Rattle.descent.proofs.StepDescents.{clash_descends, decompose_descends, solve_descends, cover_descends}
 use Rattle.descent.proofs.ContextDescends.{context_descends}
 use Rattle.descent.proofs.ReferringDescends.{subsume_descends, by_lemma_descends, hyp_descends, lemma_descends}
 use Rattle.descent.proofs.RuleDescends.{rule_descends}
 use Rattle.descent.proofs.CaseDescends.{case_descends}
 use Rattle.descent.proofs.GeneralizeDescends.{generalize_descends}
 
-pub all_descend : (above : Tree → Tree → Type 0) (rank : ℕ → ℕ → Tree → ℕ → Type 0) → HasRanks above rank → ValuesRankLower above rank → StepsDescend above rank
+pub all_descend : (above : Tree → Tree → Type 0) (rank : ℕ → ℕ → Tree → ℕ → Type 0) → HasRanks above rank →
+    ValuesRankLower above rank → StepsDescend above rank
 all_descend above rank laws exist (Trivial k) = trivial_descends above rank laws k
 all_descend above rank laws exist (Match k j) = match_descends above rank laws k j
 all_descend above rank laws exist (Absurd j) = absurd_descends above rank laws j

@@ -18,9 +18,19 @@ clause_under terms ctx c = record {
   conclusions = map (equation_under terms) c.conclusions;
 }
 
-equations_by : (terms : List Tree) (es : List Equation) → map (equation_instance (map (λ (t : Tree). Some t) terms)) es ≡ map (equation_under terms) es
+equations_by : (terms : List Tree) (es : List Equation) →
+    map (equation_instance (map (λ (t : Tree). Some t) terms)) es ≡ map (equation_under terms) es
 equations_by terms [] = λ i. []
-equations_by terms (e ∷ es) = λ i. record { left = apply_values terms e.left i; right = apply_values terms e.right i } ∷ equations_by terms es i
+equations_by terms (e ∷ es) = λ i. record {
+  left = apply_values terms e.left i;
+  right = apply_values terms
+      e.right i;
+} ∷ equations_by terms es i
 
-pub instance_under : (terms : List Tree) (ctx : List SortId) (c : Clause) → instance_by terms ctx c ≡ clause_under terms ctx c
-instance_under terms ctx c = λ i. record { ctx = ctx; premises = equations_by terms c.premises i; conclusions = equations_by terms c.conclusions i }
+pub instance_under : (terms : List Tree) (ctx : List SortId) (c : Clause) →
+    instance_by terms ctx c ≡ clause_under terms ctx c
+instance_under terms ctx c = λ i. record {
+  ctx = ctx;
+  premises = equations_by terms c.premises i;
+  conclusions = equations_by terms c.conclusions i;
+}

@@ -10,7 +10,8 @@ use Rattle.spec_core.specs.WellSorted.{HasFewArguments}
 use Rattle.spec_core.proofs.Constructors.{info_parts}
 
 -- as many terms as sorts
-pub as_many : (sig : Sig) (ctx : List SortId) (ts : Trees) (ss : List SortId) → SortedAll sig ctx ts ss → length (list_of ts) ≡ length ss
+pub as_many : (sig : Sig) (ctx : List SortId) (ts : Trees) (ss : List SortId) → SortedAll sig ctx ts ss →
+    length (list_of ts) ≡ length ss
 as_many sig ctx none [] p = refl
 as_many sig ctx none (s ∷ ss) p = absurd p
 as_many sig ctx (some t ts) [] p = absurd p
@@ -21,8 +22,11 @@ module _ (sig : Sig) (few : HasFewArguments sig) where
     pub sorted_ground : (t : Tree) (s : SortId) → Sorted sig [] t s → IsGroundIn (length sig.table) t
     sorted_ground (var n) s p = absurd (let q : None ≡ Some s = p in cc)
     sorted_ground (app f ts) s p =
-        let e = info_parts sig.table f p.0 p.1 in
-        (slice_get_within sig.table f e.0 e.1, omega (arith, few f p.0 p.1, as_many sig [] ts p.0.args p.3), sorted_grounds ts p.0.args p.3)
+        let e = info_parts sig.table f p.0 p.1 in (
+          slice_get_within sig.table f e.0 e.1,
+          omega (arith, few f p.0 p.1, as_many sig [] ts p.0.args p.3),
+          sorted_grounds ts p.0.args p.3,
+        )
 
     sorted_grounds : (ts : Trees) (ss : List SortId) → SortedAll sig [] ts ss → AreGroundIn (length sig.table) ts
     sorted_grounds none ss p = tt

@@ -34,7 +34,8 @@ mutual
   are_ground n none = inl tt
   are_ground n (some t ts) = both (is_ground n t) (are_ground n ts)
 
-module _ (above : Tree → Tree → Type 0) (rank : ℕ → ℕ → Tree → ℕ → Type 0) (laws : HasRanks above rank) (n k : ℕ) (l : 1 ≤ k) where
+module _ (above : Tree → Tree → Type 0) (rank : ℕ → ℕ → Tree → ℕ → Type 0) (laws : HasRanks above rank)
+    (n k : ℕ) (l : 1 ≤ k) where
   rank_by : (t : Tree) → Decided (IsGroundIn n t) → ℕ
   rank_by t (inl g) = (laws.some_rank n k t l g).0
   rank_by t (inr h) = 0

@@ -30,4 +30,5 @@ heavier = record {
     no_both x (inr e) j = e
 
 pub not_itself : IsHeavier (5 ∷ 3 ∷ []) (5 ∷ 3 ∷ []) → ⊥
-not_itself h = something_left same_or_not (5 ∷ 3 ∷ []) (5 ∷ 3 ∷ []) [] [] (all_cancel (5 ∷ 3 ∷ []) (5 ∷ 3 ∷ []) (IsPermutation-refl (5 ∷ 3 ∷ []))) (λ m n. n < m) h refl
+not_itself h = something_left same_or_not (5 ∷ 3 ∷ []) (5 ∷ 3 ∷ []) [] []
+    (all_cancel (5 ∷ 3 ∷ []) (5 ∷ 3 ∷ []) (IsPermutation-refl (5 ∷ 3 ∷ []))) (λ m n. n < m) h refl

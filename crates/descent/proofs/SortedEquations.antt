@@ -10,7 +10,8 @@ use Rattle.spec_core.specs.WellSorted.{EquationsAreSorted}
 use Rattle.clause_core.specs.NumberedEquations.{EquationAt}
 
 -- what holds of all of a list holds of all of its parts
-pub split_all : {X : Type 0} (P : X → Type 0) (xs ys : List X) → AllByRecursion P (xs ++ ys) → AllByRecursion P xs × AllByRecursion P ys
+pub split_all : {X : Type 0} (P : X → Type 0) (xs ys : List X) → AllByRecursion P (xs ++ ys) →
+    AllByRecursion P xs × AllByRecursion P ys
 split_all P [] ys h = (tt, h)
 split_all P (x ∷ xs) ys h = let r = split_all P xs ys h.1 in ((h.0, r.0), r.1)
 
@@ -28,7 +29,8 @@ each_sorted sig ctx (e ∷ es) h = (h 0 e refl, each_sorted sig ctx es (λ k d a
 
 pub sorted_each : (sig : Sig) (ctx : List SortId) (es : List Equation) → Each sig ctx es → EquationsAreSorted sig ctx es
 sorted_each sig ctx [] h k d at = absurd (let q : None ≡ Some d = at in cc)
-sorted_each sig ctx (e ∷ es) h zero d at = let q : Some e ≡ Some d = at in let w : e ≡ d = cc in subst (λ (x : Equation). (s : SortId) × Sorted sig ctx x.left s × Sorted sig ctx x.right s) w h.0
+sorted_each sig ctx (e ∷ es) h zero d at = let q : Some e ≡ Some d = at in let w : e ≡ d = cc in
+    subst (λ (x : Equation). (s : SortId) × Sorted sig ctx x.left s × Sorted sig ctx x.right s) w h.0
 sorted_each sig ctx (e ∷ es) h (suc k) d at = sorted_each sig ctx es h.1 k d at
 
 -- the equation of a number, and others in its place
@@ -36,14 +38,18 @@ get_at : (before after : List Equation) (e : Equation) → slice_get (before ++ 
 get_at [] after e = refl
 get_at (d ∷ ds) after e = get_at ds after e
 
-pub sorted_at : (sig : Sig) (ctx : List SortId) (own : List Equation) (n : ℕ) (at : EquationAt own n) → EquationsAreSorted sig ctx own → HasOneSort sig ctx at.equation
-sorted_at sig ctx own n at h = h (length at.before) at.equation (ap (λ es. slice_get es (length at.before)) at.is ∙ get_at at.before at.after at.equation)
+pub sorted_at : (sig : Sig) (ctx : List SortId) (own : List Equation) (n : ℕ) (at : EquationAt own n) →
+    EquationsAreSorted sig ctx own → HasOneSort sig ctx at.equation
+sorted_at sig ctx own n at h = h (length at.before) at.equation
+    (ap (λ es. slice_get es (length at.before)) at.is ∙ get_at at.before at.after at.equation)
 
-pub each_replaced : (sig : Sig) (ctx : List SortId) (before after news : List Equation) (e : Equation) → Each sig ctx (before ++ (e ∷ after)) → Each sig ctx news → Each sig ctx (before ++ (news ++ after))
+pub each_replaced : (sig : Sig) (ctx : List SortId) (before after news : List Equation) (e : Equation) →
+    Each sig ctx (before ++ (e ∷ after)) → Each sig ctx news → Each sig ctx (before ++ (news ++ after))
 each_replaced sig ctx [] after [] e h n = h.1
 each_replaced sig ctx [] after (d ∷ ds) e h n = (n.0, each_replaced sig ctx [] after ds e h n.1)
 each_replaced sig ctx (d ∷ ds) after news e h n = (h.0, each_replaced sig ctx ds after news e h.1 n)
 
-pub each_at : (sig : Sig) (ctx : List SortId) (before after : List Equation) (e : Equation) → Each sig ctx (before ++ (e ∷ after)) → HasOneSort sig ctx e
+pub each_at : (sig : Sig) (ctx : List SortId) (before after : List Equation) (e : Equation) →
+    Each sig ctx (before ++ (e ∷ after)) → HasOneSort sig ctx e
 each_at sig ctx [] after e h = h.0
 each_at sig ctx (d ∷ ds) after e h = each_at sig ctx ds after e h.1

@@ -23,26 +23,40 @@ sides_tidied c =
     ∙ sym (map-append (renumbered (variables_of c)) (sides_of c.premises) (sides_of c.conclusions))
 
 module _ (rank : ℕ → ℕ → Tree → ℕ → Type 0) (spec : Spec) (olds : List ℕ) (xs : List Tree) where
-  ranks_renumbered : (ts : List Tree) → ((n : ℕ) → OccursAny n (trees_of ts) → Met olds n) → (w : List ℕ) → AreRanks rank spec xs ts w → AreRanks rank spec (values_at olds xs) (map (renumbered olds) ts) w
+  ranks_renumbered : (ts : List Tree) → ((n : ℕ) → OccursAny n (trees_of ts) → Met olds n) → (w : List ℕ) →
+      AreRanks rank spec xs ts w → AreRanks rank spec (values_at olds xs) (map (renumbered olds) ts) w
   ranks_renumbered [] h [] p = tt
   ranks_renumbered [] h (r ∷ w) p = absurd p
   ranks_renumbered (t ∷ ts) h [] p = absurd p
-  ranks_renumbered (t ∷ ts) h (r ∷ w) p = (subst (λ u. HasRank rank spec u r) (sym (same_instance olds xs t (λ n o. h n (inl o)))) p.0, ranks_renumbered ts (λ n o. h n (inr o)) w p.1)
+  ranks_renumbered (t ∷ ts) h (r ∷ w)
+      p = (
+        subst (λ u. HasRank rank spec u r) (sym (same_instance olds xs t (λ n o. h n (inl o)))) p.0,
+        ranks_renumbered ts (λ n o. h n (inr o)) w p.1,
+      )
 
-  renumbered_ranks : (ts : List Tree) → ((n : ℕ) → OccursAny n (trees_of ts) → Met olds n) → (w : List ℕ) → AreRanks rank spec (values_at olds xs) (map (renumbered olds) ts) w → AreRanks rank spec xs ts w
+  renumbered_ranks : (ts : List Tree) → ((n : ℕ) → OccursAny n (trees_of ts) → Met olds n) → (w : List ℕ) →
+      AreRanks rank spec (values_at olds xs) (map (renumbered olds) ts) w → AreRanks rank spec xs ts w
   renumbered_ranks [] h [] p = tt
   renumbered_ranks [] h (r ∷ w) p = absurd p
   renumbered_ranks (t ∷ ts) h [] p = absurd p
-  renumbered_ranks (t ∷ ts) h (r ∷ w) p = (subst (λ u. HasRank rank spec u r) (same_instance olds xs t (λ n o. h n (inl o))) p.0, renumbered_ranks ts (λ n o. h n (inr o)) w p.1)
+  renumbered_ranks (t ∷ ts) h (r ∷ w)
+      p = (
+        subst (λ u. HasRank rank spec u r) (same_instance olds xs t (λ n o. h n (inl o))) p.0,
+        renumbered_ranks ts (λ n o. h n (inr o)) w p.1,
+      )
 
-pub tidied_weight : (rank : ℕ → ℕ → Tree → ℕ → Type 0) (spec : Spec) (c : Clause) (xs : List Tree) (w : List ℕ) → IsWeight rank spec (values_at (variables_of c) xs) (tidied c) w → IsWeight rank spec xs c w
-tidied_weight rank spec c xs w p = renumbered_ranks rank spec (variables_of c) xs (sides c) (variables_met c) w (subst (λ ts. AreRanks rank spec (values_at (variables_of c) xs) ts w) (sides_tidied c) p)
+pub tidied_weight : (rank : ℕ → ℕ → Tree → ℕ → Type 0) (spec : Spec) (c : Clause) (xs : List Tree)
+    (w : List ℕ) → IsWeight rank spec (values_at (variables_of c) xs) (tidied c) w → IsWeight rank spec xs c w
+tidied_weight rank spec c xs w p = renumbered_ranks rank spec (variables_of c) xs (sides c) (variables_met c) w
+    (subst (λ ts. AreRanks rank spec (values_at (variables_of c) xs) ts w) (sides_tidied c) p)
 
 pub keeps_weight : (rank : ℕ → ℕ → Tree → ℕ → Type 0) → TidyingKeepsWeight rank
 keeps_weight rank spec c xs w = (
-  λ p. subst (λ ts. AreRanks rank spec (values_at (variables_of c) xs) ts w) (sym (sides_tidied c)) (ranks_renumbered rank spec (variables_of c) xs (sides c) (variables_met c) w p),
+  λ p. subst (λ ts. AreRanks rank spec (values_at (variables_of c) xs) ts w) (sym (sides_tidied c))
+      (ranks_renumbered rank spec (variables_of c) xs (sides c) (variables_met c) w p),
   tidied_weight rank spec c xs w,
 )
 
-pub tidied_fails : (spec : Spec) (c : Clause) → ClauseIsSorted spec.sig c → (xs : List Tree) → ClauseFails spec c xs → ClauseFails spec (tidied c) (values_at (variables_of c) xs)
+pub tidied_fails : (spec : Spec) (c : Clause) → ClauseIsSorted spec.sig c → (xs : List Tree) →
+    ClauseFails spec c xs → ClauseFails spec (tidied c) (values_at (variables_of c) xs)
 tidied_fails spec c sorted xs fails = keeps_failing spec c xs sorted fails

@@ -1,11 +1,13 @@
 -- Names of a raw specification that a text derives are words of the text, so that they may appear in a report.
-use Rattle.std.proofs.Common.{◌≡◌, ℕ, ◌+◌, ◌≤◌, List, [], ◌∷◌, inl, inr, Option, Some, None, Bool, true, false, cond, nat_le, ◌||◌, length, map, codes, refl, sym, ◌∙◌, subst}
+use Rattle.std.proofs.Common.{◌≡◌, ℕ, ◌+◌, ◌≤◌, List, [], ◌∷◌, inl, inr, Option, Some, None, Bool, true, false, cond}
+use Rattle.std.proofs.Common.{nat_le, ◌||◌, length, map, codes, refl, sym, ◌∙◌, subst}
 use Rattle.std.specs.List.{AllByRecursion, list_any}
 use Rattle.std.specs.Str.{bytes_eq}
 use Rattle.std.proofs.lemmas.Bool.{leb-true}
 use Rattle.spec_text.proofs.SpanLemmas.{spans_hold}
 use Rattle.spec_grammar.specs.declared.keys.Key.{Key}
-use Rattle.spec_grammar.specs.declared.keys.Key.TheVariants.{Equals, Colon, Arrow, RightPar, Spike, Sort, Fun, Rule, Goal, If, Unless, Equal, Status, Order, Stray}
+use Rattle.spec_grammar.specs.declared.keys.Key.TheVariants.{Equals, Colon, Arrow, RightPar, Spike, Sort, Fun, Rule}
+use Rattle.spec_grammar.specs.declared.keys.Key.TheVariants.{Goal, If, Unless, Equal, Status, Order, Stray}
 use Rattle.spec_grammar.specs.declared.limits.LimitKind.{LimitKind}
 use Rattle.spec_grammar.specs.declared.limits.LimitKind.TheVariants as limit
 use Rattle.spec_grammar.specs.declared.raw.RawName.{RawName}
@@ -24,8 +26,14 @@ use Rattle.spec_grammar.specs.declared.raw.RawGoal.{RawGoal}
 use Rattle.spec_grammar.specs.declared.raw.RawSpec.{RawSpec}
 use Rattle.spec_grammar.specs.RawTree.{RawTree, RawTrees, word, none, some}
 use Rattle.spec_grammar.specs.Items.{Word, reserved}
-use Rattle.spec_grammar.specs.Limits.{name_mark, constructor_mark, term_mark, variable_mark, premise_mark, conclusion_mark}
-use Rattle.spec_grammar.specs.Grammar.{Marked, sign, name_text, term_text, args_text, more_text, more_names_text, names_text, con_text, constructors_text, AreSorts, funs_text, more_equal_text, AreEquals, more_numbers_text, AreStatuses, more_weights_text, weights_text, order_text, IsOrderText, guards_text, sides_text, rules_text, commas_text, premises_text, bars_text, conclusions_text, IsClause, more_binds_text, binds_text, AreGoals, IsSpecText}
+use Rattle.spec_grammar.specs.Limits.{name_mark, constructor_mark, term_mark, variable_mark, premise_mark}
+use Rattle.spec_grammar.specs.Limits.{conclusion_mark}
+use Rattle.spec_grammar.specs.Grammar.{Marked, sign, name_text, term_text, args_text, more_text, more_names_text}
+use Rattle.spec_grammar.specs.Grammar.{names_text, con_text, constructors_text, AreSorts, funs_text, more_equal_text}
+use Rattle.spec_grammar.specs.Grammar.{AreEquals, more_numbers_text, AreStatuses, more_weights_text, weights_text}
+use Rattle.spec_grammar.specs.Grammar.{order_text, IsOrderText, guards_text, sides_text, rules_text, commas_text}
+use Rattle.spec_grammar.specs.Grammar.{premises_text, bars_text, conclusions_text, IsClause, more_binds_text}
+use Rattle.spec_grammar.specs.Grammar.{binds_text, AreGoals, IsSpecText}
 use Rattle.spec_grammar.specs.Derives.{TextDerives}
 use Rattle.spec_printing.proofs.Plain.{IsGood, AllGood}
 use Rattle.spec_printing.proofs.Pieces.{tokens_good}
@@ -46,7 +54,8 @@ keyed : (List ℕ → Bool) → List (List ℕ × Key) → Option Key
 keyed test [] = None
 keyed test (w ∷ ws) = cond (test w.0) (Some w.1) (keyed test ws)
 
-not_keyed : (test : List ℕ → Bool) (ws : List (List ℕ × Key)) → keyed test ws ≡ None → list_any test (map (λ (w : List ℕ × Key). w.0) ws) ≡ false
+not_keyed : (test : List ℕ → Bool) (ws : List (List ℕ × Key)) → keyed test ws ≡ None →
+    list_any test (map (λ (w : List ℕ × Key). w.0) ws) ≡ false
 unfolding keyed
 not_keyed test [] e = refl
 not_keyed test (w ∷ ws) e =
@@ -55,8 +64,14 @@ not_keyed test (w ∷ ws) e =
 
 abbrev keys : List (List ℕ × Key)
 keys =
-    (codes "spike", Spike) ∷ (codes "sort", Sort) ∷ (codes "fun", Fun) ∷ (codes "rule", Rule) ∷ (codes "goal", Goal) ∷ (codes "if", If)
-    ∷ (codes "unless", Unless) ∷ (codes "order", Order) ∷ (codes "status", Status) ∷ (codes "equal", Equal) ∷ (codes "_", Stray) ∷ []
+    (codes "spike", Spike) ∷ (codes "sort", Sort) ∷ (codes "fun", Fun) ∷ (codes "rule", Rule) ∷ (
+      codes "goal",
+      Goal,
+    ) ∷ (codes "if", If)
+    ∷ (codes "unless", Unless) ∷ (codes "order", Order) ∷ (codes "status", Status) ∷ (
+      codes "equal",
+      Equal,
+    ) ∷ (codes "_", Stray) ∷ []
 
 reserved_by_keys : (name : List ℕ) → reserved name ≡ keyed (bytes_eq name) keys
 unfolding keyed
@@ -65,12 +80,15 @@ reserved_by_keys name = refl
 free_name : (name : List ℕ) → reserved name ≡ None → list_any (bytes_eq name) reserved_words ≡ false
 free_name name e = not_keyed (bytes_eq name) keys (sym (reserved_by_keys name) ∙ e)
 
-short_by : (b : Bool) (n : ℕ) (m : Option LimitKind) → nat_le n 64 ≡ b → cond {A = Option LimitKind} b m (Some limit.Name) ≡ None → n ≤ 64
+short_by : (b : Bool) (n : ℕ) (m : Option LimitKind) → nat_le n 64 ≡ b →
+    cond {A = Option LimitKind} b m (Some limit.Name) ≡ None → n ≤ 64
 short_by true n m e h = leb-true n 64 e
 short_by false n m e h = absurd (let q : Some limit.Name ≡ None = h in cc)
 
-word_stands : (name : List ℕ) (at : ℕ) (m : Option LimitKind) → IsGood (Word name at) → name_mark name m ≡ None → IsReportName name
-word_stands name at m good unmarked = report_name name (short_by (nat_le (length name) 64) (length name) m refl unmarked) (free_name name good.2) (good.0, good.1)
+word_stands : (name : List ℕ) (at : ℕ) (m : Option LimitKind) → IsGood (Word name at) →
+    name_mark name m ≡ None → IsReportName name
+word_stands name at m good unmarked = report_name name (short_by (nat_le (length name) 64) (length name) m refl
+    unmarked) (free_name name good.2) (good.0, good.1)
 
 -- each word of a term may appear in a report
 abbrev mutual
@@ -107,7 +125,8 @@ pub record RawNamesStand (raw : RawSpec) : Type 0 where
 
 -- Each part of a text, with what comes after it.
 mutual
-  term_words : (d : ℕ) (m : Option LimitKind) (t : RawTree) (v : List Marked) → AllGood (term_text d m t v) → WordsStand t × AllGood v
+  term_words : (d : ℕ) (m : Option LimitKind) (t : RawTree) (v : List Marked) → AllGood (term_text d m t v) →
+      WordsStand t × AllGood v
   term_words d m (word b a ts) v h = let args = args_words d ts v h.2 in ((word_stands b a m h.0 h.1, args.0), args.1)
 
   args_words : (d : ℕ) (ts : RawTrees) (v : List Marked) → AllGood (args_text d ts v) → AllWordsStand ts × AllGood v
@@ -124,7 +143,8 @@ mutual
       let others = more_words d (n + 1) ts v first.1 in
       ((first.0, others.0), others.1)
 
-sides_words : (m : Option LimitKind) (e : RawEq) (v : List Marked) → AllGood (sides_text m e.left e.right v) → SidesStand e × AllGood v
+sides_words : (m : Option LimitKind) (e : RawEq) (v : List Marked) → AllGood (sides_text m e.left e.right v) →
+    SidesStand e × AllGood v
 sides_words m e v h =
     let left = term_words 0 m e.left (sign Equals ∷ term_text 0 None e.right v) h in
     let right = term_words 0 None e.right v left.1.2 in
@@ -138,26 +158,31 @@ names_behind : (xs : List RawName) (v : List Marked) → AllGood (names_text xs 
 names_behind [] v h = h
 names_behind (x ∷ xs) v h = (more_names_behind 1 xs (sign RightPar ∷ v) h.2.2).2
 
-con_words : (m : Option LimitKind) (c : RawNames) (v : List Marked) → AllGood (con_text m c v) → IsReportName c.name × AllGood v
+con_words : (m : Option LimitKind) (c : RawNames) (v : List Marked) → AllGood (con_text m c v) →
+    IsReportName c.name × AllGood v
 con_words m c v h = (word_stands c.name c.at m h.0 h.1, names_behind c.args v h.2)
 
-constructors_words : (version k t : ℕ) (cs : List RawNames) (v : List Marked) → AllGood (constructors_text version k t cs v) → ConstructorsStand cs × AllGood v
+constructors_words : (version k t : ℕ) (cs : List RawNames) (v : List Marked) →
+    AllGood (constructors_text version k t cs v) → ConstructorsStand cs × AllGood v
 constructors_words version k t [] v h = (tt, h)
 constructors_words version k t (c ∷ cs) v h =
     let first = con_words (constructor_mark version k t) c (constructors_text version (k + 1) (t + 1) cs v) h.2 in
     let others = constructors_words version (k + 1) (t + 1) cs v first.1 in
     ((first.0, others.0), others.1)
 
-sorts_words : (version n t : ℕ) (ss : List RawSort) (text v : List Marked) → AreSorts version n t ss text v → AllGood text → AllByRecursion (λ (s : RawSort). ConstructorsStand s.constructors) ss × AllGood v
+sorts_words : (version n t : ℕ) (ss : List RawSort) (text v : List Marked) → AreSorts version n t ss text v →
+    AllGood text → AllByRecursion (λ (s : RawSort). ConstructorsStand s.constructors) ss × AllGood v
 sorts_words version n t [] text v are h = (tt, subst AllGood are h)
 sorts_words version n t (s ∷ ss) text v (first, others, after, cs, is, are) h =
     let good = subst AllGood is h in
-    let con = con_words (constructor_mark version 0 t) first (constructors_text version 1 (t + 1) others after) good.2.2.2 in
+    let con = con_words (constructor_mark version 0 t) first (constructors_text version 1 (t + 1) others after)
+    good.2.2.2 in
     let more = constructors_words version 1 (t + 1) others after con.1 in
     let rest = sorts_words version (n + 1) (t + 1 + length others) ss after v are more.1 in
     ((subst ConstructorsStand (sym cs) (con.0, more.0), rest.0), rest.1)
 
-funs_words : (version n : ℕ) (fs : List RawFun) (v : List Marked) → AllGood (funs_text version n fs v) → AllByRecursion (λ (f : RawFun). IsReportName f.head.name) fs × AllGood v
+funs_words : (version n : ℕ) (fs : List RawFun) (v : List Marked) → AllGood (funs_text version n fs v) →
+    AllByRecursion (λ (f : RawFun). IsReportName f.head.name) fs × AllGood v
 funs_words version n [] v h = (tt, h)
 funs_words version n (f ∷ fs) v h =
     let head = con_words None f.head (sign Colon ∷ name_text None f.result (funs_text version (n + 1) fs v)) h.2 in
@@ -171,7 +196,8 @@ guards_behind n (g ∷ gs) v h = guards_behind (n + 1) gs v (term_words 0 None g
 rules_behind : (version n : ℕ) (rs : List RawRule) (v : List Marked) → AllGood (rules_text version n rs v) → AllGood v
 rules_behind version n [] v h = h
 rules_behind version n (r ∷ rs) v h =
-    let sides = sides_words None (record { left = r.left; right = r.right }) (guards_text 0 r.guards (rules_text version (n + 1) rs v)) h.2 in
+    let sides = sides_words None (record { left = r.left; right = r.right })
+    (guards_text 0 r.guards (rules_text version (n + 1) rs v)) h.2 in
     rules_behind version (n + 1) rs v (guards_behind 0 r.guards (rules_text version (n + 1) rs v) sides.1)
 
 commas_words : (n : ℕ) (es : List RawEq) (v : List Marked) → AllGood (commas_text n es v) → AllSidesStand es × AllGood v
@@ -202,7 +228,8 @@ conclusions_words (e ∷ es) v h =
     let rest = bars_words 1 es v sides.1 in
     ((sides.0, rest.0), rest.1)
 
-clause_words : (ps cs : List RawEq) (text v : List Marked) → IsClause ps cs text v → AllGood text → AllSidesStand ps × AllSidesStand cs × AllGood v
+clause_words : (ps cs : List RawEq) (text v : List Marked) → IsClause ps cs text v → AllGood text →
+    AllSidesStand ps × AllSidesStand cs × AllGood v
 clause_words ps cs text v (inl is) h =
     let premises = premises_words ps (sign Arrow ∷ conclusions_text cs v) (subst AllGood is h) in
     let conclusions = conclusions_words cs v premises.1.2 in
@@ -212,7 +239,8 @@ clause_words ps cs text v (inr is) h =
     let none_there : AllSidesStand [] = tt in
     (subst AllSidesStand (sym is.0) none_there, conclusions.0, conclusions.1)
 
-more_binds_words : (n : ℕ) (bs : List RawBind) (v : List Marked) → AllGood (more_binds_text n bs v) → BindsStand bs × AllGood v
+more_binds_words : (n : ℕ) (bs : List RawBind) (v : List Marked) → AllGood (more_binds_text n bs v) →
+    BindsStand bs × AllGood v
 more_binds_words n [] v h = (tt, h)
 more_binds_words n (b ∷ bs) v h =
     let rest = more_binds_words (n + 1) bs v h.2.2.2.2 in
@@ -224,13 +252,19 @@ binds_words (b ∷ bs) v h =
     let rest = more_binds_words 1 bs (sign RightPar ∷ v) h.2.2.2.2 in
     ((word_stands b.name.name b.name.at (variable_mark 0) h.2.0 h.2.1, rest.0), rest.1.2)
 
-goals_words : (n : ℕ) (gs : List RawGoal) (text v : List Marked) → AreGoals n gs text v → AllGood text → AllByRecursion GoalWordsStand gs
+goals_words : (n : ℕ) (gs : List RawGoal) (text v : List Marked) → AreGoals n gs text v → AllGood text →
+    AllByRecursion GoalWordsStand gs
 goals_words n [] text v are h = tt
 goals_words n (g ∷ gs) text v (clause, after, is, are_clause, are) h =
     let good = subst AllGood is h in
     let binds = binds_words g.binds (sign Colon ∷ clause) good.2.2 in
     let sides = clause_words g.premises g.conclusions clause after are_clause binds.1.2 in
-    let goal : GoalWordsStand g = record { name = word_stands g.head.name g.head.at None good.2.0 good.2.1; binds = binds.0; premises = sides.0; conclusions = sides.1 } in
+    let goal : GoalWordsStand g = record {
+      name = word_stands g.head.name g.head.at None good.2.0 good.2.1;
+      binds = binds.0;
+      premises = sides.0;
+      conclusions = sides.1;
+    } in
     (goal, goals_words (n + 1) gs after v are sides.2)
 
 -- what comes after the lines that order functions

@@ -1,7 +1,8 @@
 -- The exit status of each status.
 use Rattle.std.specs.Prelude.{ℕ}
 use Rattle.file_replies.specs.declared.statuses.Status.{Status}
-use Rattle.file_replies.specs.declared.statuses.Status.TheVariants.{Done, Refuted, Open, Refused, No, ReadFault, WriteFault, Usage, OutOfMemory}
+use Rattle.file_replies.specs.declared.statuses.Status.TheVariants.{Done, Refuted, Open, Refused, No, ReadFault}
+use Rattle.file_replies.specs.declared.statuses.Status.TheVariants.{WriteFault, Usage, OutOfMemory}
 
 abbrev pub code_of : Status → ℕ
 code_of Done = 0

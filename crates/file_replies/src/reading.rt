@@ -1,6 +1,7 @@
 //! `read_text`: the bytes of a specification's file.
 
-ghost use Rattle.std.specs.Prelude.{◌≡◌, ◌≢◌, ◌≤◌, ◌⊎◌, ℕ, List, length, IfOk, IfErr, IfSome, IsErrOf, OnOk};
+ghost use Rattle.std.specs.Prelude.{◌≡◌, ◌≢◌, ◌≤◌, ◌⊎◌, ℕ, List, length, IfOk, IfErr, IfSome};
+ghost use Rattle.std.specs.Prelude.{IsErrOf, OnOk};
 ghost use Rattle.io_core.specs.Asked.{AddsName};
 ghost use Rattle.io_core.specs.Count.{Rose};
 ghost use Rattle.io_core.specs.declared.faults.ReadError.TheVariants as ReadError;

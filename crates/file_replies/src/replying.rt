@@ -38,7 +38,8 @@ pub fn reply_to_file<Y: YesText, F: Files, S: Sink>(
     ensures finishes { FinishesReading (S.written out.old) (S.written out.new)
         (S.faults out.old) (S.faults out.new) (F.faults files.old) (F.faults files.new)
         (IsFileReply (Y.is_text yes.now) admitted.now.spec (F.held files.old report.now))
-        (IsFileReplyText (Y.is_text yes.now) admitted.now.spec (F.held files.old report.now)) result }
+        (IsFileReplyText (Y.is_text yes.now) admitted.now.spec (F.held files.old report.now))
+        result }
     ensures asked { AsksFor (report.now ∷ []) (F.asked files.old) (F.asked files.new) }
     ensures stays { (name : List ℕ) → F.held files.new name ≡ F.held files.old name }
     ensures reads { F.faults files.old ≤ F.faults files.new }

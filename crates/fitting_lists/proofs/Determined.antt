@@ -11,7 +11,8 @@ use Rattle.clause_core.specs.declared.clauses.Clause.{Clause}
 use Rattle.clause_core.specs.Equations.{swapped}
 use Rattle.clause_core.specs.NumberedEquations.{equations}
 use Rattle.fitting_lists.specs.Questions.{Question, Answers}
-use Rattle.fitting_lists.specs.Fitting.{Located, both_sides, has_all, leading, fitting, fittings, sides_of, rewritable, rewriting}
+use Rattle.fitting_lists.specs.Fitting.{Located, both_sides, has_all, leading, fitting, fittings, sides_of, rewritable}
+use Rattle.fitting_lists.specs.Fitting.{rewriting}
 use Rattle.fitting_lists.proofs.AllItems.{all_of, all_mapped, all_flat, all_taken, all_filtered}
 use Rattle.fitting_lists.proofs.VariableTests.{all_occur}
 

@@ -1,11 +1,13 @@
 -- Spines of a pattern and of the term that it becomes, and a walk along last arguments.
-use Rattle.std.proofs.Common.{◌≡◌, ℕ, zero, suc, Some, ◌+◌, ◌-◌, ◌^◌, ◌<◌, ◌≤◌, ◌==◌, List, [], ◌∷◌, Bool, true, false, cond, inl, inr, refl, ap, sym, ◌∙◌, min, length, get_or, arith}
+use Rattle.std.proofs.Common.{◌≡◌, ℕ, zero, suc, Some, ◌+◌, ◌-◌, ◌^◌, ◌<◌, ◌≤◌, ◌==◌, List, [], ◌∷◌, Bool, true, false}
+use Rattle.std.proofs.Common.{cond, inl, inr, refl, ap, sym, ◌∙◌, min, length, get_or, arith}
 use Rattle.std.specs.Prelude.{◌⊎◌}
 use Rattle.std.proofs.lemmas.Bool.Decides.{nat_tests}
 use Rattle.term_core.specs.Tree.{Tree, Trees, var, app, none, some, trees_of, instance, instances}
 use Rattle.fitting_lists.specs.declared.spines.SpineEnd.{SpineEnd}
 use Rattle.fitting_lists.specs.declared.spines.SpineEnd.TheVariants.{Variable, Symbol}
-use Rattle.fitting_lists.specs.Spines.{numbered, Run, one_more, run, last_run, spine_from, spine_of, MayBecome, missing_in}
+use Rattle.fitting_lists.specs.Spines.{numbered, Run, one_more, run, last_run, spine_from, spine_of, MayBecome}
+use Rattle.fitting_lists.specs.Spines.{missing_in}
 
 -- what is so of the runs of a pattern and of the term that it becomes
 abbrev Within : Run → Run → Type 0

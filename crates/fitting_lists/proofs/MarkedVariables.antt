@@ -1,5 +1,6 @@
 -- What walks over terms mark, one after the other, and what it means that all is marked.
-use Rattle.std.proofs.Common.{◌≡◌, ℕ, zero, suc, ◌<◌, ◌≤◌, ◌⊎◌, ◌↔◌, List, [], ◌∷◌, ◌++◌, drop, Bool, true, false, IsTrue, inl, inr, refl, sym, ◌∙◌, ap, subst, length, get_or, take, arith}
+use Rattle.std.proofs.Common.{◌≡◌, ℕ, zero, suc, ◌<◌, ◌≤◌, ◌⊎◌, ◌↔◌, List, [], ◌∷◌, ◌++◌, drop, Bool, true, false}
+use Rattle.std.proofs.Common.{IsTrue, inl, inr, refl, sym, ◌∙◌, ap, subst, length, get_or, take, arith}
 use Rattle.std.specs.Prelude.{replicate}
 use Rattle.term_core.specs.Tree.{Tree, trees_of}
 use Rattle.term_core.specs.Variables.{Occurs, OccursAny}

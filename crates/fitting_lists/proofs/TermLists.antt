@@ -1,6 +1,7 @@
 -- What a match finds from no entries on answers the question for its patterns, and nothing else
 -- does.
-use Rattle.std.proofs.Common.{◌≡◌, ℕ, List, [], ◌∷◌, Option, Some, None, Bool, true, false, inl, inr, map, length, refl, ap, sym, ◌∙◌, subst, unwrap_or}
+use Rattle.std.proofs.Common.{◌≡◌, ℕ, List, [], ◌∷◌, Option, Some, None, Bool, true, false, inl, inr, map, length}
+use Rattle.std.proofs.Common.{refl, ap, sym, ◌∙◌, subst, unwrap_or}
 use Rattle.std.specs.Prelude.{◌⊎◌, Ok, replicate}
 use Rattle.std.specs.Option.{IsSome}
 use Rattle.term_core.specs.Tree.{Tree, var, some, none, trees_of, instance}

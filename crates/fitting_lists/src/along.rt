@@ -6,7 +6,7 @@ ghost use Rattle.term_core.specs.Measure.{weight, list_weight};
 ghost use Rattle.fitting_lists.specs.Along.{StillBecomes, IsLighter};
 
 use spec_core::Equation;
-use term_core::{TermNode, Term};
+use term_core::{Term, TermNode};
 
 /// What a walk along last arguments finds at a pattern and a term: that their symbols differ, so
 /// that no list makes the pattern the term, that the walk ends there, or their last arguments.

@@ -3,7 +3,7 @@
 ghost use Rattle.std.specs.Prelude.{◌≡◌, List, IsTrue};
 ghost use Rattle.term_core.specs.Tree.{Tree, trees_of, instance, instances};
 
-use term_core::{TermNode, Term, front};
+use term_core::{Term, TermNode, front};
 
 /// Whether the symbols of the pattern occur in the term too. If they don't, no list makes the
 /// pattern the term. Repeated variables are not compared.

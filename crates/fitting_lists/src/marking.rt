@@ -6,7 +6,7 @@ ghost use Rattle.term_core.specs.Variables.{Occurs, OccursAny};
 ghost use Rattle.fitting_lists.specs.Marks.{IsMarked, MarksMore};
 
 use std::alloc::Global;
-use term_core::{TermNode, OutOfMemory, Term};
+use term_core::{OutOfMemory, Term, TermNode};
 
 /// No marks for this many variables.
 pub(crate) fn no_marks(alloc: Global, count: usize) -> Result<Vec<bool>, OutOfMemory>

@@ -3,9 +3,10 @@
 ghost use Rattle.std.specs.Prelude.{◌≡◌, ◌↔◌, ◌<◌, ◌-◌, IsTrue, IfOk, MatchResult};
 ghost use Rattle.term_core.specs.Tree.{app, trees_of};
 ghost use Rattle.term_core.specs.Measure.{list_weight};
-ghost use Rattle.fitting_lists.specs.Spines.{one_more, last_run, spine_of, EndsWithin, MayBecome, missing_in};
+ghost use Rattle.fitting_lists.specs.Spines.{one_more, last_run, spine_of, EndsWithin, MayBecome};
+ghost use Rattle.fitting_lists.specs.Spines.{missing_in};
 
-use term_core::{TermNode, SymId, Term};
+use term_core::{SymId, Term, TermNode};
 
 /// What ends a spine: a variable, that the last symbol has no arguments, or another symbol.
 #[derive(Clone, Copy, Debug, PartialEq, Eq)]
@@ -16,8 +17,9 @@ pub enum SpineEnd {
 }
 
 /// The spine of a term: the symbol at its root, how often it occurs from there on along last
-/// arguments, and what ends this. So succ(succ(plus(x, y))) has succ, 2 and plus. A variable has the
-/// length 0. If spines don't fit, a pattern doesn't become a term, which is known without a walk.
+/// arguments, and what ends this. So succ(succ(plus(x, y))) has succ, 2 and plus. A variable has
+/// the length 0. If spines don't fit, a pattern doesn't become a term, which is known without a
+/// walk.
 #[derive(Clone, Copy, Debug)]
 pub struct Spine {
     pub root: Option<SymId>,

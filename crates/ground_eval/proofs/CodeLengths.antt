@@ -10,11 +10,14 @@ use Rattle.spec_core.specs.declared.records.Guard.{Guard}
 use Rattle.spec_core.specs.declared.records.Rule.{Rule}
 use Rattle.rule_code.specs.Lengths.{term_length, tests_length, rules_length}
 use Rattle.bank_machine.specs.Fuel.{most_guards}
-use Rattle.open_evaluation.specs.Shifted.{shifted, shifted_all, shifted_equation, shifted_guard, shifted_rule, shifted_goal}
+use Rattle.open_evaluation.specs.Shifted.{shifted, shifted_all, shifted_equation, shifted_guard, shifted_rule}
+use Rattle.open_evaluation.specs.Shifted.{shifted_goal}
 use Rattle.ground_eval.specs.Prepared.{sides_length, goal_length}
 
 -- one more equation
-pub next_sides : (es : List Equation) (k : ℕ) (e : Equation) (old mid one new : ℕ) → slice_get es k ≡ Some e → mid + sides_length (drop k es) ≤ old + sides_length es → one ≤ mid + term_length e.left → new ≤ one + term_length e.right → new + sides_length (drop (k + 1) es) ≤ old + sides_length es
+pub next_sides : (es : List Equation) (k : ℕ) (e : Equation) (old mid one new : ℕ) → slice_get es k ≡ Some e →
+    mid + sides_length (drop k es) ≤ old + sides_length es → one ≤ mid + term_length e.left →
+    new ≤ one + term_length e.right → new + sides_length (drop (k + 1) es) ≤ old + sides_length es
 next_sides es k e old mid one new at h l r = omega (arith, h, l, r, ap sides_length (drop_here es k e at))
 
 -- new numbers of symbols change no length
@@ -40,7 +43,8 @@ module _ (c u : ℕ) where
   guards_shifted [] = refl
   guards_shifted (r ∷ rs) =
       let here : length (map (shifted_guard c u) r.guards) ≡ length r.guards = length-map r.guards _ in
-      ap (λ n. max n (most_guards (map (shifted_rule c u) rs))) here ∙ ap (λ n. max (length r.guards) n) (guards_shifted rs)
+      ap (λ n. max n (most_guards (map (shifted_rule c u) rs))) here
+      ∙ ap (λ n. max (length r.guards) n) (guards_shifted rs)
 
   sides_shifted : (es : List Equation) → sides_length (map (shifted_equation c u) es) ≡ sides_length es
   sides_shifted [] = refl

@@ -10,15 +10,33 @@ use Rattle.ground_eval.specs.OpenSides.{Setting, CanOpen, CanOpenAll, with_const
 use Rattle.ground_eval.proofs.SharedSides.{stand_kept}
 
 -- sides can be compared when cells are added
-pub can_open_still : (s : Setting) (p : Program) (old new : List Cell) (pair : SidePair) (ids : List ValueId) (e : Equation) → AddsCells old new → CanOpen s p old pair ids e → CanOpen s p new pair ids e
+pub can_open_still : (s : Setting) (p : Program) (old new : List Cell) (pair : SidePair) (ids : List ValueId)
+    (e : Equation) → AddsCells old new → CanOpen s p old pair ids e → CanOpen s p new pair ids e
 can_open_still s p old new pair ids e adds h =
     let c = h.compared in
-    record { compared = record { code = c.code; stand = stand_kept old new ids (with_constants s) adds c.stand; built = c.built; sorted = c.sorted }; left = h.left; right = h.right }
+    record {
+      compared = record {
+        code = c.code;
+        stand = stand_kept old new ids (with_constants s) adds c.stand;
+        built = c.built;
+        sorted = c.sorted;
+      };
+      left = h.left;
+      right = h.right;
+    }
 
-pub can_open_all_still : (s : Setting) (p : Program) (old new : List Cell) (pairs : List SidePair) (ids : List ValueId) (es : List Equation) → AddsCells old new → CanOpenAll s p old pairs ids es → CanOpenAll s p new pairs ids es
-can_open_all_still s p old new pairs ids es adds h = record { count = h.count; each = λ k e pair a b. can_open_still s p old new pair ids e adds (h.each k e pair a b) }
+pub can_open_all_still : (s : Setting) (p : Program) (old new : List Cell) (pairs : List SidePair)
+    (ids : List ValueId) (es : List Equation) → AddsCells old new → CanOpenAll s p old pairs ids es →
+    CanOpenAll s p new pairs ids es
+can_open_all_still s p old new pairs ids es adds
+    h = record {
+      count = h.count;
+      each = λ k e pair a b. can_open_still s p old new pair ids e adds
+          (h.each k e pair a b);
+    }
 
-module _ (s : Setting) (p : Program) (cells : List Cell) (pairs : List SidePair) (ids : List ValueId) (es : List Equation) (c : CanOpenAll s p cells pairs ids es) where
+module _ (s : Setting) (p : Program) (cells : List Cell) (pairs : List SidePair) (ids : List ValueId)
+    (es : List Equation) (c : CanOpenAll s p cells pairs ids es) where
   -- an equation with its code
   pub record OpenedPair (i : ℕ) (pair : SidePair) (new : List Cell) : Type 0 where
     pub equation : Equation
@@ -30,7 +48,13 @@ module _ (s : Setting) (p : Program) (cells : List Cell) (pairs : List SidePair)
   some_item (x ∷ xs) zero lt = (x, refl)
   some_item (x ∷ xs) (suc i) lt = some_item xs i (omega (arith, lt))
 
-  pub opened_pair : (i : ℕ) (pair : SidePair) → slice_get pairs i ≡ Some pair → i < length pairs → (new : List Cell) → AddsCells cells new → OpenedPair i pair new
+  pub opened_pair : (i : ℕ) (pair : SidePair) → slice_get pairs i ≡ Some pair → i < length pairs →
+      (new : List Cell) → AddsCells cells new → OpenedPair i pair new
   opened_pair i pair at lt new adds =
       let e = some_item es i (omega (arith, lt, c.count)) in
-      record { equation = e.0; at = e.1; ready = can_open_still s p cells new pair ids e.0 adds (c.each i e.0 pair e.1 at) }
+      record {
+        equation = e.0;
+        at = e.1;
+        ready = can_open_still s p cells new pair ids e.0 adds
+            (c.each i e.0 pair e.1 at);
+      }

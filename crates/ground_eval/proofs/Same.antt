@@ -19,14 +19,16 @@ use Rattle.ground_eval.specs.declared.answers.Eval.TheVariants.{Value, Large, Sp
 use Rattle.ground_eval.specs.Evals.{IsEval, IsOnly}
 
 -- the value and the cost that were found are the only ones
-pub eval_only : (spec : Spec) → IsWellSorted spec → (t : Tree) (s : SortId) (b : ℕ) (e : Eval) → Sorted spec.sig [] t s → IsEval spec t b e → IsOnly spec t e
+pub eval_only : (spec : Spec) → IsWellSorted spec → (t : Tree) (s : SortId) (b : ℕ) (e : Eval) →
+    Sorted spec.sig [] t s → IsEval spec t b e → IsOnly spec t e
 eval_only spec fine t s b (Value v n) p h = λ a w x m g. determined spec fine a w g s p h.0
 eval_only spec fine t s b (Large n) p h = λ a w x m g.
     let d = determined spec fine a w g s p h.1 in
     (subst (λ y. 10000 < tree_size y) (sym d.0) h.3, d.1)
 eval_only spec fine t s b Spent p h = tt
 
-module _ (spec : Spec) (cells : List Cell) (t : Tree) (budget : ℕ) (id : ValueId) (n : ℕ) (h : IsBankEval spec cells (instance [] t) budget (found.Value id n)) where
+module _ (spec : Spec) (cells : List Cell) (t : Tree) (budget : ℕ) (id : ValueId) (n : ℕ)
+    (h : IsBankEval spec cells (instance [] t) budget (found.Value id n)) where
   -- the value is read from the bank
   pub value_read : (v : Tree) → IsAnswer cells id.0 (Ok v) → IsEval spec t budget (Value v n)
   value_read v a =
@@ -41,5 +43,7 @@ module _ (spec : Spec) (cells : List Cell) (t : Tree) (budget : ℕ) (id : Value
       let gives : Gives spec t h.0 n = subst (λ x. Gives spec x h.0 n) (instance_none t) h.2 in
       (h.0, gives, h.3, subst (λ x. 10000 < tree_size x) (sym same) a.2)
 
-pub none_found : (spec : Spec) (cells : List Cell) (t : Tree) (budget : ℕ) → IsBankEval spec cells (instance [] t) budget found.Spent → IsEval spec t budget Spent
-none_found spec cells t budget h = λ apart whole v n g le. h apart whole v n (subst (λ x. Gives spec x v n) (sym (instance_none t)) g) le
+pub none_found : (spec : Spec) (cells : List Cell) (t : Tree) (budget : ℕ) →
+    IsBankEval spec cells (instance [] t) budget found.Spent → IsEval spec t budget Spent
+none_found spec cells t budget h = λ apart whole v n g le. h apart whole v n
+    (subst (λ x. Gives spec x v n) (sym (instance_none t)) g) le

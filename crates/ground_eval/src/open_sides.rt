@@ -8,7 +8,8 @@ ghost use Rattle.bank_machine.specs.Fuel.{most_added};
 ghost use Rattle.bank_machine.specs.KeptCalls.{AreRight};
 ghost use Rattle.ground_eval.specs.Constants.{AreMarks};
 ghost use Rattle.ground_eval.specs.Looked.{most_compared};
-ghost use Rattle.ground_eval.specs.OpenSides.{Setting, IsSet, CanOpen, CanOpenAll, SidesOpen, PremisesOpen, ConclusionsOpen};
+ghost use Rattle.ground_eval.specs.OpenSides.{Setting, IsSet, CanOpen, CanOpenAll, SidesOpen};
+ghost use Rattle.ground_eval.specs.OpenSides.{PremisesOpen, ConclusionsOpen};
 
 use crate::answers::OpenSides;
 use crate::comparing::SidePair;

@@ -1,6 +1,7 @@
 //! `PartialGoal`: the verdict if only the first variables have values.
 
-ghost use Rattle.std.specs.Prelude.{◌≡◌, ◌≢◌, ◌≤◌, ◌+◌, ◌-◌, ◌++◌, ℕ, suc, List, [], ◌∷◌, IfOk, Some, MatchOption, length, slice_get};
+ghost use Rattle.std.specs.Prelude.{◌≡◌, ◌≢◌, ◌≤◌, ◌+◌, ◌-◌, ◌++◌, ℕ, suc, List, [], ◌∷◌, IfOk};
+ghost use Rattle.std.specs.Prelude.{Some, MatchOption, length, slice_get};
 ghost use Rattle.term_core.specs.Tree.{Tree, app, none};
 ghost use Rattle.spec_core.specs.declared.records.Goal.{Goal};
 ghost use Rattle.spec_core.specs.WellSorted.{IsWellSorted};

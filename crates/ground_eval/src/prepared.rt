@@ -12,7 +12,8 @@ ghost use Rattle.rule_code.specs.Blocks.{AddsCode};
 ghost use Rattle.bank_machine.specs.KeptCalls.{AreRight};
 ghost use Rattle.bank_machine.specs.Runs.{StandAt};
 ghost use Rattle.ground_eval.specs.Looked.{most_compared};
-ghost use Rattle.ground_eval.specs.Prepared.{HaveCode, IsPrepared, CanCompareAll, sides_length, goal_length};
+ghost use Rattle.ground_eval.specs.Prepared.{HaveCode, IsPrepared, CanCompareAll, sides_length};
+ghost use Rattle.ground_eval.specs.Prepared.{goal_length};
 ghost use Rattle.ground_eval.specs.Sides.{IsDecided};
 
 use crate::answers::Sides;

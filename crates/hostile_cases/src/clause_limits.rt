@@ -4,16 +4,16 @@ use crate::patterns::expanded;
 use spike_cli::Status;
 use std::test::Fail;
 
-/// What the goals are about. Of `f` a term with eight times the argument is made, and of `g` one that
-/// is deeper by 59.
+/// What the goals are about. Of `f` a term with eight times the argument is made, and of `g` one
+/// that is deeper by 59.
 const DECLARATIONS: &str = "sort S = c | s(S) | d(S{7 , S}) | e(S{6 , S})\n\
 fun f(S) : S\n\
 fun g(S) : S\n\
 rule f(x) = d(x{7 , x})\n\
 rule g(x) = {60 s(}x{60 )}\n";
 
-/// Eight steps, of which the last one is on line 11. Each puts the equations of the arguments in the
-/// place of a premise.
+/// Eight steps, of which the last one is on line 11. Each puts the equations of the arguments in
+/// the place of a premise.
 const DECOMPOSED: &str = "decompose p1\n\
 decompose p9\n\
 decompose p17\n\

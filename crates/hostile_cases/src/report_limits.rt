@@ -11,8 +11,8 @@ goal same(x : N) : x = x\n\
 goal bad : x = z\n";
 
 /// The number of steps, the claims, and what is answered. A claim's first line is line 3. Of the
-/// lines of 300,000 bytes the first has 20, `subsume` has 16 and four for each `, ?0`, and `trivial`
-/// has 11; `subsume` gets too many terms.
+/// lines of 300,000 bytes the first has 20, `subsume` has 16 and four for each `, ?0`, and
+/// `trivial` has 11; `subsume` gets too many terms.
 const CLAIMS: [(u32, &str, &str); 15] = [
     (100_000, "", "yes: proved 0, refuted 0, open 0"),
     (100_001, "", "no line 2: not a report"),

@@ -6,8 +6,8 @@ use io_core::StdSink;
 use spike_cli::Status;
 use std::test::Fail;
 
-/// Proves what these specifications say, of a goal that is proved, one that is refuted, and two that
-/// are proved by induction over a definition with guards.
+/// Proves what these specifications say, of a goal that is proved, one that is refuted, and two
+/// that are proved by induction over a definition with guards.
 fn calls() -> [(Call<'static>, Status); 3] {
     [
         (proving(PLUS_ZERO), Status::Done),

@@ -25,22 +25,30 @@ ComparesNothing (needs P why rest) = (p : P) → ComparesNothing (rest p)
 ComparesNothing (makes children refs) = AllByRecursion IsRelated children × AllByRecursion (λ (r : ℕ × Clause). ⊥) refs
 
 module _ (above other : Tree → Tree → Type 0) (c : Clause) where
-  children_alone : (ms : List Made) (made : List Child) → AllByRecursion IsRelated ms → AllZip (IsChild above c) ms made → AllZip (IsChild other c) ms made
+  children_alone : (ms : List Made) (made : List Child) → AllByRecursion IsRelated ms →
+      AllZip (IsChild above c) ms made → AllZip (IsChild other c) ms made
   children_alone [] [] a p = tt
   children_alone [] (d ∷ ds) a p = absurd p
   children_alone (m ∷ ms) [] a p = absurd p
   children_alone (child r e ∷ ms) (d ∷ ds) a p = (p.0, children_alone ms ds a.1 p.1)
   children_alone (compared_child e ∷ ms) (d ∷ ds) a p = absurd a.0
 
-  refs_alone : (rs : List (ℕ × Clause)) (made : List Reference) → AllByRecursion (λ (r : ℕ × Clause). ⊥) rs → AllZip (IsReference above c) rs made → AllZip (IsReference other c) rs made
+  refs_alone : (rs : List (ℕ × Clause)) (made : List Reference) → AllByRecursion (λ (r : ℕ × Clause). ⊥) rs →
+      AllZip (IsReference above c) rs made → AllZip (IsReference other c) rs made
   refs_alone [] [] a p = tt
   refs_alone [] (d ∷ ds) a p = absurd p
   refs_alone (r ∷ rs) made a p = absurd a.0
 
-  says_alone : (nodes : List Clause) (row : Row) → ComparesNothing row → (a : Result Children Why) → Says above c nodes row a → Says other c nodes row a
+  says_alone : (nodes : List Clause) (row : Row) → ComparesNothing row → (a : Result Children Why) →
+      Says above c nodes row a → Says other c nodes row a
   says_alone nodes (needs P why rest) h a (inl p) = inl (p.0, says_alone nodes (rest p.0) (h p.0) a p.1)
   says_alone nodes (needs P why rest) h a (inr p) = inr p
-  says_alone nodes (makes ms rs) h a (made, p, q, l) = (made, children_alone ms made.clauses h.0 p, refs_alone rs made.refs h.1 q, l)
+  says_alone nodes (makes ms rs) h a (made, p, q, l) = (
+    made,
+    children_alone ms made.clauses h.0 p,
+    refs_alone rs made.refs h.1 q,
+    l,
+  )
 
 -- what a step answers that compares nothing is its answer by every order
 pub by_any_order :

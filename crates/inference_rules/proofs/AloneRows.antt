@@ -18,7 +18,8 @@ use Rattle.clause_core.specs.Generalizing.{generalize_row}
 use Rattle.inference_rules.proofs.Alone.{IsRelated, ComparesNothing}
 
 -- children that have their relation from the row
-all_related : {X : Type 0} (relation : Relation) (made : X → Clause) (xs : List X) → AllByRecursion IsRelated (map (λ x. child relation (made x)) xs)
+all_related : {X : Type 0} (relation : Relation) (made : X → Clause) (xs : List X) →
+    AllByRecursion IsRelated (map (λ x. child relation (made x)) xs)
 all_related relation made [] = tt
 all_related relation made (x ∷ xs) = (tt, all_related relation made xs)
 
@@ -32,7 +33,8 @@ module _ (spec : Spec) (c : Clause) where
   pub absurd_alone : (number : ℕ) → ComparesNothing (absurd_row spec c number)
   absurd_alone number = λ at clash. (tt, tt)
 
-  pub by_lemma_alone : (usable : ℕ → Type 0) (name : List ℕ) (terms : List Tree) → ComparesNothing (by_lemma_row spec c usable name terms)
+  pub by_lemma_alone : (usable : ℕ → Type 0) (name : List ℕ) (terms : List Tree) →
+      ComparesNothing (by_lemma_row spec c usable name terms)
   by_lemma_alone usable name terms = λ lemma sorted within subsumes. (tt, tt)
 
   pub rule_alone : (place : Place) (number : ℕ) → ComparesNothing (rule_row spec c place number)

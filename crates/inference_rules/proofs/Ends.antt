@@ -51,7 +51,8 @@ module _ (above : Tree → Tree → Type 0) (c : Clause) where
       news ≡ made ++ new ∷ [] → AllZip (IsChild above c) (map (child relation) (ds ++ d ∷ [])) news
   child_more relation ds d made news new p t r n =
       subst (λ ms. AllZip (IsChild above c) ms news) (sym (map-append (child relation) ds (d ∷ [])))
-      (subst (λ (xs : List Child). AllZip (IsChild above c) (map (child relation) ds ++ child relation d ∷ []) xs) (sym n) (pairs_more (IsChild above c) (map (child relation) ds) made (child relation d) new p (t, r)))
+      (subst (λ (xs : List Child). AllZip (IsChild above c) (map (child relation) ds ++ child relation d ∷ [])
+      xs) (sym n) (pairs_more (IsChild above c) (map (child relation) ds) made (child relation d) new p (t, r)))
 
   pub nothing_referred : (made : List Reference) → made ≡ [] → AllZip (IsReference above c) [] made
   nothing_referred made e = subst (λ (xs : List Reference). AllZip (IsReference above c) [] xs) (sym e) tt

@@ -15,12 +15,25 @@ module _ (spec : Spec) (proved : List ℕ) (name : List ℕ) where
   pub usable :
       (i d : ℕ) (g : Goal) → i < length proved → slice_get spec.goals (get_or proved i d) ≡ Some g → g.name ≡ name →
       (u : UsableGoal spec (Contains proved) name) × (u.goal ≡ g)
-  usable i d g lt at named =
-      (record { number = get_or proved i d; goal = g; is = at; named = named; may_be_used = (i, lt, same_place proved i d (get_or proved i d) lt) }, refl)
+  usable i d g lt at named = (
+    record {
+      number = get_or proved i d;
+      goal = g;
+      is = at;
+      named = named;
+      may_be_used = (
+        i,
+        lt,
+        same_place proved i d (get_or proved i d) lt,
+      );
+    },
+    refl,
+  )
 
   -- none may be used if none of the numbers is that of a goal of the name
   pub none_usable :
-      (d : ℕ) → ((k : ℕ) → k < length proved → (g : Goal) → slice_get spec.goals (get_or proved k d) ≡ Some g → g.name ≡ name → ⊥) →
+      (d : ℕ) → ((k : ℕ) → k < length proved → (g : Goal) → slice_get spec.goals (get_or proved k d) ≡ Some g →
+      g.name ≡ name → ⊥) →
       UsableGoal spec (Contains proved) name → ⊥
   none_usable d h u =
       let k = u.may_be_used.0 in

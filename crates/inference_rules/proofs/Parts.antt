@@ -1,5 +1,6 @@
 -- A term occurs in another if a context makes the other of it.
-use Rattle.std.proofs.Common.{◌≡◌, ℕ, zero, suc, ◌+◌, ◌<◌, List, [], ◌∷◌, ◌++◌, inl, inr, length, take, get_or, refl, ap, subst, arith}
+use Rattle.std.proofs.Common.{◌≡◌, ℕ, zero, suc, ◌+◌, ◌<◌, List, [], ◌∷◌, ◌++◌, inl, inr, length, take, get_or, refl}
+use Rattle.std.proofs.Common.{ap, subst, arith}
 use Rattle.std.specs.Prelude.{◌⊎◌}
 use Rattle.term_core.specs.Tree.{Tree, Trees, var, app, none, some, trees_of}
 use Rattle.term_core.specs.Contexts.{Context, hole, under, around, plug}
@@ -16,7 +17,8 @@ pub part_itself : (t : Tree) → IsPart t t
 part_itself (var n) = refl
 part_itself (app f ts) = inl refl
 
-part_around : (t : Tree) (before : Trees) (u : Tree) (after : Trees) → IsPart t u → IsPartOfAny t (around before u after)
+part_around : (t : Tree) (before : Trees) (u : Tree) (after : Trees) → IsPart t u →
+    IsPartOfAny t (around before u after)
 part_around t none u after p = inl p
 part_around t (some b before) u after p = inr (part_around t before u after p)
 
@@ -66,7 +68,8 @@ standing t c p =
     (m.0, r.0, contained_in (sides c) m.0 m.1, r.1)
 
 pub part_of_sides : (t : Tree) (c : Clause) → StandsIn t c → IsPartOfAny t (trees_of (sides c))
-part_of_sides t c h = part_member t h.0 (sides c) (subst (λ s. IsPart t s) h.3 (part_plugged t h.1)) (in_contained (sides c) h.0 h.2)
+part_of_sides t c h = part_member t h.0 (sides c) (subst (λ s. IsPart t s) h.3 (part_plugged t h.1))
+    (in_contained (sides c) h.0 h.2)
 
 pub part_left : (t : Tree) (us vs : List Tree) → IsPartOfAny t (trees_of us) → IsPartOfAny t (trees_of (us ++ vs))
 part_left t [] vs p = absurd p
@@ -77,13 +80,15 @@ pub part_right : (t : Tree) (us vs : List Tree) → IsPartOfAny t (trees_of vs) 
 part_right t [] vs p = p
 part_right t (u ∷ us) vs p = inr (part_right t us vs p)
 
-pub part_either : (t : Tree) (us vs : List Tree) → IsPartOfAny t (trees_of (us ++ vs)) → IsPartOfAny t (trees_of us) ⊎ IsPartOfAny t (trees_of vs)
+pub part_either : (t : Tree) (us vs : List Tree) → IsPartOfAny t (trees_of (us ++ vs)) →
+    IsPartOfAny t (trees_of us) ⊎ IsPartOfAny t (trees_of vs)
 part_either t [] vs p = inr p
 part_either t (u ∷ us) vs (inl p) = inl (inl p)
 part_either t (u ∷ us) vs (inr p) = elim (part_either t us vs p) [ inl q ↦ inl (inr q) | inr q ↦ inr q ]
 
 -- of one term more
-pub part_at : (t : Tree) (us : List Tree) (i : ℕ) (u : Tree) → i < length us → u ≡ get_or us i u → IsPart t u → IsPartOfAny t (trees_of us)
+pub part_at : (t : Tree) (us : List Tree) (i : ℕ) (u : Tree) → i < length us → u ≡ get_or us i u → IsPart t u →
+    IsPartOfAny t (trees_of us)
 part_at t [] i u lt is p = absurd (omega arith)
 part_at t (v ∷ us) zero u lt is p = inl (subst (λ x. IsPart t x) is p)
 part_at t (v ∷ us) (suc i) u lt is p = inr (part_at t us i u (omega arith) is p)
@@ -97,7 +102,8 @@ none_next t us i u lt is h n p =
       | inr q ↦ elim q [ inl r ↦ n r | inr r ↦ r ]
     ]
 
-pub sides_at : (t : Tree) (es : List Equation) (i : ℕ) (e : Equation) → i < length es → e ≡ get_or es i e → IsPart t e.left ⊎ IsPart t e.right → IsPartOfAny t (trees_of (sides_of es))
+pub sides_at : (t : Tree) (es : List Equation) (i : ℕ) (e : Equation) → i < length es → e ≡ get_or es i e →
+    IsPart t e.left ⊎ IsPart t e.right → IsPartOfAny t (trees_of (sides_of es))
 sides_at t [] i e lt is p = absurd (omega arith)
 sides_at t (d ∷ es) zero e lt is (inl p) = inl (subst (λ (x : Equation). IsPart t x.left) is p)
 sides_at t (d ∷ es) zero e lt is (inr p) = inr (inl (subst (λ (x : Equation). IsPart t x.right) is p))
@@ -108,7 +114,8 @@ pub no_sides_next :
     (IsPartOfAny t (trees_of (sides_of (take i es))) → ⊥) → (IsPart t e.left → ⊥) → (IsPart t e.right → ⊥) →
     IsPartOfAny t (trees_of (sides_of (take (i + 1) es))) → ⊥
 no_sides_next t es i e lt is h l r p =
-    elim (part_either t (sides_of (take i es)) (e.left ∷ e.right ∷ []) (subst (λ xs. IsPartOfAny t (trees_of xs)) (sides_next es i e lt is) p)) [
+    elim (part_either t (sides_of (take i es)) (e.left ∷ e.right ∷ [])
+    (subst (λ xs. IsPartOfAny t (trees_of xs)) (sides_next es i e lt is) p)) [
       | inl q ↦ h q
       | inr q ↦ elim q [ inl a ↦ l a | inr b ↦ elim b [ inl z ↦ r z | inr z ↦ z ] ]
     ]

@@ -1,5 +1,6 @@
 -- Lists of terms that have sorts, by their places.
-use Rattle.std.proofs.Common.{◌≡◌, ◌≢◌, ◌↔◌, ℕ, zero, suc, ◌<◌, List, [], ◌∷◌, IsTrue, true, false, Bool, refl, ap, sym, ◌∙◌, subst, arith, length, get_or}
+use Rattle.std.proofs.Common.{◌≡◌, ◌≢◌, ◌↔◌, ℕ, zero, suc, ◌<◌, List, [], ◌∷◌, IsTrue, true, false, Bool, refl, ap}
+use Rattle.std.proofs.Common.{sym, ◌∙◌, subst, arith, length, get_or}
 use Rattle.std.specs.Prelude.{nat_eq}
 use Rattle.std.proofs.lemmas.Bool.Decides.{nat_tests}
 use Rattle.term_core.specs.Tree.{Tree, trees_of}
@@ -29,10 +30,14 @@ module _ (sig : Sig) (ctx : List SortId) where
   all_sorted [] [] t s e h = tt
   all_sorted [] (r ∷ ss) t s e h = absurd (omega arith)
   all_sorted (u ∷ ts) [] t s e h = absurd (omega arith)
-  all_sorted (u ∷ ts) (r ∷ ss) t s e h = (h 0 (omega arith), all_sorted ts ss t s (omega arith) (λ k lt. h (suc k) (omega arith)))
+  all_sorted (u ∷ ts) (r ∷ ss) t s e h = (
+    h 0 (omega arith),
+    all_sorted ts ss t s (omega arith) (λ k lt. h (suc k) (omega arith)),
+  )
 
   -- the sort that was found is this one if and only if the term has this one
-  pub sort_is : (t : Tree) (found sort : SortId) → Sorted sig ctx t found → IsTrue (nat_eq found.0 sort.0) ↔ Sorted sig ctx t sort
+  pub sort_is : (t : Tree) (found sort : SortId) → Sorted sig ctx t found →
+      IsTrue (nat_eq found.0 sort.0) ↔ Sorted sig ctx t sort
   sort_is t found sort p = (
     λ h.
         let e : found.0 ≡ sort.0 = grind (arith, nat_tests) in
@@ -43,17 +48,21 @@ module _ (sig : Sig) (ctx : List SortId) where
   )
 
   -- lists that have not one sort for each term
-  pub other_lengths : (ts : List Tree) (ss : List SortId) → length ts ≢ length ss → IsTrue false ↔ SortedAll sig ctx (trees_of ts) ss
+  pub other_lengths : (ts : List Tree) (ss : List SortId) → length ts ≢ length ss →
+      IsTrue false ↔ SortedAll sig ctx (trees_of ts) ss
   other_lengths ts ss ne = (λ h. absurd (let q : false ≡ true = h in cc), λ p. absurd (ne (sorted_lengths ts ss p)))
 
   -- a term that hasn't the sort at its place
   pub unsorted_place :
-      (ts : List Tree) (ss : List SortId) (k : ℕ) (t : Tree) (s : SortId) (found : Bool) → k < length ts → t ≡ get_or ts k t →
-      found ≡ false → (Sorted sig ctx t (get_or ss k s) → IsTrue found) → IsTrue false ↔ SortedAll sig ctx (trees_of ts) ss
+      (ts : List Tree) (ss : List SortId) (k : ℕ) (t : Tree) (s : SortId) (found : Bool) → k < length ts →
+      t ≡ get_or ts k t →
+      found ≡ false → (Sorted sig ctx t (get_or ss k s) → IsTrue found) →
+      IsTrue false ↔ SortedAll sig ctx (trees_of ts) ss
   unsorted_place ts ss k t s found lt is wrong h = (
     λ f. absurd (let q : false ≡ true = f in cc),
     λ p.
-        let here : Sorted sig ctx t (get_or ss k s) = subst (λ u. Sorted sig ctx u (get_or ss k s)) (sym is) (sorted_place ts ss k t s p lt) in
+        let here : Sorted sig ctx t (get_or ss k s) = subst (λ u. Sorted sig ctx u (get_or ss k s)) (sym is)
+        (sorted_place ts ss k t s p lt) in
         let q : found ≡ true = h here in
         absurd (let e : false ≡ true = sym wrong ∙ q in cc),
   )

@@ -34,7 +34,8 @@ size_of_one : (e : Equation) → equations_size (e ∷ []) ≡ tree_size e.left 
 unfolding equations_size
 size_of_one e = omega arith
 
-size_of_first : (e : Equation) (es : List Equation) → equations_size (e ∷ es) ≡ tree_size e.left + tree_size e.right + equations_size es
+size_of_first : (e : Equation) (es : List Equation) →
+    equations_size (e ∷ es) ≡ tree_size e.left + tree_size e.right + equations_size es
 unfolding equations_size
 size_of_first e es = omega arith
 
@@ -53,17 +54,27 @@ part_size :
 part_size own before after e is =
     ap equations_size is ∙ size_of_both before (e ∷ after) ∙ (let q = size_of_first e after in omega (arith, q))
 
-equation_size : (own : List Equation) (number : ℕ) (at : EquationAt own number) → tree_size at.equation.left + tree_size at.equation.right ≤ equations_size own
+equation_size : (own : List Equation) (number : ℕ) (at : EquationAt own number) →
+    tree_size at.equation.left + tree_size at.equation.right ≤ equations_size own
 equation_size own number at = omega (arith, part_size own at.before at.after at.equation at.is)
 
 -- the term at a place
-pub place_testable : (c : Clause) (place : Place) (at : TermAt c place) (t : Tree) → at.term ≡ t → IsWithin c → IsTestable t
+pub place_testable : (c : Clause) (place : Place) (at : TermAt c place) (t : Tree) → at.term ≡ t → IsWithin c →
+    IsTestable t
 place_testable c place at t is w = omega (arith, own_size c place at, w.size, ap tree_size is)
 
 -- the sides of a premise, and of a clause's one conclusion
-pub premise_side : (c : Clause) (number : ℕ) (at : EquationAt c.premises number) (left : Bool) → IsWithin c → IsTestable (side left at.equation)
-premise_side c number at left w = omega (arith, side_size left at.equation, equation_size c.premises number at, size_of_clause c, w.size)
+pub premise_side : (c : Clause) (number : ℕ) (at : EquationAt c.premises number) (left : Bool) → IsWithin c →
+    IsTestable (side left at.equation)
+premise_side c number at left w = omega (
+  arith,
+  side_size left at.equation,
+  equation_size c.premises number at,
+  size_of_clause c,
+  w.size,
+)
 
-pub conclusion_side : (c : Clause) (e : Equation) (left : Bool) → c.conclusions ≡ e ∷ [] → IsWithin c → IsTestable (side left e)
+pub conclusion_side : (c : Clause) (e : Equation) (left : Bool) → c.conclusions ≡ e ∷ [] → IsWithin c →
+    IsTestable (side left e)
 conclusion_side c e left is w =
     omega (arith, side_size left e, ap equations_size is, size_of_one e, size_of_clause c, w.size)

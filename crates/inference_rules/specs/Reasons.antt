@@ -1,9 +1,13 @@
 -- The errors of steps by those of rewriting and of covering.
 use Rattle.clause_core.specs.declared.answers.Why.TheVariants.{NoSuchPlace, NoSuchRule, DoesNotFit, NotCovering, Limit}
 use Rattle.clause_core.specs.declared.answers.RewriteError.{RewriteError}
-use Rattle.clause_core.specs.declared.answers.RewriteError.TheVariants.{NoSuchPlace as no_such_place, NoSuchRule as no_such_rule, DoesNotFit as does_not_fit, Limit as limit, OutOfMemory as no_memory}
+use Rattle.clause_core.specs.declared.answers.RewriteError.TheVariants.{NoSuchPlace as no_such_place}
+use Rattle.clause_core.specs.declared.answers.RewriteError.TheVariants.{NoSuchRule as no_such_rule}
+use Rattle.clause_core.specs.declared.answers.RewriteError.TheVariants.{DoesNotFit as does_not_fit, Limit as limit}
+use Rattle.clause_core.specs.declared.answers.RewriteError.TheVariants.{OutOfMemory as no_memory}
 use Rattle.test_sets.specs.declared.answers.CoverError.{CoverError}
-use Rattle.test_sets.specs.declared.answers.CoverError.TheVariants.{NotCovering as not_covering, Limit as past_limit, OutOfMemory as no_memory_left}
+use Rattle.test_sets.specs.declared.answers.CoverError.TheVariants.{NotCovering as not_covering, Limit as past_limit}
+use Rattle.test_sets.specs.declared.answers.CoverError.TheVariants.{OutOfMemory as no_memory_left}
 use Rattle.inference_rules.specs.declared.nodes.StepError.{StepError}
 use Rattle.inference_rules.specs.declared.nodes.StepError.TheVariants.{Why as because, OutOfMemory as out_of_memory}
 

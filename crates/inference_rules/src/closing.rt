@@ -13,7 +13,7 @@ use crate::nodes::StepError;
 use clause_core::{Children, Clause, Why, is_either, is_identity};
 use spec_core::{Signature, Spec};
 use std::alloc::Global;
-use term_core::{TermNode, SymId, Term, VarId};
+use term_core::{SymId, Term, TermNode, VarId};
 
 /// `trivial`: the sides of the conclusion are one term.
 pub(crate) fn trivial(alloc: Global, clause: &Clause, number: u16) -> Result<Children, StepError>

@@ -3,7 +3,8 @@
 ghost use Rattle.std.specs.Prelude.{◌≡◌, ◌↔◌, IfOk, IsTrue, MatchOption, length, map};
 ghost use Rattle.term_core.specs.Tree.{trees_of};
 ghost use Rattle.term_core.specs.declared.ids.SortId.{SortId as Sort};
-ghost use Rattle.clause_core.specs.Abstracting.{abstracted as with_variable, abstracted_equation, generalized as generalized_by};
+ghost use Rattle.clause_core.specs.Abstracting.{abstracted as with_variable, abstracted_equation};
+ghost use Rattle.clause_core.specs.Abstracting.{generalized as generalized_by};
 ghost use Rattle.clause_core.specs.Clauses.{sides_of};
 ghost use Rattle.clause_core.specs.Generalizing.{IsGeneral, StandsIn, generalize_row};
 ghost use Rattle.inference_rules.specs.Answers.{AnsweredAlone};
@@ -14,7 +15,7 @@ use crate::nodes::StepError;
 use clause_core::{Children, Clause, Relation, Why};
 use spec_core::{Equation, Signature, Spec};
 use std::alloc::Global;
-use term_core::{TermNode, OutOfMemory, Seq, SortId, Term, Terms, VarId};
+use term_core::{OutOfMemory, Seq, SortId, Term, TermNode, Terms, VarId};
 
 /// `generalize`: a fresh variable stands for each occurrence of the term, which is sorted and no
 /// variable.

@@ -1,11 +1,13 @@
 //! Nodes and goals that a step refers to, and their instances.
 
-ghost use Rattle.std.specs.Prelude.{◌≡◌, ◌⊎◌, ◌↔◌, [], Some, IsTrue, IfOk, MatchOption, MatchResult, Contains, slice_get};
+ghost use Rattle.std.specs.Prelude.{◌≡◌, ◌⊎◌, ◌↔◌, [], Some, IsTrue, IfOk, MatchOption};
+ghost use Rattle.std.specs.Prelude.{MatchResult, Contains, slice_get};
 ghost use Rattle.spec_core.specs.declared.records.Goal.{Goal as GoalOf};
 ghost use Rattle.clause_core.specs.ClauseInstances.{clause_instance};
 ghost use Rattle.clause_core.specs.Equations.{Among, IsIdentity};
 ghost use Rattle.clause_core.specs.Limits.{IsWithin};
-ghost use Rattle.clause_core.specs.Referred.{NodeAt, UsableGoal, AreTermsFor, PremisesAreThere, instance_here as instance_of, with_instance};
+ghost use Rattle.clause_core.specs.Referred.{NodeAt, UsableGoal, AreTermsFor, PremisesAreThere};
+ghost use Rattle.clause_core.specs.Referred.{instance_here as instance_of, with_instance};
 ghost use Rattle.clause_core.specs.Rows.{makes};
 ghost use Rattle.inference_rules.specs.Answers.{clauses_of};
 ghost use Rattle.inference_rules.specs.Conditions.{RefusesWith};

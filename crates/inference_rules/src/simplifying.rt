@@ -7,7 +7,8 @@ ghost use Rattle.spec_core.specs.declared.records.Spec.{Spec as SpecOf};
 ghost use Rattle.clause_core.specs.declared.clauses.Relation.TheVariants.{Less};
 ghost use Rattle.clause_core.specs.NumberedEquations.{EquationAt, equations, exchanged};
 ghost use Rattle.clause_core.specs.Rows.{child, makes};
-ghost use Rattle.clause_core.specs.Simplifying.{SameHeads, pairs, decompose_row, clash_row, drop_row};
+ghost use Rattle.clause_core.specs.Simplifying.{SameHeads, pairs, decompose_row, clash_row};
+ghost use Rattle.clause_core.specs.Simplifying.{drop_row};
 ghost use Rattle.inference_rules.specs.Answers.{AnsweredAlone};
 
 use crate::closing::{clashes, is_constructor};
@@ -16,7 +17,7 @@ use crate::nodes::StepError;
 use clause_core::{Children, Clause, Relation, Why};
 use spec_core::{Equation, Signature, Spec};
 use std::alloc::Global;
-use term_core::{TermNode, OutOfMemory, Term};
+use term_core::{OutOfMemory, Term, TermNode};
 
 /// `decompose`: both sides have the same constructor as head, and the arguments are equated in
 /// their place. Of a premise all these equations are there, of a conclusion each in its child.
@@ -88,8 +89,10 @@ fn arguments_of<'a>(sig: &Signature, equation: &'a Equation) -> Option<(&'a [Ter
         (λ args. (heads : SameHeads sig.now equation.now)
         × (heads.lefts ≡ trees_of args.0.now) × (heads.rights ≡ trees_of args.1.now)) }
 {
-    let (TermNode::App(f, lefts), TermNode::App(g, rights)) = (&equation.left.node, &equation.right.node)
-    else {
+    let (TermNode::App(f, lefts), TermNode::App(g, rights)) = (
+        &equation.left.node,
+        &equation.right.node,
+    ) else {
         return None;
     };
     if f != g || !is_constructor(sig, *f) {

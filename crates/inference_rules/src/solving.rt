@@ -15,7 +15,7 @@ use clause_core::{Children, Clause, Relation, Why, instance, instance_within};
 use spec_core::{Equation, Signature, Spec};
 use std::alloc::Global;
 use substitutions::Subst;
-use term_core::{TermNode, Term, VarId};
+use term_core::{Term, TermNode, VarId};
 
 /// `solve`: the premise equates a variable to a term without functions in which it doesn't occur.
 /// The premise is left out, and the term is put for the variable everywhere. A child that passes

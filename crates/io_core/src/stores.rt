@@ -1,6 +1,7 @@
 //! Files in memory.
 
-ghost use Rattle.std.specs.Prelude.{◌≡◌, ◌≢◌, ◌≤◌, ◌<◌, ◌↔◌, ◌⊎◌, ℕ, List, [], Some, None, length, IfOk, IfErr, OnOk, IsErrOf, IsSomeAnd, MatchOption};
+ghost use Rattle.std.specs.Prelude.{◌≡◌, ◌≢◌, ◌≤◌, ◌<◌, ◌↔◌, ◌⊎◌, ℕ, List, [], Some, None, length};
+ghost use Rattle.std.specs.Prelude.{IfOk, IfErr, OnOk, IsErrOf, IsSomeAnd, MatchOption};
 ghost use Rattle.io_core.specs.Asked.{AddsName};
 ghost use Rattle.io_core.specs.CallPlan.{FailsNext, planned, called, faulted};
 ghost use Rattle.io_core.specs.Count.{IsCount};

@@ -1,6 +1,7 @@
 //! `Files` and `Sink` with their contracts, and `write_all`.
 
-ghost use Rattle.std.specs.Prelude.{◌≡◌, ◌≢◌, ◌≤◌, ◌<◌, ◌⊎◌, ℕ, List, [], Option, length, take, IfOk, IfErr, IfSome, OnOk, OnErr, IsOk, IsErrOf};
+ghost use Rattle.std.specs.Prelude.{◌≡◌, ◌≢◌, ◌≤◌, ◌<◌, ◌⊎◌, ℕ, List, [], Option, length, take};
+ghost use Rattle.std.specs.Prelude.{IfOk, IfErr, IfSome, OnOk, OnErr, IsOk, IsErrOf};
 ghost use Rattle.io_core.specs.Asked.{AddsName};
 ghost use Rattle.io_core.specs.Count.{IsCount, Rose};
 ghost use Rattle.io_core.specs.Piece.{Appended, AppendedPrefix};

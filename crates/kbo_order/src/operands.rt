@@ -6,7 +6,7 @@ ghost use Rattle.term_core.specs.Tree.{Tree};
 ghost use Rattle.term_order.specs.Operands.{meaning};
 ghost use Rattle.kbo_order.specs.Operands.{meanings, IsRoot};
 
-use term_core::{TermNode, SymId, Term, VarId};
+use term_core::{SymId, Term, TermNode, VarId};
 use term_order::Operand;
 
 /// Terms that are compared, all of them as they are or all as patterns.

@@ -50,8 +50,8 @@ impl TermOrder for Kbo {
 
     /// Says no if the weight of `t` passes 128 bits, and takes no memory. For variable 0, and for
     /// each other one of `s`, it goes once through both terms: in step if their heads are the same,
-    /// and one after the other below heads that differ. So its steps are linear in the sizes of both,
-    /// times the number of these variables, whatever the depth.
+    /// and one after the other below heads that differ. So its steps are linear in the sizes of
+    /// both, times the number of these variables, whatever the depth.
     fn greater(&self, t: &Term, s: &Term) -> bool
         ensures exact { let w = symbol_weight self.now in
             IsTrue result ↔ (Fits w t.now × AboveByWeight w t.now s.now) }

@@ -12,7 +12,8 @@ use Rattle.load_text.specs.Accepted.{IsAcceptedAs}
 use Rattle.load_text.proofs.Admitted.{load_admitted}
 use Rattle.load_text.proofs.Tokens.{load_reads}
 use Rattle.spec_meaning.proofs.SameSpecs.{same_stands}
-use Rattle.load_text.proofs.LoadDeclarations.{load_declared, load_signature, load_declarations, load_rules_stand, load_rules_clean}
+use Rattle.load_text.proofs.LoadDeclarations.{load_declared, load_signature, load_declarations, load_rules_stand}
+use Rattle.load_text.proofs.LoadDeclarations.{load_rules_clean}
 use Rattle.load_text.proofs.LoadGoals.{load_goals_stand}
 use Rattle.load_text.proofs.CleanGoals.{load_goals_clean}
 

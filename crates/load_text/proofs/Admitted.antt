@@ -1,6 +1,7 @@
 -- The generated specification is admitted: whatever its goals are, its five rules are linear, fall
 -- in the path ordering, match no values together, and match all values.
-use Rattle.std.proofs.Common.{◌≡◌, ◌⊎◌, ℕ, zero, suc, ◌<◌, List, [], ◌∷◌, Some, None, inl, inr, refl, ap, sym, ◌∙◌, subst, arith}
+use Rattle.std.proofs.Common.{◌≡◌, ◌⊎◌, ℕ, zero, suc, ◌<◌, List, [], ◌∷◌, Some, None, inl, inr, refl, ap, sym, ◌∙◌}
+use Rattle.std.proofs.Common.{subst, arith}
 use Rattle.std.specs.Prelude.{slice_get}
 use Rattle.term_core.specs.Tree.{Tree, Trees, var, app, none, some, instance}
 use Rattle.spec_core.specs.declared.records.SymInfo.{SymInfo}
@@ -13,11 +14,13 @@ use Rattle.spec_core.specs.Overlap.{NoOverlap}
 use Rattle.spec_core.specs.Naturals.{nat, declares, zero_term, succ_term, plus_zero_rule, plus_succ_rule}
 use Rattle.spec_core.proofs.SortedNaturals.{bool_is_not_nat}
 use Rattle.term_core.specs.Precedence.{by_number}
-use Rattle.path_order.specs.Above.{Above, by_argument, by_head, by_arguments, this_is, this_above, later, all_none, all_some, here}
+use Rattle.path_order.specs.Above.{Above, by_argument, by_head, by_arguments, this_is, this_above, later, all_none}
+use Rattle.path_order.specs.Above.{all_some, here}
 use Rattle.clause_core.specs.Admitted.{RuleIsOrdered, RulesAreOrdered, IsAdmitted}
 use Rattle.spec_order.specs.Orders.{above_of}
 use Rattle.spec_order.proofs.OwnOrders.{ordered_by_number}
-use Rattle.load_text.specs.LoadSpec.{le_info, load_sig, le_zero_rule, le_succ_zero_rule, le_succ_rule, load_spec_rules, load_spec}
+use Rattle.load_text.specs.LoadSpec.{le_info, load_sig, le_zero_rule, le_succ_zero_rule, le_succ_rule, load_spec_rules}
+use Rattle.load_text.specs.LoadSpec.{load_spec}
 
 -- what is so of each of the rules is so of the rule of each number
 each_rule : (P : Rule → Type 0) → P plus_zero_rule → P plus_succ_rule → P le_zero_rule →

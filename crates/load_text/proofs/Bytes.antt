@@ -1,5 +1,6 @@
 -- The printed form of the generated goals, as the code writes it.
-use Rattle.std.proofs.Common.{◌≡◌, ◌≢◌, ℕ, zero, suc, ◌+◌, ◌-◌, ◌%◌, List, [], ◌++◌, refl, ap, sym, ◌∙◌, append_assoc, append-nil, arith}
+use Rattle.std.proofs.Common.{◌≡◌, ◌≢◌, ℕ, zero, suc, ◌+◌, ◌-◌, ◌%◌, List, [], ◌++◌, refl, ap, sym, ◌∙◌, append_assoc}
+use Rattle.std.proofs.Common.{append-nil, arith}
 use Rattle.std.specs.Prelude.{Bool, codes, map, if◌then◌else◌}
 use Rattle.std.proofs.lemmas.Bool.{ne_eqb}
 use Rattle.std.specs.Fmt.{decimal, digits}
@@ -7,7 +8,8 @@ use Rattle.std.specs.List.{flat_map, range_with_len}
 use Rattle.spec_grammar.specs.declared.raw.RawGoal.{RawGoal}
 use Rattle.spec_grammar.specs.RawTree.{RawTree}
 use Rattle.spec_printing.specs.Printed.{printed, term_printed, equation_printed, goal_line}
-use Rattle.load_text.specs.LoadRaw.{x, y, z, nought, plus, successors, load_sides, goal_of_kind, goal_name, height, load_goal, load_raw}
+use Rattle.load_text.specs.LoadRaw.{x, y, z, nought, plus, successors, load_sides, goal_of_kind, goal_name, height}
+use Rattle.load_text.specs.LoadRaw.{load_goal, load_raw}
 use Rattle.load_text.specs.Bytes.{enclosed, line_end}
 
 -- the text of a word before one term

@@ -1,6 +1,7 @@
 -- The goals that `load` generates have no fault: each kind of goal at each height, and then all
 -- goals in order.
-use Rattle.std.proofs.Common.{◌≡◌, ◌≢◌, ℕ, zero, suc, ◌+◌, ◌%◌, ◌<◌, ◌^◌, List, [], ◌∷◌, ◌++◌, Option, Some, None, refl, ap, sym, ◌∙◌, subst, arith}
+use Rattle.std.proofs.Common.{◌≡◌, ◌≢◌, ℕ, zero, suc, ◌+◌, ◌%◌, ◌<◌, ◌^◌, List, [], ◌∷◌, ◌++◌, Option, Some, None}
+use Rattle.std.proofs.Common.{refl, ap, sym, ◌∙◌, subst, arith}
 use Rattle.std.specs.Prelude.{codes, map}
 use Rattle.std.specs.Fmt.{decimal}
 use Rattle.std.specs.List.{AllByRecursion, range_with_len}
@@ -13,9 +14,11 @@ use Rattle.spec_grammar.specs.declared.raw.RawEq.{RawEq}
 use Rattle.spec_grammar.specs.declared.raw.RawGoal.{RawGoal}
 use Rattle.spec_grammar.specs.RawTree.{RawTree, none as no_raws, some as more_raws}
 use Rattle.sort_check.specs.Words.{entries_after, entries_after_all, term_tests, terms_tests}
-use Rattle.sort_check.specs.GoalTests.{wanted, own_sort, after_sides, sides_tests, sorts_tests, clause_tests, goal_tests}
+use Rattle.sort_check.specs.GoalTests.{wanted, own_sort, after_sides, sides_tests, sorts_tests, clause_tests}
+use Rattle.sort_check.specs.GoalTests.{goal_tests}
 use Rattle.sort_check.specs.declared.faults.SortKind.TheVariants.{WrongSort}
-use Rattle.load_text.specs.LoadRaw.{x, y, z, nought, plus, successors, load_sides, goal_of_kind, goal_name, height, load_goal}
+use Rattle.load_text.specs.LoadRaw.{x, y, z, nought, plus, successors, load_sides, goal_of_kind, goal_name, height}
+use Rattle.load_text.specs.LoadRaw.{load_goal}
 use Rattle.load_text.specs.LoadSpec.{load_sig}
 use Rattle.spec_meaning.proofs.SortCheckTypes.{Entry, goal_part}
 use Rattle.load_text.proofs.LoadGoals.{two}

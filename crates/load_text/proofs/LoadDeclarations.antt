@@ -14,7 +14,8 @@ use Rattle.sort_check.specs.Rules.{RuleStands}
 use Rattle.sort_check.specs.DeclarationTests.{declarations_tests, values_sig}
 use Rattle.sort_check.specs.RuleTests.{rule_tests}
 use Rattle.load_text.specs.LoadRaw.{x, y, nought, yes, leaf, succ, plus, le, rewrites, load_rules, load_raw}
-use Rattle.load_text.specs.LoadSpec.{load_functions, load_sig, le_zero_rule, le_succ_zero_rule, le_succ_rule, load_spec_rules}
+use Rattle.load_text.specs.LoadSpec.{load_functions, load_sig, le_zero_rule, le_succ_zero_rule, le_succ_rule}
+use Rattle.load_text.specs.LoadSpec.{load_spec_rules}
 
 -- The signature.
 

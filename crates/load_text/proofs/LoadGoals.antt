@@ -16,7 +16,8 @@ use Rattle.sort_check.specs.Occurrence.{names_after}
 use Rattle.sort_check.specs.Terms.{TermStands}
 use Rattle.sort_check.specs.Goals.{GoalStands}
 use Rattle.sort_check.specs.Inference.{IsBareVariable, IsTaken, IsAnyTaken, left_argument, right_argument}
-use Rattle.load_text.specs.LoadRaw.{x, y, z, nought, plus, successors, load_sides, goal_of_kind, goal_name, height, load_goal}
+use Rattle.load_text.specs.LoadRaw.{x, y, z, nought, plus, successors, load_sides, goal_of_kind, goal_name, height}
+use Rattle.load_text.specs.LoadRaw.{load_goal}
 use Rattle.load_text.specs.LoadSpec.{le_info, load_sig, successor_terms, spec_sides, spec_goal_of_kind, spec_goal}
 use Rattle.load_text.proofs.LoadDeclarations.{x_new, y_new}
 

@@ -1,6 +1,7 @@
 -- The tokens of the generated text: each name is one, and no limit is passed. So the text derives
 -- the declarations, with the places that the text gives.
-use Rattle.std.proofs.Common.{◌≡◌, ℕ, zero, suc, ◌+◌, ◌%◌, ◌^◌, ◌<◌, ◌≤◌, ◌⊎◌, inl, inr, List, [], ◌∷◌, Bool, true, false, ◌&&◌, Option, Some, None, drop, refl, ap, sym, subst, ◌∙◌, arith, lit<}
+use Rattle.std.proofs.Common.{◌≡◌, ℕ, zero, suc, ◌+◌, ◌%◌, ◌^◌, ◌<◌, ◌≤◌, ◌⊎◌, inl, inr, List, [], ◌∷◌, Bool, true}
+use Rattle.std.proofs.Common.{false, ◌&&◌, Option, Some, None, drop, refl, ap, sym, subst, ◌∙◌, arith, lit<}
 use Rattle.std.specs.Prelude.{◌==◌, ◌||◌, IsTrue, codes, nat_lt, is_none, map, if◌then◌else◌}
 use Rattle.std.specs.Char.{is_ascii_alphabetic, is_ascii_alphanumeric}
 use Rattle.std.specs.Fmt.{digits}
@@ -23,13 +24,15 @@ use Rattle.spec_grammar.specs.declared.raw.RawSpec.{RawSpec}
 use Rattle.spec_grammar.specs.RawTree.{RawTree, RawTrees, word, none, some}
 use Rattle.spec_grammar.specs.Items.{Item, Word, Sign, Number, reserved}
 use Rattle.spec_grammar.specs.Limits.{over, name_mark, sort_mark, constructor_mark, term_mark, goal_mark}
-use Rattle.spec_grammar.specs.Grammar.{Marked, sign, number, name_text, term_text, args_text, more_text, binds_text, con_text, constructors_text, funs_text, rules_text, IsSpecText}
+use Rattle.spec_grammar.specs.Grammar.{Marked, sign, number, name_text, term_text, args_text, more_text, binds_text}
+use Rattle.spec_grammar.specs.Grammar.{con_text, constructors_text, funs_text, rules_text, IsSpecText}
 use Rattle.spec_grammar.specs.Derives.{TextDerives}
 use Rattle.spec_printing.specs.Printed.{printed}
 use Rattle.spec_printing.specs.SamePlaces.{IsSameButPlaces}
 use Rattle.spec_printing.proofs.Again.{plain_reads_back}
 use Rattle.spec_printing.proofs.Plain.{IsGood, AllGood, IsPlainText, clause_text, goals_text}
-use Rattle.load_text.specs.LoadRaw.{nat, applied, x, y, z, nought, pair, plus, successors, load_rules, load_sides, goal_of_kind, goal_name, height, load_goal, load_raw}
+use Rattle.load_text.specs.LoadRaw.{nat, applied, x, y, z, nought, pair, plus, successors, load_rules, load_sides}
+use Rattle.load_text.specs.LoadRaw.{goal_of_kind, goal_name, height, load_goal, load_raw}
 
 -- Names of ASCII letters, digits and `_`.
 

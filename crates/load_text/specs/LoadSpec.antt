@@ -12,7 +12,8 @@ use Rattle.spec_core.specs.declared.records.Spec.{Spec}
 use Rattle.spec_core.specs.Sig.{Sig}
 use Rattle.spec_core.specs.Declarations.{declared_by, bool_sort}
 use Rattle.spec_core.specs.Orders.{order_by_number}
-use Rattle.spec_core.specs.Naturals.{nat, nat_sorts, nat_constructors, nat_function, zero_term, succ_term, plus_term, variable, plus_zero_rule, plus_succ_rule}
+use Rattle.spec_core.specs.Naturals.{nat, nat_sorts, nat_constructors, nat_function, zero_term, succ_term, plus_term}
+use Rattle.spec_core.specs.Naturals.{variable, plus_zero_rule, plus_succ_rule}
 use Rattle.load_text.specs.LoadRaw.{goal_name, height}
 
 -- fun le(Nat, Nat) : Bool

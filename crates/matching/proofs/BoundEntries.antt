@@ -1,5 +1,6 @@
 -- References as entries of variables: as they are set, and none before a match.
-use Rattle.std.proofs.Common.{◌≡◌, ℕ, zero, suc, ◌<◌, ◌≤◌, List, [], ◌∷◌, ◌++◌, Option, Some, None, length, ap, refl, sym, ◌∙◌, subst, arith, set, take}
+use Rattle.std.proofs.Common.{◌≡◌, ℕ, zero, suc, ◌<◌, ◌≤◌, List, [], ◌∷◌, ◌++◌, Option, Some, None, length, ap, refl}
+use Rattle.std.proofs.Common.{sym, ◌∙◌, subst, arith, set, take}
 use Rattle.std.specs.Prelude.{replicate}
 use Rattle.std.specs.Borrow.{Bor}
 use Rattle.std.specs.Option.{option_copied}

@@ -1,5 +1,6 @@
 -- Matches of a few sums.
-use Rattle.std.proofs.Common.{◌≡◌, ◌↔◌, inl, inr, ℕ, zero, suc, List, [], ◌∷◌, Option, Some, true, false, refl, ap, arith}
+use Rattle.std.proofs.Common.{◌≡◌, ◌↔◌, inl, inr, ℕ, zero, suc, List, [], ◌∷◌, Option, Some, true, false, refl, ap}
+use Rattle.std.proofs.Common.{arith}
 use Rattle.std.specs.Option.{IsSome}
 use Rattle.term_core.specs.Tree.{Tree, var, tree_size}
 use Rattle.term_core.specs.Variables.{Occurs}

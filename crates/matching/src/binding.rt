@@ -6,7 +6,7 @@ ghost use Rattle.substitutions.specs.Substitution.{apply, apply_all};
 ghost use Rattle.matching.specs.Extending.{Binds, BindsAll};
 
 use crate::bindings::Bindings;
-use term_core::{TermNode, OutOfMemory, Term, VarId, front};
+use term_core::{OutOfMemory, Term, TermNode, VarId, front};
 
 /// Matches a pattern with a term, where `bindings` has the terms of the variables that were met. A
 /// variable that was met must meet the same tree again. Nothing is copied.

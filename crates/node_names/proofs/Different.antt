@@ -50,7 +50,8 @@ dropped_at (x ∷ xs) (suc n) k =
 pub different_dropped : (names : List (List ℕ)) (n : ℕ) → AreDifferent names
     → AreDifferent (drop n names)
 different_dropped names n different j k name at_j at_k =
-    let same : n + j ≡ n + k = different (n + j) (n + k) name (sym (dropped_at names n j) ∙ at_j) (sym (dropped_at names n k) ∙ at_k) in
+    let same : n + j ≡ n + k = different (n + j) (n + k) name (sym (dropped_at names n j) ∙ at_j)
+    (sym (dropped_at names n k) ∙ at_k) in
     omega arith
 
 -- the names before a place

@@ -1,5 +1,6 @@
 -- Names of one node after the other.
-use Rattle.std.proofs.Common.{◌≡◌, ◌<◌, ◌≤◌, ◌+◌, ℕ, List, [], ◌∷◌, ◌++◌, None, Some, length, take, get_or, ap, sym, ◌∙◌, subst}
+use Rattle.std.proofs.Common.{◌≡◌, ◌<◌, ◌≤◌, ◌+◌, ℕ, List, [], ◌∷◌, ◌++◌, None, Some, length, take, get_or, ap, sym}
+use Rattle.std.proofs.Common.{◌∙◌, subst}
 use Rattle.std.specs.Prelude.{All, slice_get}
 use Rattle.std.specs.List.{AllZip}
 use Rattle.std.proofs.lemmas.List.{map-append, take_all, take_more}
@@ -46,11 +47,13 @@ module _ (spec : Spec) (goal : Goal) where
       let more : take (count + 1) others ≡ take count others ++ node ∷ [] =
       take_more others count node lt ∙ ap (λ (n : Node). take count others ++ n ∷ []) (sym is) in
       let clauses : clauses_of (take (count + 1) others) ≡ clauses_of (take count others) ++ node.clause ∷ [] =
-      ap (λ (ns : List Node). clauses_of ns) more ∙ map-append (λ (n : Node). n.clause) (take count others) (node ∷ []) in
+      ap (λ (ns : List Node). clauses_of ns) more ∙ map-append (λ (n : Node). n.clause) (take count others)
+      (node ∷ []) in
       record {
         each = subst (λ (ds : List Clause). AllZip (NamesNode spec goal) (first.clause ∷ ds) (m ∷ made ++ names ∷ []))
             (sym clauses)
-            (pairs_more (NamesNode spec goal) (first.clause ∷ clauses_of (take count others)) (m ∷ made) node.clause names h.each named);
+            (pairs_more (NamesNode spec goal) (first.clause ∷ clauses_of (take count others)) (m ∷ made)
+            node.clause names h.each named);
         kept = λ n same at. h.kept n same at;
       }
 

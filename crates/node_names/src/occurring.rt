@@ -3,7 +3,7 @@
 use clause_core::Clause;
 use spec_core::Equation;
 use std::alloc::Global;
-use term_core::{TermNode, OutOfMemory, Term, VarId};
+use term_core::{OutOfMemory, Term, TermNode, VarId};
 
 /// A term that is generalized, and the variable that stands for it.
 #[derive(Clone, Copy)]

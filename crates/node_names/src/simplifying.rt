@@ -4,7 +4,7 @@ use clause_core::{Clause, MOST_SYMBOLS, instance};
 use spec_core::Equation;
 use std::alloc::Global;
 use substitutions::Subst;
-use term_core::{TermNode, OutOfMemory, Seq, Term, VarId};
+use term_core::{OutOfMemory, Seq, Term, TermNode, VarId};
 
 /// The clause without the conclusion (true) or premise of this number, if there is one.
 pub(crate) fn without(
@@ -32,8 +32,10 @@ pub(crate) fn taken_apart(
     let Some(equation) = clause.equation(conclusion, number) else {
         return Ok(None);
     };
-    let (TermNode::App(_, lefts), TermNode::App(_, rights)) = (&equation.left.node, &equation.right.node)
-    else {
+    let (TermNode::App(_, lefts), TermNode::App(_, rights)) = (
+        &equation.left.node,
+        &equation.right.node,
+    ) else {
         return Ok(None);
     };
     let only = if conclusion { Some(index) } else { None };

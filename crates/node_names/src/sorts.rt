@@ -1,7 +1,7 @@
 //! The sorts of variables of a pattern.
 
 use spec_core::Signature;
-use term_core::{TermNode, OutOfMemory, SortId, Term};
+use term_core::{OutOfMemory, SortId, Term, TermNode};
 
 /// Adds the sorts of the pattern's variables, from the left, where the pattern has this sort.
 #[cycle(add_sorts)]

@@ -24,7 +24,8 @@ room_two : (rules : List Rule) → 2 ≤ room rules
 room_two [] = omega arith
 room_two (r ∷ rs) = omega (arith, room_two rs)
 
-pub right_below_room : (rules : List Rule) (k : ℕ) (rule : Rule) → slice_get rules k ≡ Some rule → 2 * weight rule.right + 1 < room rules
+pub right_below_room : (rules : List Rule) (k : ℕ) (rule : Rule) → slice_get rules k ≡ Some rule →
+    2 * weight rule.right + 1 < room rules
 right_below_room [] k rule at = absurd (let q : None ≡ Some rule = at in cc)
 right_below_room (r ∷ rs) zero rule at =
     let q : Some r ≡ Some rule = at in

@@ -7,7 +7,7 @@ ghost use Rattle.normalization.specs.Firsts.{HasFirst};
 
 use crate::rewriter::Rewriter;
 use std::alloc::Global;
-use term_core::{TermNode, OutOfMemory, Term};
+use term_core::{OutOfMemory, Term, TermNode};
 
 impl<'a> Rewriter<'a> {
     /// The place and the rule of the leftmost-innermost use, or None if the term is normal. It

@@ -7,7 +7,7 @@ ghost use Rattle.normalization.specs.Found.{IsFound};
 use crate::rewriter::Rewriter;
 use matching::fits;
 use std::alloc::Global;
-use term_core::{TermNode, OutOfMemory, Term};
+use term_core::{OutOfMemory, Term, TermNode};
 
 impl<'a> Rewriter<'a> {
     /// The first rule without guards whose left side matches the term, as its index among all

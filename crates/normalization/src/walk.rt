@@ -12,7 +12,7 @@ use crate::rewritten::rewrite;
 use crate::trace::Trace;
 use std::alloc::Global;
 use std::mem;
-use term_core::{TermNode, OutOfMemory, Term, Terms, VarId};
+use term_core::{OutOfMemory, Term, TermNode, Terms, VarId};
 
 impl<'a> Rewriter<'a> {
     /// The normal form of the term, an instance of the pattern by normal terms, at the trace's

@@ -1,5 +1,6 @@
 -- The way back: terms of the new specification with a value in the place of each constant.
-use Rattle.std.proofs.Common.{◌≡◌, ◌<◌, ◌+◌, ◌-◌, ℕ, zero, suc, List, [], ◌∷◌, Some, None, inl, inr, refl, ap, sym, ◌∙◌, subst, cond, true, false, ltb, map, length, arith}
+use Rattle.std.proofs.Common.{◌≡◌, ◌<◌, ◌+◌, ◌-◌, ℕ, zero, suc, List, [], ◌∷◌, Some, None, inl, inr, refl, ap, sym}
+use Rattle.std.proofs.Common.{◌∙◌, subst, cond, true, false, ltb, map, length, arith}
 use Rattle.std.specs.Prelude.{slice_get, slice_index_or}
 use Rattle.std.specs.List.{AllByRecursion}
 use Rattle.std.proofs.lemmas.Bool.Decides.{nat_tests}
@@ -63,9 +64,11 @@ module _ (c u : ℕ) (value : ℕ → Tree) where
   mutual
     pub back_instance : (xs : List Tree) (t : Tree) → back (instance xs (shifted c u t)) ≡ instance (map back xs) t
     back_instance xs (var n) = back_entry xs n n
-    back_instance xs (app f ts) = back_shifted f (instances xs (shifted_all c u ts)) ∙ ap (λ us. app f us) (back_instances xs ts)
+    back_instance xs (app f ts) = back_shifted f (instances xs (shifted_all c u ts))
+        ∙ ap (λ us. app f us) (back_instances xs ts)
 
-    pub back_instances : (xs : List Tree) (ts : Trees) → back_all (instances xs (shifted_all c u ts)) ≡ instances (map back xs) ts
+    pub back_instances : (xs : List Tree) (ts : Trees) →
+        back_all (instances xs (shifted_all c u ts)) ≡ instances (map back xs) ts
     back_instances xs none = refl
     back_instances xs (some t ts) =
         let p = back_instance xs t in
@@ -79,7 +82,8 @@ module _ (sig : Sig) (small : AllHaveSmallValues sig) where
   value_at (s ∷ ss) a zero = (small s.0 a.0).0
   value_at (s ∷ ss) a (suc n) = value_at ss a.1 n
 
-  pub is_value_at : (ss : List SortId) (a : AllByRecursion (IsSort sig) ss) (n : ℕ) (s : SortId) → slice_get ss n ≡ Some s → IsValue sig s (value_at ss a n)
+  pub is_value_at : (ss : List SortId) (a : AllByRecursion (IsSort sig) ss) (n : ℕ) (s : SortId) →
+      slice_get ss n ≡ Some s → IsValue sig s (value_at ss a n)
   is_value_at [] a n s at = absurd (let q : None ≡ Some s = at in cc)
   is_value_at (t ∷ ss) a zero s at =
       let q : Some t ≡ Some s = at in
@@ -87,7 +91,9 @@ module _ (sig : Sig) (small : AllHaveSmallValues sig) where
       subst (λ x. IsValue sig x (small t.0 a.0).0) k (small t.0 a.0).1
   is_value_at (t ∷ ss) a (suc n) s at = is_value_at ss a.1 n s at
 
-module _ (old new : Spec) (sorts : List SortId) (more : IsExtended old new sorts) (declared : IsDeclared old.sig) (value : ℕ → Tree) (fits : (n : ℕ) (s : SortId) → slice_get sorts n ≡ Some s → IsValue old.sig s (value n)) where
+module _ (old new : Spec) (sorts : List SortId) (more : IsExtended old new sorts)
+    (declared : IsDeclared old.sig) (value : ℕ → Tree) (fits : (n : ℕ) (s : SortId) →
+    slice_get sorts n ≡ Some s → IsValue old.sig s (value n)) where
   abbrev c : ℕ
   c = old.sig.constructors
 
@@ -101,18 +107,25 @@ module _ (old new : Spec) (sorts : List SortId) (more : IsExtended old new sorts
     back_sorted (app f ts) s h =
         elim (new_symbol old new sorts more declared f) [
           | inl g ↦
-              let at : info_of old.sig g.0 ≡ Some h.0 = sym (info_shifted old new sorts more declared g.0) ∙ ap (λ k. info_of new.sig k) (sym g.1) ∙ h.1 in
-              let e : back c u value (app f ts) ≡ app g.0 (back_all c u value ts) = ap (λ k. back c u value (app k ts)) g.1 ∙ back_shifted c u value g.0 ts in
+              let at : info_of old.sig g.0 ≡ Some h.0 = sym (info_shifted old new sorts more declared g.0)
+              ∙ ap (λ k. info_of new.sig k) (sym g.1) ∙ h.1 in
+              let e : back c u value (app f ts) ≡ app g.0 (back_all c u value ts) = ap
+              (λ k. back c u value (app k ts)) g.1 ∙ back_shifted c u value g.0 ts in
               subst (λ t. Sorted old.sig [] t s) (sym e) (h.0, at, h.2, back_all_sorted ts h.0.args h.3)
           | inr n ↦
-              let i : Some (constant_info n.1) ≡ Some h.0 = sym (info_constant old new sorts more declared n.0 n.1 n.3) ∙ ap (λ k. info_of new.sig k) (sym n.2) ∙ h.1 in
+              let i : Some (constant_info n.1) ≡ Some h.0 = sym
+              (info_constant old new sorts more declared n.0 n.1 n.3)
+              ∙ ap (λ k. info_of new.sig k) (sym n.2) ∙ h.1 in
               let j : constant_info n.1 ≡ h.0 = cc in
               let k : n.1 ≡ s = ap (λ (x : SymInfo). x.result) j ∙ h.2 in
-              let e : back c u value (app f ts) ≡ value n.0 = ap (λ k. back c u value (app k ts)) n.2 ∙ back_constant c u value n.0 ts (slice_get_within sorts n.0 n.1 n.3) in
-              subst (λ t. Sorted old.sig [] t s) (sym e) (subst (λ x. Sorted old.sig [] (value n.0) x) k (fits n.0 n.1 n.3).0)
+              let e : back c u value (app f ts) ≡ value n.0 = ap (λ k. back c u value (app k ts)) n.2
+              ∙ back_constant c u value n.0 ts (slice_get_within sorts n.0 n.1 n.3) in
+              subst (λ t. Sorted old.sig [] t s) (sym e)
+              (subst (λ x. Sorted old.sig [] (value n.0) x) k (fits n.0 n.1 n.3).0)
         ]
 
-    pub back_all_sorted : (ts : Trees) (ss : List SortId) → SortedAll new.sig [] ts ss → SortedAll old.sig [] (back_all c u value ts) ss
+    pub back_all_sorted : (ts : Trees) (ss : List SortId) → SortedAll new.sig [] ts ss →
+        SortedAll old.sig [] (back_all c u value ts) ss
     back_all_sorted none [] h = h
     back_all_sorted none (s ∷ ss) h = h
     back_all_sorted (some t ts) [] h = h
@@ -125,11 +138,14 @@ module _ (old new : Spec) (sorts : List SortId) (more : IsExtended old new sorts
     back_built (app f ts) h =
         elim (new_symbol old new sorts more declared f) [
           | inl g ↦
-              let k : IsConstructor old.sig g.0 = shifted_constructor old new sorts more declared g.0 (subst (λ k. IsConstructor new.sig k) g.1 h.0) in
-              let e : back c u value (app f ts) ≡ app g.0 (back_all c u value ts) = ap (λ k. back c u value (app k ts)) g.1 ∙ back_shifted c u value g.0 ts in
+              let k : IsConstructor old.sig g.0 = shifted_constructor old new sorts more declared g.0
+              (subst (λ k. IsConstructor new.sig k) g.1 h.0) in
+              let e : back c u value (app f ts) ≡ app g.0 (back_all c u value ts) = ap
+              (λ k. back c u value (app k ts)) g.1 ∙ back_shifted c u value g.0 ts in
               subst (λ t. IsBuilt old.sig t) (sym e) (k, back_all_built ts h.1)
           | inr n ↦
-              let e : back c u value (app f ts) ≡ value n.0 = ap (λ k. back c u value (app k ts)) n.2 ∙ back_constant c u value n.0 ts (slice_get_within sorts n.0 n.1 n.3) in
+              let e : back c u value (app f ts) ≡ value n.0 = ap (λ k. back c u value (app k ts)) n.2
+              ∙ back_constant c u value n.0 ts (slice_get_within sorts n.0 n.1 n.3) in
               subst (λ t. IsBuilt old.sig t) (sym e) (fits n.0 n.1 n.3).1
         ]
 

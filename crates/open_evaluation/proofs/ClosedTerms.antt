@@ -1,6 +1,7 @@
 -- Terms with a constant for each variable: they are built if the terms are open, and are the same only for the
 -- same terms.
-use Rattle.std.proofs.Common.{◌≡◌, ℕ, zero, suc, [], ◌∷◌, get_or, ◌+◌, ◌<◌, ◌≤◌, List, Bool, true, false, inl, inr, refl, ap, sym, arith}
+use Rattle.std.proofs.Common.{◌≡◌, ℕ, zero, suc, [], ◌∷◌, get_or, ◌+◌, ◌<◌, ◌≤◌, List, Bool, true, false, inl, inr}
+use Rattle.std.proofs.Common.{refl, ap, sym, arith}
 use Rattle.std.specs.Prelude.{length, map}
 use Rattle.term_core.specs.Tree.{Tree, Trees, var, app, none, some, instance, instances}
 use Rattle.term_core.specs.Variables.{Occurs, OccursAny}
@@ -32,7 +33,8 @@ module _ (c u : ℕ) where
         let n : ts ≡ us = closed_all_inj ts us h i (args_eq e) in
         cc
 
-    closed_all_inj : (ts us : Trees) → ((k : ℕ) → OccursAny k ts → k < u) → ((k : ℕ) → OccursAny k us → k < u) → closed_all c u ts ≡ closed_all c u us → ts ≡ us
+    closed_all_inj : (ts us : Trees) → ((k : ℕ) → OccursAny k ts → k < u) → ((k : ℕ) → OccursAny k us → k < u) →
+        closed_all c u ts ≡ closed_all c u us → ts ≡ us
     closed_all_inj none none h i e = refl
     closed_all_inj none (some s us) h i e = absurd (no_more (sym e))
     closed_all_inj (some t ts) none h i e = absurd (no_more e)
@@ -43,24 +45,33 @@ module _ (c u : ℕ) where
 
   mutual
     -- a term with constants is an instance of the term with the new numbers
-    pub closed_instance : (ys zs : List Tree) (t : Tree) → ((k : ℕ) → Occurs k t → instance ys (var k) ≡ closed c u (instance zs (var k))) → instance ys (shifted c u t) ≡ closed c u (instance zs t)
+    pub closed_instance : (ys zs : List Tree) (t : Tree) →
+        ((k : ℕ) → Occurs k t → instance ys (var k) ≡ closed c u (instance zs (var k))) →
+        instance ys (shifted c u t) ≡ closed c u (instance zs t)
     closed_instance ys zs (var k) h = h k refl
     closed_instance ys zs (app f ts) h = ap (λ us. app (shifted_number c u f) us) (closed_instances ys zs ts h)
 
-    closed_instances : (ys zs : List Tree) (ts : Trees) → ((k : ℕ) → OccursAny k ts → instance ys (var k) ≡ closed c u (instance zs (var k))) → instances ys (shifted_all c u ts) ≡ closed_all c u (instances zs ts)
+    closed_instances : (ys zs : List Tree) (ts : Trees) →
+        ((k : ℕ) → OccursAny k ts → instance ys (var k) ≡ closed c u (instance zs (var k))) →
+        instances ys (shifted_all c u ts) ≡ closed_all c u (instances zs ts)
     closed_instances ys zs none h = refl
     closed_instances ys zs (some t ts) h =
-        let p : instance ys (shifted c u t) ≡ closed c u (instance zs t) = closed_instance ys zs t (λ k o. h k (inl o)) in
-        let q : instances ys (shifted_all c u ts) ≡ closed_all c u (instances zs ts) = closed_instances ys zs ts (λ k o. h k (inr o)) in
+        let p : instance ys (shifted c u t) ≡ closed c u (instance zs t) = closed_instance ys zs t
+        (λ k o. h k (inl o)) in
+        let q : instances ys (shifted_all c u ts) ≡ closed_all c u (instances zs ts) = closed_instances ys zs ts
+        (λ k o. h k (inr o)) in
         cc
 
-  closed_entry : (xs : List Tree) (k : ℕ) (d e : Tree) → k < length xs → get_or (map (closed c u) xs) k d ≡ closed c u (get_or xs k e)
+  closed_entry : (xs : List Tree) (k : ℕ) (d e : Tree) → k < length xs →
+      get_or (map (closed c u) xs) k d ≡ closed c u (get_or xs k e)
   closed_entry [] k d e w = absurd (omega arith)
   closed_entry (x ∷ xs) zero d e w = refl
   closed_entry (x ∷ xs) (suc k) d e w = closed_entry xs k d e (omega arith)
 
-  pub closed_by_entries : (xs : List Tree) (t : Tree) → VariablesAreBelow (length xs) t → instance (map (closed c u) xs) (shifted c u t) ≡ closed c u (instance xs t)
-  closed_by_entries xs t h = closed_instance (map (closed c u) xs) xs t (λ k o. closed_entry xs k (var k) (var k) (h k o))
+  pub closed_by_entries : (xs : List Tree) (t : Tree) → VariablesAreBelow (length xs) t →
+      instance (map (closed c u) xs) (shifted c u t) ≡ closed c u (instance xs t)
+  closed_by_entries xs t h = closed_instance (map (closed c u) xs) xs t
+      (λ k o. closed_entry xs k (var k) (var k) (h k o))
 
   -- the Booleans keep their numbers
   pub closed_boolean : 2 ≤ c → (b : Bool) → closed c u (boolean b) ≡ boolean b
@@ -88,8 +99,13 @@ module _ (old new : Sig) (u : ℕ) (more : new.constructors ≡ old.constructors
   mutual
     pub closed_built : (t : Tree) → IsOpen old t → VariablesAreBelow u t → IsBuilt new (closed old.constructors u t)
     closed_built (var k) o h = let w : k < u = h k refl in (omega arith, tt)
-    closed_built (app f ts) o h = let e = number_kept old.constructors u f o.0 in let w : f < old.constructors = o.0 in (omega arith, closed_all_built ts o.1 h)
+    closed_built (app f ts) o h = let e = number_kept old.constructors u f o.0 in
+        let w : f < old.constructors = o.0 in (omega arith, closed_all_built ts o.1 h)
 
-    closed_all_built : (ts : Trees) → AreOpen old ts → ((k : ℕ) → OccursAny k ts → k < u) → AreBuilt new (closed_all old.constructors u ts)
+    closed_all_built : (ts : Trees) → AreOpen old ts → ((k : ℕ) → OccursAny k ts → k < u) →
+        AreBuilt new (closed_all old.constructors u ts)
     closed_all_built none o h = tt
-    closed_all_built (some t ts) o h = (closed_built t o.0 (λ k p. h k (inl p)), closed_all_built ts o.1 (λ k p. h k (inr p)))
+    closed_all_built (some t ts) o h = (
+      closed_built t o.0 (λ k p. h k (inl p)),
+      closed_all_built ts o.1 (λ k p. h k (inr p)),
+    )

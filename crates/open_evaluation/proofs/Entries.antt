@@ -19,9 +19,12 @@ choose (suc n) P h =
     let rest = choose n (λ k x. P (suc k) x) (λ k w. h (suc k) (omega arith)) in
     record { items = first.0 ∷ rest.items; long = omega (arith, rest.long); each = at first rest }
   where
-    at : (first : (x : Tree) × P 0 x) (rest : Entries n (λ k x. P (suc k) x)) (k : ℕ) (d : Tree) → k < suc n → P k (get_or (first.0 ∷ rest.items) k d)
+    at : (first : (x : Tree) × P 0 x) (rest : Entries n (λ k x. P (suc k) x)) (k : ℕ) (d : Tree) → k < suc n →
+        P k (get_or (first.0 ∷ rest.items) k d)
     at first rest zero d w = first.1
     at first rest (suc k) d w = rest.each k d (omega arith)
 
-pub all_entries : (n : ℕ) (P : ℕ → Tree → Type 0) (Q : Tree → Type 0) (entries : Entries n P) → ((k : ℕ) (x : Tree) → P k x → Q x) → AllByRecursion Q entries.items
-all_entries n P Q entries h = recursion_from_All Q entries.items (λ k d w. h k (get_or entries.items k d) (entries.each k d (omega (arith, entries.long))))
+pub all_entries : (n : ℕ) (P : ℕ → Tree → Type 0) (Q : Tree → Type 0) (entries : Entries n P) →
+    ((k : ℕ) (x : Tree) → P k x → Q x) → AllByRecursion Q entries.items
+all_entries n P Q entries h = recursion_from_All Q entries.items
+    (λ k d w. h k (get_or entries.items k d) (entries.each k d (omega (arith, entries.long))))

@@ -9,8 +9,11 @@ use Rattle.spec_core.specs.declared.records.Spec.{Spec}
 use Rattle.spec_core.specs.Sig.{Sig}
 use Rattle.spec_core.specs.Sorts.{IsBuilt, AreBuilt}
 use Rattle.spec_core.specs.WellSorted.{IsWellSorted}
-use Rattle.spec_core.specs.Gives.{Gives, GivesAll, GivesGuards, built, called, no_terms, more_terms, no_guards, more_guards}
-use Rattle.open_evaluation.specs.OpenGives.{IsOpen, AreOpen, VariablesAreBelow, OpenGives, OpenGivesAll, OpenGivesGuards, unknown, open_built, open_called, no_open_terms, more_open_terms, no_open_guards, more_open_guards}
+use Rattle.spec_core.specs.Gives.{Gives, GivesAll, GivesGuards, built, called, no_terms, more_terms, no_guards}
+use Rattle.spec_core.specs.Gives.{more_guards}
+use Rattle.open_evaluation.specs.OpenGives.{IsOpen, AreOpen, VariablesAreBelow, OpenGives, OpenGivesAll}
+use Rattle.open_evaluation.specs.OpenGives.{OpenGivesGuards, unknown, open_built, open_called, no_open_terms}
+use Rattle.open_evaluation.specs.OpenGives.{more_open_terms, no_open_guards, more_open_guards}
 use Rattle.open_evaluation.proofs.Occurring.{below_by_left}
 
 module _ (sig : Sig) where
@@ -28,7 +31,8 @@ module _ (sig : Sig) where
   all_built_open (x ∷ xs) b = (built_open x b.0, all_built_open xs b.1)
 
   -- what stands for a variable is open if the entries are
-  pub entry_open : (xs : List Tree) (n : ℕ) (d : Tree) → AllByRecursion (IsOpen sig) xs → IsOpen sig d → IsOpen sig (get_or xs n d)
+  pub entry_open : (xs : List Tree) (n : ℕ) (d : Tree) → AllByRecursion (IsOpen sig) xs → IsOpen sig d →
+      IsOpen sig (get_or xs n d)
   entry_open [] n d b o = o
   entry_open (x ∷ xs) zero d b o = b.0
   entry_open (x ∷ xs) (suc n) d b o = entry_open xs n d b.1 o
@@ -48,13 +52,15 @@ module _ (spec : Spec) where
     -- what a term gives, it gives openly
     pub opens : {t v : Tree} {n : ℕ} → Gives spec t v n → OpenGives spec t v n
     opens (built c all) = open_built c (opens_all all)
-    opens (called number rule values all at bs is gs right cost) = open_called number rule values (opens_all all) at (all_built_open spec.sig values bs) is (opens_guards gs) (opens right) cost
+    opens (called number rule values all at bs is gs right cost) = open_called number rule values
+        (opens_all all) at (all_built_open spec.sig values bs) is (opens_guards gs) (opens right) cost
 
     opens_all : {ts vs : Trees} {n : ℕ} → GivesAll spec ts vs n → OpenGivesAll spec ts vs n
     opens_all no_terms = no_open_terms
     opens_all (more_terms one more cost) = more_open_terms (opens one) (opens_all more) cost
 
-    opens_guards : {values : List Tree} {gs : List Guard} {n : ℕ} → GivesGuards spec values gs n → OpenGivesGuards spec values gs n
+    opens_guards : {values : List Tree} {gs : List Guard} {n : ℕ} → GivesGuards spec values gs n →
+        OpenGivesGuards spec values gs n
     opens_guards no_guards = no_open_guards
     opens_guards (more_guards one more cost) = more_open_guards (opens one) (opens_guards more) cost
 
@@ -70,7 +76,8 @@ module _ (spec : Spec) (fine : IsWellSorted spec) (n : ℕ) where
         let left : VariablesAreBelow n (instance values rule.left) = subst (VariablesAreBelow n) (sym is) kept in
         keeps_below right (below_by_left spec.sig rule here n values left rule.right here.sides.0 here.sides.2)
 
-    pub keep_below : {ts vs : Trees} {m : ℕ} → OpenGivesAll spec ts vs m → ((k : ℕ) → OccursAny k ts → k < n) → (k : ℕ) → OccursAny k vs → k < n
+    pub keep_below : {ts vs : Trees} {m : ℕ} → OpenGivesAll spec ts vs m → ((k : ℕ) → OccursAny k ts → k < n) →
+        (k : ℕ) → OccursAny k vs → k < n
     keep_below no_open_terms h k o = absurd o
     keep_below (more_open_terms one more cost) h k (inl o) = keeps_below one (λ j p. h j (inl p)) k o
     keep_below (more_open_terms one more cost) h k (inr o) = keep_below more (λ j p. h j (inr p)) k o

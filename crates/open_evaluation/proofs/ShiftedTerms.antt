@@ -1,5 +1,6 @@
 -- What shifting keeps of a term.
-use Rattle.std.proofs.Common.{◌≡◌, ◌<◌, ◌+◌, ℕ, length, zero, suc, List, [], ◌∷◌, map, refl, ap, sym, ◌∙◌, inl, inr, eqb, arith}
+use Rattle.std.proofs.Common.{◌≡◌, ◌<◌, ◌+◌, ℕ, length, zero, suc, List, [], ◌∷◌, map, refl, ap, sym, ◌∙◌, inl, inr}
+use Rattle.std.proofs.Common.{eqb, arith}
 use Rattle.std.specs.Prelude.{slice_index_or}
 use Rattle.std.proofs.lemmas.Bool.Decides.{nat_tests, eqb_tells}
 use Rattle.term_core.specs.Tree.{Tree, Trees, var, app, none, some, instance, instances, trees_of, tree_depth, depths}
@@ -30,35 +31,41 @@ module _ (c u : ℕ) where
         let h : ss ≡ ts = shifted_all-inj ss ts (cc) in
         cc
 
-  shifted-entry : (xs : List Tree) (n m : ℕ) → slice_index_or (map (shifted c u) xs) n (var m) ≡ shifted c u (slice_index_or xs n (var m))
+  shifted-entry : (xs : List Tree) (n m : ℕ) →
+      slice_index_or (map (shifted c u) xs) n (var m) ≡ shifted c u (slice_index_or xs n (var m))
   shifted-entry [] n m = refl
   shifted-entry (x ∷ xs) zero m = refl
   shifted-entry (x ∷ xs) (suc n) m = shifted-entry xs n m
 
   mutual
-    pub shifted-instance : (xs : List Tree) (t : Tree) → instance (map (shifted c u) xs) (shifted c u t) ≡ shifted c u (instance xs t)
+    pub shifted-instance : (xs : List Tree) (t : Tree) →
+        instance (map (shifted c u) xs) (shifted c u t) ≡ shifted c u (instance xs t)
     shifted-instance xs (var n) = shifted-entry xs n n
     shifted-instance xs (app f ts) = ap (λ us. app (shifted_number c u f) us) (shifted-instances xs ts)
 
-    pub shifted-instances : (xs : List Tree) (ts : Trees) → instances (map (shifted c u) xs) (shifted_all c u ts) ≡ shifted_all c u (instances xs ts)
+    pub shifted-instances : (xs : List Tree) (ts : Trees) →
+        instances (map (shifted c u) xs) (shifted_all c u ts) ≡ shifted_all c u (instances xs ts)
     shifted-instances xs none = refl
     shifted-instances xs (some t ts) =
         let p = shifted-instance xs t in
         let q = shifted-instances xs ts in
         cc
 
-  closed-entry : (xs : List Tree) (n m : ℕ) → n < length xs → slice_index_or (map (closed c u) xs) n (var m) ≡ closed c u (slice_index_or xs n (var m))
+  closed-entry : (xs : List Tree) (n m : ℕ) → n < length xs →
+      slice_index_or (map (closed c u) xs) n (var m) ≡ closed c u (slice_index_or xs n (var m))
   closed-entry [] n m h = absurd (omega arith)
   closed-entry (x ∷ xs) zero m h = refl
   closed-entry (x ∷ xs) (suc n) m h = closed-entry xs n m (omega arith)
 
   -- an instance with a constant for each variable, if each variable has an entry
   mutual
-    pub closed-instance : (xs : List Tree) (t : Tree) → ((n : ℕ) → Occurs n t → n < length xs) → instance (map (closed c u) xs) (shifted c u t) ≡ closed c u (instance xs t)
+    pub closed-instance : (xs : List Tree) (t : Tree) → ((n : ℕ) → Occurs n t → n < length xs) →
+        instance (map (closed c u) xs) (shifted c u t) ≡ closed c u (instance xs t)
     closed-instance xs (var n) h = closed-entry xs n n (h n refl)
     closed-instance xs (app f ts) h = ap (λ us. app (shifted_number c u f) us) (closed-instances xs ts h)
 
-    pub closed-instances : (xs : List Tree) (ts : Trees) → ((n : ℕ) → OccursAny n ts → n < length xs) → instances (map (closed c u) xs) (shifted_all c u ts) ≡ closed_all c u (instances xs ts)
+    pub closed-instances : (xs : List Tree) (ts : Trees) → ((n : ℕ) → OccursAny n ts → n < length xs) →
+        instances (map (closed c u) xs) (shifted_all c u ts) ≡ closed_all c u (instances xs ts)
     closed-instances xs none h = refl
     closed-instances xs (some t ts) h =
         let p = closed-instance xs t (λ n o. h n (inl o)) in
@@ -103,7 +110,8 @@ module _ (c u : ℕ) where
   number-same : (f g : ℕ) → eqb (shifted_number c u f) (shifted_number c u g) ≡ eqb f g
   number-same f g =
       elim (eqb_tells f g) [
-        | inl p ↦ let e : shifted_number c u f ≡ shifted_number c u g = ap (λ k. shifted_number c u k) p.1 in grind (arith, nat_tests, e, p.0)
+        | inl p ↦ let e : shifted_number c u f ≡ shifted_number c u g = ap (λ k. shifted_number c u k) p.1 in
+            grind (arith, nat_tests, e, p.0)
         | inr p ↦ elim (eqb_tells (shifted_number c u f) (shifted_number c u g)) [
           | inl q ↦ absurd (p.1 (number-inj c u f g q.1))
           | inr q ↦ q.0 ∙ sym p.0

@@ -6,7 +6,8 @@ use Rattle.spec_core.specs.declared.records.Spec.{Spec}
 use Rattle.spec_core.specs.Sig.{Sig}
 use Rattle.spec_core.specs.Orders.{order_by_number}
 use Rattle.spec_core.specs.Declarations.{declared_by}
-use Rattle.spec_core.specs.Naturals.{nat, declares, nat_sorts, nat_constructors, nat_function, variable, naturals, zero_term, succ_term, plus_term}
+use Rattle.spec_core.specs.Naturals.{nat, declares, nat_sorts, nat_constructors, nat_function, variable, naturals}
+use Rattle.spec_core.specs.Naturals.{zero_term, succ_term, plus_term}
 use Rattle.open_evaluation.specs.Shifted.{shifted, closed, IsExtended}
 
 -- the constant, and addition after it

@@ -13,8 +13,8 @@ use std::alloc::Global;
 use term_core::{OutOfMemory, Seq, SortId};
 
 /// The specification with a constant of each of these sorts after its constructors, ordered by
-/// number, and without its goals. A constructor of `Bool` can't be declared, so none of the sorts is
-/// `Bool`. More symbols than there are numbers are answered as want of memory.
+/// number, and without its goals. A constructor of `Bool` can't be declared, so none of the sorts
+/// is `Bool`. More symbols than there are numbers are answered as want of memory.
 pub fn with_constants(alloc: Global, spec: &Spec, sorts: &[SortId]) -> Result<Spec, OutOfMemory>
     requires fine { IsWellSorted spec.now }
     requires in_range { AllByRecursion (IsSort spec.now.sig) sorts.now }

@@ -1,7 +1,15 @@
 ghost use Rattle.open_evaluation.specs.ConstantExamples.{WorkedConstants};
-ghost use Rattle.open_evaluation.specs.ConstantLaws.{ShiftedApart, InstancesAreShifted, InstancesAreClosed, OfExtended, SortsAreKept, ClosedAreSorted, ValuesAreKept, ConstantsAreValues, GoalsAreKept, NoOverlapIsKept, WholeGroupsAreKept};
+ghost use Rattle.open_evaluation.specs.ConstantLaws.{ShiftedApart, InstancesAreShifted};
+ghost use Rattle.open_evaluation.specs.ConstantLaws.{InstancesAreClosed, OfExtended, SortsAreKept};
+ghost use Rattle.open_evaluation.specs.ConstantLaws.{ClosedAreSorted, ValuesAreKept};
+ghost use Rattle.open_evaluation.specs.ConstantLaws.{ConstantsAreValues, GoalsAreKept};
+ghost use Rattle.open_evaluation.specs.ConstantLaws.{NoOverlapIsKept, WholeGroupsAreKept};
 ghost use Rattle.open_evaluation.specs.WalkExamples.{WorkedExamples};
-ghost use Rattle.open_evaluation.specs.WalkLaws.{ClosedTermsGiveTheSame, ClosingIsInjective, ClosingKeepsInstances, ClosingKeepsValues, ConstantsGiveOpenly, InstancesGive, OpenGivesWithConstants, OpenInstancesGive, OpenVerdictsHold, OpenVerdictsStay};
+ghost use Rattle.open_evaluation.specs.WalkLaws.{ClosedTermsGiveTheSame, ClosingIsInjective};
+ghost use Rattle.open_evaluation.specs.WalkLaws.{ClosingKeepsInstances, ClosingKeepsValues};
+ghost use Rattle.open_evaluation.specs.WalkLaws.{ConstantsGiveOpenly, InstancesGive};
+ghost use Rattle.open_evaluation.specs.WalkLaws.{OpenGivesWithConstants, OpenInstancesGive};
+ghost use Rattle.open_evaluation.specs.WalkLaws.{OpenVerdictsHold, OpenVerdictsStay};
 
 /// Different terms are different with the new numbers.
 pub fn shifted_apart()

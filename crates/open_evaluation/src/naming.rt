@@ -1,6 +1,7 @@
 //! Names that no symbol has, and copies of symbols.
 
-ghost use Rattle.std.specs.Prelude.{◌≡◌, ◌≤◌, ◌<◌, ◌+◌, ◌-◌, ◌++◌, ◌^◌, IfOk, Some, drop, length, slice_get, take};
+ghost use Rattle.std.specs.Prelude.{◌≡◌, ◌≤◌, ◌<◌, ◌+◌, ◌-◌, ◌++◌, ◌^◌, IfOk, Some, drop, length};
+ghost use Rattle.std.specs.Prelude.{slice_get, take};
 ghost use Rattle.spec_core.specs.Sig.{names_of};
 ghost use Rattle.open_evaluation.specs.Marks.{marks, marks_from, marked_constants, AreWithin};
 

@@ -1,7 +1,8 @@
 //! Rules and goals with the numbers of the extended signature.
 
 ghost use Rattle.std.specs.Prelude.{◌≡◌, IfOk, map};
-ghost use Rattle.open_evaluation.specs.Shifted.{shifted_equation, shifted_guard, shifted_rule, shifted_goal as goal_with_numbers};
+ghost use Rattle.open_evaluation.specs.Shifted.{shifted_equation, shifted_guard, shifted_rule};
+ghost use Rattle.open_evaluation.specs.Shifted.{shifted_goal as goal_with_numbers};
 
 use crate::terms::shift_term;
 use spec_core::{Equation, Goal, Guard, Rule, VarInfo};

@@ -4,7 +4,7 @@ ghost use Rattle.std.specs.Prelude.{◌≡◌, ◌≤◌, ◌+◌, ◌^◌, IfOk
 ghost use Rattle.open_evaluation.specs.Shifted.{shifted_number, shifted};
 
 use std::alloc::Global;
-use term_core::{TermNode, OutOfMemory, SymId, Term, Terms};
+use term_core::{OutOfMemory, SymId, Term, TermNode, Terms};
 
 /// The term with the numbers that symbols have once `constants` constructors come after the
 /// first `constructors`.

@@ -1,5 +1,6 @@
 -- The terms of a most general unifier of constructor patterns are constructor patterns.
-use Rattle.std.proofs.Common.{◌≡◌, ℕ, zero, suc, ◌<◌, ◌≤◌, ◌⊎◌, List, [], ◌∷◌, Option, Some, None, inl, inr, refl, ap, sym, ◌∙◌, subst, arith, map}
+use Rattle.std.proofs.Common.{◌≡◌, ℕ, zero, suc, ◌<◌, ◌≤◌, ◌⊎◌, List, [], ◌∷◌, Option, Some, None, inl, inr, refl, ap}
+use Rattle.std.proofs.Common.{sym, ◌∙◌, subst, arith, map}
 use Rattle.std.specs.Prelude.{unwrap_or, option_map}
 use Rattle.std.proofs.lemmas.Bool.{cases_lt}
 use Rattle.term_core.specs.Tree.{Tree, Trees, var, app, none, some}
@@ -13,7 +14,8 @@ abbrev keep_or_cut : {A B : Type 0} → A ⊎ B → ℕ → Trees → Tree
 keep_or_cut (inl h) f ts = app f ts
 keep_or_cut (inr h) f ts = var 0
 
-entry_map : (g : Tree → Tree) (s : List (Option Tree)) (n : ℕ) → entry (map (option_map g) s) n ≡ option_map g (entry s n)
+entry_map : (g : Tree → Tree) (s : List (Option Tree)) (n : ℕ) →
+    entry (map (option_map g) s) n ≡ option_map g (entry s n)
 entry_map g [] n = refl
 entry_map g (e ∷ s) zero = refl
 entry_map g (e ∷ s) (suc n) = entry_map g s n
@@ -29,11 +31,13 @@ module _ (sig : Sig) where
     pruned_all none = none
     pruned_all (some t ts) = some (pruned t) (pruned_all ts)
 
-  kept : (f : ℕ) (ts : Trees) (x : (f < sig.constructors) ⊎ (sig.constructors ≤ f)) → IsConstructor sig f → keep_or_cut x f ts ≡ app f ts
+  kept : (f : ℕ) (ts : Trees) (x : (f < sig.constructors) ⊎ (sig.constructors ≤ f)) → IsConstructor sig f →
+      keep_or_cut x f ts ≡ app f ts
   kept f ts (inl h) c = refl
   kept f ts (inr h) c = absurd (omega arith)
 
-  kept_or_cut : (f : ℕ) (ts : Trees) (x : (f < sig.constructors) ⊎ (sig.constructors ≤ f)) → ArePatterns sig ts → IsPattern sig (keep_or_cut x f ts)
+  kept_or_cut : (f : ℕ) (ts : Trees) (x : (f < sig.constructors) ⊎ (sig.constructors ≤ f)) →
+      ArePatterns sig ts → IsPattern sig (keep_or_cut x f ts)
   kept_or_cut f ts (inl h) p = (h, p)
   kept_or_cut f ts (inr h) p = tt
 
@@ -48,15 +52,18 @@ module _ (sig : Sig) where
 
   -- a pattern under a substitution is pruned if the substitution is
   mutual
-    prune_after : (s : List (Option Tree)) (t : Tree) → IsPattern sig t → pruned (apply s t) ≡ apply (map (option_map pruned) s) t
+    prune_after : (s : List (Option Tree)) (t : Tree) → IsPattern sig t →
+        pruned (apply s t) ≡ apply (map (option_map pruned) s) t
     prune_after s (var n) p = by (entry s n) ∙ ap (λ e. unwrap_or e (var n)) (sym (entry_map pruned s n))
       where
         by : (e : Option Tree) → pruned (unwrap_or e (var n)) ≡ unwrap_or (option_map pruned e) (var n)
         by None = refl
         by (Some t) = refl
-    prune_after s (app f ts) p = ap (λ us. keep_or_cut (cases_lt f sig.constructors) f us) (prune_after_all s ts p.1) ∙ kept f (apply_all (map (option_map pruned) s) ts) (cases_lt f sig.constructors) p.0
+    prune_after s (app f ts) p = ap (λ us. keep_or_cut (cases_lt f sig.constructors) f us)
+        (prune_after_all s ts p.1) ∙ kept f (apply_all (map (option_map pruned) s) ts) (cases_lt f sig.constructors) p.0
 
-    prune_after_all : (s : List (Option Tree)) (ts : Trees) → ArePatterns sig ts → pruned_all (apply_all s ts) ≡ apply_all (map (option_map pruned) s) ts
+    prune_after_all : (s : List (Option Tree)) (ts : Trees) → ArePatterns sig ts →
+        pruned_all (apply_all s ts) ≡ apply_all (map (option_map pruned) s) ts
     prune_after_all s none p = refl
     prune_after_all s (some t ts) p =
         let a : pruned (apply s t) ≡ apply (map (option_map pruned) s) t = prune_after s t p.0 in
@@ -83,7 +90,8 @@ module _ (sig : Sig) where
 
   -- if other symbols are pruned from a most general unifier, it still unifies, so it is the most general one
   -- followed by some substitution, and what becomes a pattern by a substitution was one
-  pub unified_patterns : (f g : ℕ) (ps qs : Trees) (s : List (Option Tree)) → IsMostGeneral (app f ps) (app g qs) s → ArePatterns sig ps → ArePatterns sig qs → ArePatterns sig (apply_all s ps)
+  pub unified_patterns : (f g : ℕ) (ps qs : Trees) (s : List (Option Tree)) →
+      IsMostGeneral (app f ps) (app g qs) s → ArePatterns sig ps → ArePatterns sig qs → ArePatterns sig (apply_all s ps)
   unified_patterns f g ps qs s m p q =
       let e : app f (apply_all s ps) ≡ app g (apply_all s qs) = m.unifies in
       let h : f ≡ g = cc in
@@ -95,4 +103,5 @@ module _ (sig : Sig) where
       let u = m.general t unifies in
       let both : app f (apply_all t ps) ≡ app f (apply_all u.0 (apply_all s ps)) = u.1 (app f ps) in
       let args : apply_all t ps ≡ apply_all u.0 (apply_all s ps) = cc in
-      patterns_before u.0 (apply_all s ps) (subst (λ ts. ArePatterns sig ts) (a ∙ args) (pruned_are_patterns (apply_all s ps)))
+      patterns_before u.0 (apply_all s ps)
+      (subst (λ ts. ArePatterns sig ts) (a ∙ args) (pruned_are_patterns (apply_all s ps)))

@@ -61,7 +61,10 @@ pub linear_below : (t : Tree) (m : ℕ) → Numbered 0 t m → ((n : ℕ) → n 
 linear_below t m h nothing n twice = nothing n (numbered_below 0 m t h n (twice_occurs n t twice)) twice
 
 -- the rules before a place are linear, and so is the one there
-pub more_linear : (rules : List Rule) (place : ℕ) (rule : Rule) → slice_get rules place ≡ Some rule → ((k : ℕ) (earlier : Rule) → k < place → slice_get rules k ≡ Some earlier → IsLinear earlier.left) → IsLinear rule.left → (k : ℕ) (earlier : Rule) → k < place + 1 → slice_get rules k ≡ Some earlier → IsLinear earlier.left
+pub more_linear : (rules : List Rule) (place : ℕ) (rule : Rule) → slice_get rules place ≡ Some rule →
+    ((k : ℕ) (earlier : Rule) → k < place → slice_get rules k ≡ Some earlier → IsLinear earlier.left) →
+    IsLinear rule.left → (k : ℕ) (earlier : Rule) → k < place + 1 → slice_get rules k ≡ Some earlier →
+    IsLinear earlier.left
 more_linear rules place rule at before here k earlier h is = by (below_or_last k place h)
   where
     by : (k < place) ⊎ (k ≡ place) → IsLinear earlier.left

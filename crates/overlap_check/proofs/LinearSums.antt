@@ -9,7 +9,8 @@ use Rattle.spec_core.specs.Naturals.{naturals, plus_zero_rule, plus_succ_rule, z
 use Rattle.overlap_check.specs.Repetition.{IsFirstRepeated}
 use Rattle.overlap_check.specs.Examples.{same_rule, same_second}
 
-twice_in_plus : (n : ℕ) (s t : Tree) → (OccursTwice n s → ⊥) → (OccursTwice n t → ⊥) → OccursTwice n (plus_term s t) → Occurs n s × Occurs n t
+twice_in_plus : (n : ℕ) (s t : Tree) → (OccursTwice n s → ⊥) → (OccursTwice n t → ⊥) →
+    OccursTwice n (plus_term s t) → Occurs n s × Occurs n t
 twice_in_plus n s t a b (inl h) = absurd (a h)
 twice_in_plus n s t a b (inr (inl (x, inl y))) = (x, y)
 twice_in_plus n s t a b (inr (inl (x, inr y))) = absurd y
@@ -55,7 +56,15 @@ before_second zero earlier h at =
 before_second (suc k) earlier h at = absurd (omega arith)
 
 pub second_repeats : IsFirstRepeated same_second 1 0
-second_repeats = record { rule = same_rule; at = refl; least = (inr (inl (refl, inl refl)), λ m h x. omega arith); before = before_second }
+second_repeats = record {
+  rule = same_rule;
+  at = refl;
+  least = (
+    inr (inl (refl, inl refl)),
+    λ m h x. omega arith,
+  );
+  before = before_second;
+}
 
 pub first_repeats_not : (place : ℕ) → 1 ≡ place + 1 → IsFirstRepeated same_second place 0 → ⊥
 first_repeats_not zero e h =

@@ -27,7 +27,8 @@ same_number m n a b = by (cases_lt m n) (cases_lt n m)
 
 module _ (spec : Spec) where
   one_place : (j k m n : ℕ) → IsFirstRepeated spec j m → IsFirstRepeated spec k n → j ≡ k
-  one_place j k m n a b = same_number j k (λ h. b.before j a.rule h a.at m a.least.0) (λ h. a.before k b.rule h b.at n b.least.0)
+  one_place j k m n a b = same_number j k (λ h. b.before j a.rule h a.at m a.least.0)
+      (λ h. a.before k b.rule h b.at n b.least.0)
 
   one_variable : (j k m n : ℕ) → IsFirstRepeated spec j m → IsFirstRepeated spec k n → m ≡ n
   one_variable j k m n a b =
@@ -37,19 +38,25 @@ module _ (spec : Spec) where
 
   -- the first overlap is at one pair of places
   one_first : (j k a b : ℕ) → IsFirstOverlap spec j k → IsFirstOverlap spec a b → j ≡ a
-  one_first j k a b p q = same_number j a (λ h. q.none_before j k h p.ordered p.overlaps) (λ h. p.none_before a b h q.ordered q.overlaps)
+  one_first j k a b p q = same_number j a (λ h. q.none_before j k h p.ordered p.overlaps)
+      (λ h. p.none_before a b h q.ordered q.overlaps)
 
   one_second : (j k a b : ℕ) → IsFirstOverlap spec j k → IsFirstOverlap spec a b → k ≡ b
   one_second j k a b p q =
       let e : j ≡ a = one_first j k a b p q in
-      same_number k b (λ h. q.none_between k (omega (arith, p.ordered)) h (subst (λ n. Overlaps spec n k) e p.overlaps)) (λ h. p.none_between b (omega (arith, q.ordered)) h (subst (λ n. Overlaps spec n b) (sym e) q.overlaps))
+      same_number k b (λ h. q.none_between k (omega (arith, p.ordered)) h
+      (subst (λ n. Overlaps spec n k) e p.overlaps))
+      (λ h. p.none_between b (omega (arith, q.ordered)) h (subst (λ n. Overlaps spec n b) (sym e) q.overlaps))
 
-  one_common : IsWellSorted spec → (j k a b : ℕ) (vs ws : Trees) → j ≡ a → k ≡ b → AreCommon spec j k vs → AreCommon spec a b ws → vs ≡ ws
+  one_common : IsWellSorted spec → (j k a b : ℕ) (vs ws : Trees) → j ≡ a → k ≡ b → AreCommon spec j k vs →
+      AreCommon spec a b ws → vs ≡ ws
   one_common fine j k a b vs ws e d p q =
       let r : q.first ≡ p.first = sym (one_rule spec.rules j a p.first q.first p.first_at q.first_at e) in
       let s : q.second ≡ p.second = sym (one_rule spec.rules k b p.second q.second p.second_at q.second_at d) in
-      let named : NamesOverlap spec.sig p.first p.second ws = subst (λ x. NamesOverlap spec.sig p.first x ws) s (subst (λ x. NamesOverlap spec.sig x q.second ws) r q.named) in
-      one_naming spec.sig p.first p.second vs ws (fine.rules j p.first p.first_at) (fine.rules k p.second p.second_at) p.named named
+      let named : NamesOverlap spec.sig p.first p.second ws = subst (λ x. NamesOverlap spec.sig p.first x ws) s
+      (subst (λ x. NamesOverlap spec.sig x q.second ws) r q.named) in
+      one_naming spec.sig p.first p.second vs ws (fine.rules j p.first p.first_at)
+      (fine.rules k p.second p.second_at) p.named named
 
 pub one_linearity : OneLinearity
 one_linearity spec linear linear h k = refl
@@ -70,5 +77,6 @@ one_overlap spec (Both n m vs) (Both a b ws) fine h k =
     let second : h.1 ≡ k.1 = one_second spec h.0 h.1 k.0 k.1 h.4 k.4 in
     let first_numbers : n ≡ a = omega (arith, h.2, k.2) in
     let second_numbers : m ≡ b = omega (arith, h.3, k.3) in
-    let values : vs ≡ ws = trees_of-inj vs ws (one_common spec fine h.0 h.1 k.0 k.1 (trees_of vs) (trees_of ws) first second h.5 k.5) in
+    let values : vs ≡ ws = trees_of-inj vs ws (one_common spec fine h.0 h.1 k.0 k.1 (trees_of vs) (trees_of ws)
+    first second h.5 k.5) in
     cc

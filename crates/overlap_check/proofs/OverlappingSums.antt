@@ -1,5 +1,6 @@
 -- Which left sides of rules for addition overlap, and with what values.
-use Rattle.std.proofs.Common.{rules, ◌≡◌, ℕ, zero, suc, ◌<◌, List, [], ◌∷◌, Option, Some, None, inl, refl, ap, sym, ◌∙◌, subst, arith}
+use Rattle.std.proofs.Common.{rules, ◌≡◌, ℕ, zero, suc, ◌<◌, List, [], ◌∷◌, Option, Some, None, inl, refl, ap, sym}
+use Rattle.std.proofs.Common.{◌∙◌, subst, arith}
 use Rattle.std.specs.Prelude.{slice_get}
 use Rattle.term_core.specs.Tree.{Tree, Trees, var, app, none, some, tree_size}
 use Rattle.term_core.specs.declared.ids.SortId.{SortId}
@@ -18,7 +19,8 @@ use Rattle.overlap_check.proofs.OneNaming.{one_naming}
 
 pub overlap_of_own : HaveOverlap naturals_sig (plus_term (var 0) (var 1)) (plus_term (succ_term (var 0)) (var 1))
 overlap_of_own = (
-  λ e. let k : plus_term (var 0) (var 1) ≡ plus_term (succ_term (var 0)) (var 1) = e in let h : var 0 ≡ succ_term (var 0) = cc in cc,
+  λ e. let k : plus_term (var 0) (var 1) ≡ plus_term (succ_term (var 0)) (var 1) = e in
+      let h : var 0 ≡ succ_term (var 0) = cc in cc,
   (
     some (succ_term zero_term) (some zero_term none),
     record {
@@ -63,7 +65,8 @@ module _ (t : List (Option Tree)) (zeros : (image t 0 ≡ zero_term) × (image t
 general : IsMostGeneral (plus_term zero_term (var 0)) (plus_term (var 1) zero_term) unifier
 general = record { unifies = refl; general = λ t e. (t, followed t (zeros t e)) }
   where
-    zeros : (t : List (Option Tree)) → IsUnifier (plus_term zero_term (var 0)) (plus_term (var 1) zero_term) t → (image t 0 ≡ zero_term) × (image t 1 ≡ zero_term)
+    zeros : (t : List (Option Tree)) → IsUnifier (plus_term zero_term (var 0)) (plus_term (var 1) zero_term) t →
+        (image t 0 ≡ zero_term) × (image t 1 ≡ zero_term)
     zeros t e =
         let k : plus_term zero_term (image t 0) ≡ plus_term (image t 1) zero_term = e in
         let a : image t 0 ≡ zero_term = cc in
@@ -74,14 +77,17 @@ keeps : KeepsSorts (plus_term zero_term (var 0)) (plus_term (var 1) zero_term) u
 keeps sig ctx sort p q n t e =
     let infos : Some p.0 ≡ Some q.0 = sym p.1 ∙ q.1 in
     let same : q.0 ≡ p.0 = cc in
-    by p.0.args p.3 (subst (λ (i : SymInfo). SortedAll sig ctx (some (var 1) (some zero_term none)) i.args) same q.3) n e
+    by p.0.args p.3 (subst (λ (i : SymInfo). SortedAll sig ctx (some (var 1) (some zero_term none)) i.args) same
+    q.3) n e
   where
     made : (n : ℕ) → n < 2 → entry unifier n ≡ Some t → zero_term ≡ t
     made zero h e = let k : Some zero_term ≡ Some t = e in cc
     made (suc zero) h e = let k : Some zero_term ≡ Some t = e in cc
     made (suc (suc n)) h e = absurd (omega arith)
 
-    by : (ss : List SortId) → SortedAll sig ctx (some zero_term (some (var 0) none)) ss → SortedAll sig ctx (some (var 1) (some zero_term none)) ss → (n : ℕ) → entry unifier n ≡ Some t → (r : SortId) × (slice_get ctx n ≡ Some r) × Sorted sig ctx t r
+    by : (ss : List SortId) → SortedAll sig ctx (some zero_term (some (var 0) none)) ss →
+        SortedAll sig ctx (some (var 1) (some zero_term none)) ss → (n : ℕ) → entry unifier n ≡ Some t →
+        (r : SortId) × (slice_get ctx n ≡ Some r) × Sorted sig ctx t r
     by [] a b n e = absurd a
     by (r ∷ []) a b n e = absurd a.1
     by (r ∷ s ∷ ss) a b zero e = (s, a.1.0, subst (λ x. Sorted sig ctx x s) (made 0 (omega arith) e) b.1.0)
@@ -112,9 +118,11 @@ right_zero_is_sorted = record {
   shallow_guards = tt;
 }
 
-pub not_others : NamesOverlap naturals_sig plus_zero_rule right_zero_rule (some zero_term (some (succ_term zero_term) none)) → ⊥
+pub not_others : NamesOverlap naturals_sig plus_zero_rule right_zero_rule
+    (some zero_term (some (succ_term zero_term) none)) → ⊥
 not_others n =
-    let e : some zero_term (some zero_term none) ≡ some zero_term (some (succ_term zero_term) none) = one_naming naturals_sig plus_zero_rule right_zero_rule _ _ zero_rule_is_sorted right_zero_is_sorted named n in
+    let e : some zero_term (some zero_term none) ≡ some zero_term (some (succ_term zero_term) none) = one_naming
+    naturals_sig plus_zero_rule right_zero_rule _ _ zero_rule_is_sorted right_zero_is_sorted named n in
     let k : ◌≡◌ {A = ℕ} 2 3 = cc in
     omega arith
 
@@ -130,7 +138,23 @@ zeros_match = record {
 }
 
 zeros_overlap : Overlaps two_zeros 0 1
-zeros_overlap = (plus_zero_rule, right_zero_rule, refl, refl, (λ e. let k : plus_term zero_term (var 0) ≡ plus_term (var 0) zero_term = e in let h : zero_term ≡ var 0 = cc in cc, (_, zeros_match)))
+zeros_overlap = (
+  plus_zero_rule,
+  right_zero_rule,
+  refl,
+  refl,
+  (
+    λ e. let k : plus_term zero_term (var 0) ≡ plus_term (var 0) zero_term = e in
+        let h : zero_term ≡ var 0 = cc in cc,
+    (_, zeros_match),
+  ),
+)
 
 pub first_overlap : IsFirstOverlap two_zeros 0 1
-first_overlap = record { overlaps = zeros_overlap; ordered = omega arith; none_before = λ a b h k o. omega arith; none_between = λ b h k o. omega arith }
+first_overlap = record {
+  overlaps = zeros_overlap;
+  ordered = omega arith;
+  none_before = λ a b h k o. omega
+      arith;
+  none_between = λ b h k o. omega arith;
+}

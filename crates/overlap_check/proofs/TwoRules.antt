@@ -16,7 +16,8 @@ use Rattle.overlap_check.specs.Searches.{AreCommonTo}
 use Rattle.overlap_check.proofs.Unified.{unifier_of_match, named_match}
 use Rattle.substitutions.proofs.Instances.{apply_values}
 
-left_call : (sig : Sig) (left : Tree) (s z : List (Option Tree)) → IsLeft sig left → (f : ℕ) × (ts : Trees) × (apply z (apply s left) ≡ app f ts)
+left_call : (sig : Sig) (left : Tree) (s z : List (Option Tree)) → IsLeft sig left → (f : ℕ) × (ts : Trees)
+    × (apply z (apply s left) ≡ app f ts)
 left_call sig (var n) s z l = absurd l
 left_call sig (app f ts) s z l = (f, _, refl)
 
@@ -35,11 +36,15 @@ module _ (sig : Sig) (r q : Rule) (a : RuleIsSorted sig r) (b : RuleIsSorted sig
     pub not_unified : HaveNoUnifier r.left other → HaveOverlap sig r.left q.left → ⊥
     not_unified never h =
         let m = h.1.1 in
-        let e : instance m.matches_left.0 r.left ≡ instance m.matches_other.0 q.left = m.matches_left.1 ∙ sym m.matches_other.1 in
-        let u = unifier_of_match sig (sorts_of r.vars) (sorts_of q.vars) r.left q.left a.numbered b.numbered m.matches_left.0 m.matches_other.0 e in
+        let e : instance m.matches_left.0 r.left ≡ instance m.matches_other.0 q.left = m.matches_left.1
+        ∙ sym m.matches_other.1 in
+        let u = unifier_of_match sig (sorts_of r.vars) (sorts_of q.vars) r.left q.left a.numbered b.numbered
+        m.matches_left.0 m.matches_other.0 e in
         never u.0 (u.1 ∙ ap (λ t. apply u.0 t) (sym other_is))
 
-    module _ (s entries : List (Option Tree)) (xs : List Tree) (applied call : Tree) (made : entries ≡ map (λ x. Some x) xs) (once : applied ≡ apply s r.left) (twice : call ≡ apply entries applied) where
+    module _ (s entries : List (Option Tree)) (xs : List Tree) (applied call : Tree)
+        (made : entries ≡ map (λ x. Some x) xs) (once : applied ≡ apply s r.left)
+        (twice : call ≡ apply entries applied) where
       -- the instance is a call
       pub is_call : (f : ℕ) × (ts : Trees) × (call ≡ app f ts)
       is_call =
@@ -47,12 +52,19 @@ module _ (sig : Sig) (r q : Rule) (a : RuleIsSorted sig r) (b : RuleIsSorted sig
           (h.0, h.1, twice ∙ ap (λ t. apply entries t) once ∙ h.2)
 
       -- and its arguments are the values named for both
-      pub are_common : r.left ≢ q.left → IsMostGeneral r.left other s → KeepsSorts r.left other s → AreSmall sig (sorts_of_both r q) (trees_of xs) → (f : ℕ) (vs : Trees) → call ≡ app f vs → AreCommonTo sig r q vs
+      pub are_common : r.left ≢ q.left → IsMostGeneral r.left other s → KeepsSorts r.left other s →
+          AreSmall sig (sorts_of_both r q) (trees_of xs) → (f : ℕ) (vs : Trees) → call ≡ app f vs →
+          AreCommonTo sig r q vs
       are_common different general keeps small f vs e =
-          let named : instance xs (apply s r.left) ≡ app f vs = sym (apply_values xs (apply s r.left)) ∙ ap (λ t. apply (map (λ x. Some x) xs) t) (sym once) ∙ ap (λ es. apply es applied) (sym made) ∙ sym twice ∙ e in
+          let named : instance xs (apply s r.left) ≡ app f vs = sym (apply_values xs (apply s r.left))
+          ∙ ap (λ t. apply (map (λ x. Some x) xs) t) (sym once) ∙ ap (λ es. apply es applied) (sym made)
+          ∙ sym twice ∙ e in
           record {
             different = different;
-            match_both = named_match sig (sorts_of r.vars) (sorts_of q.vars) r.left q.left a.numbered b.numbered a.left b.left a.sides.0 b.sides.0 a.sides.1 b.sides.1 s (subst (λ t. IsMostGeneral r.left t s) other_is general) (subst (λ t. KeepsSorts r.left t s) other_is keeps) xs small f vs named;
+            match_both = named_match sig (sorts_of r.vars) (sorts_of q.vars) r.left q.left a.numbered b.numbered
+                a.left b.left a.sides.0 b.sides.0 a.sides.1 b.sides.1 s
+                (subst (λ t. IsMostGeneral r.left t s) other_is general)
+                (subst (λ t. KeepsSorts r.left t s) other_is keeps) xs small f vs named;
             named = record {
               unifier = s;
               most_general = subst (λ t. IsMostGeneral r.left t s) other_apart general;

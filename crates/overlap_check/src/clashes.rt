@@ -4,7 +4,7 @@ ghost use Rattle.std.specs.Prelude.{IsTrue};
 ghost use Rattle.term_core.specs.Tree.{trees_of};
 ghost use Rattle.overlap_check.specs.Clashes.{HaveNoCommonInstance, HaveNoCommonInstances};
 
-use term_core::{TermNode, Term, front};
+use term_core::{Term, TermNode, front};
 
 /// Whether the terms have different symbols at one place, so that they have no instance in common.
 /// It binds no variable: terms that don't clash may still have none.

@@ -14,7 +14,7 @@ use crate::clashes::clash;
 use spec_core::{Rule, Signature, VarInfo};
 use std::alloc::Global;
 use substitutions::Subst;
-use term_core::{TermNode, OutOfMemory, Seq, Term};
+use term_core::{OutOfMemory, Seq, Term, TermNode};
 use unifier::{ShiftError, shift, unify};
 
 /// The values that are named for the two left sides, if these are different and some values match

@@ -11,7 +11,7 @@ ghost use Rattle.overlap_check.specs.Occurrences.{IsTimes, AreTimes};
 use crate::answers::Linear;
 use spec_core::Spec;
 use std::alloc::Global;
-use term_core::{TermNode, OutOfMemory, Term, VarId, front};
+use term_core::{OutOfMemory, Term, TermNode, VarId, front};
 
 /// The first rule with a variable that occurs twice on its left side. It walks each left side once
 /// for each of its variables, of which there are at most 16, and takes no memory.

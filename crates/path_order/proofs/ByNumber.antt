@@ -1,5 +1,6 @@
 -- Orderings of the same levels that arrange arguments alike are the same, as those by number are.
-use Rattle.std.proofs.Common.{◌≡◌, ◌∙◌, ℕ, zero, suc, ◌+◌, ◌≤◌, ◌<◌, List, Some, None, length, get_or, map, ap, sym, subst, refl, inl, inr, arith}
+use Rattle.std.proofs.Common.{◌≡◌, ◌∙◌, ℕ, zero, suc, ◌+◌, ◌≤◌, ◌<◌, List, Some, None, length, get_or, map, ap, sym}
+use Rattle.std.proofs.Common.{subst, refl, inl, inr, arith}
 use Rattle.std.proofs.lemmas.List.{get_or-map}
 use Rattle.std.proofs.lemmas.List.FromFn.{length-range_with_len, get_or-range_with_len}
 use Rattle.std.proofs.lemmas.Option.{slice_get-map, slice_get_cases}
@@ -9,7 +10,8 @@ use Rattle.term_core.specs.Tree.{Tree, Trees, var, app, list_of}
 use Rattle.term_core.specs.Precedence.{Precedence, level, status, by_number, written_by_number}
 use Rattle.term_core.proofs.Statuses.{written-level}
 use Rattle.term_core.proofs.Trees.{list_of-trees_of}
-use Rattle.path_order.specs.Above.{Above, SomeReaches, AboveAll, Falls, by_argument, by_head, by_arguments, this_is, this_above, later, all_none, all_some, here, further}
+use Rattle.path_order.specs.Above.{Above, SomeReaches, AboveAll, Falls, by_argument, by_head, by_arguments, this_is}
+use Rattle.path_order.specs.Above.{this_above, later, all_none, all_some, here, further}
 use Rattle.path_order.specs.Arranged.{numbered, picked, arranged}
 use Rattle.path_order.specs.ArrangedLaws.{Count, same-numbered, count-picked, arranged-cases}
 use Rattle.path_order.specs.ByNumber.{OrdersByNumber}

@@ -1,5 +1,6 @@
 -- Which of the three cases of the path ordering two heads leave open.
-use Rattle.std.proofs.Common.{◌≡◌, ◌≢◌, ◌⊎◌, ◌↔◌, ℕ, zero, suc, ◌+◌, ◌-◌, ◌≤◌, ◌<◌, Bool, IsTrue, true, false, List, [], ◌∷◌, ◌++◌, length, take, drop, get_or, ap, subst, sym, refl, ◌∙◌, inl, inr, arith}
+use Rattle.std.proofs.Common.{◌≡◌, ◌≢◌, ◌⊎◌, ◌↔◌, ℕ, zero, suc, ◌+◌, ◌-◌, ◌≤◌, ◌<◌, Bool, IsTrue, true, false, List}
+use Rattle.std.proofs.Common.{[], ◌∷◌, ◌++◌, length, take, drop, get_or, ap, subst, sym, refl, ◌∙◌, inl, inr, arith}
 use Rattle.std.specs.Prelude.{if◌then◌else◌}
 use Rattle.std.proofs.lemmas.Bool.{false≢true}
 use Rattle.std.proofs.lemmas.List.{take_all, length-drop}
@@ -11,12 +12,16 @@ use Rattle.term_core.proofs.Trees.{list_of-trees_of, slice_front}
 use Rattle.term_core.proofs.Items.{parted_at}
 use Rattle.path_order.specs.declared.path.Standing.{Standing}
 use Rattle.path_order.specs.declared.path.Standing.TheVariants.{Same, Greater, Neither}
-use Rattle.path_order.specs.Above.{Above, SomeReaches, AboveAll, Falls, by_argument, by_head, by_arguments, this_is, this_above, later, all_none, all_some, here, further}
+use Rattle.path_order.specs.Above.{Above, SomeReaches, AboveAll, Falls, by_argument, by_head, by_arguments, this_is}
+use Rattle.path_order.specs.Above.{this_above, later, all_none, all_some, here, further}
 use Rattle.path_order.specs.Standing.{Stands, HaveOneLevel}
 use Rattle.path_order.specs.Arranged.{arranged}
 use Rattle.path_order.specs.ArrangedLaws.{count-arranged, each-arranged, arranged-each, arranged-same, weights-arranged}
 use Rattle.longest_chains.proofs.Each.{Each, each-both, each-around, each-before, each-at, each-after}
-use Rattle.path_order.specs.Irreflexive.{each-above, arguments-above, arguments_of, Reaches, reaches-arguments, irreflexive, each-irreflexive, diagonal, by-member, each-reaching, arranged-reach, falls-differ, same-arguments, same-symbol, same-first, same-rest}
+use Rattle.path_order.specs.Irreflexive.{each-above, arguments-above, arguments_of, Reaches, reaches-arguments}
+use Rattle.path_order.specs.Irreflexive.{irreflexive, each-irreflexive, diagonal, by-member, each-reaching}
+use Rattle.path_order.specs.Irreflexive.{arranged-reach, falls-differ, same-arguments, same-symbol, same-first}
+use Rattle.path_order.specs.Irreflexive.{same-rest}
 use Rattle.path_order.specs.InOneContext.{later-reaches, falls-around}
 
 -- what comes after a place, taken whole
@@ -43,7 +48,8 @@ place-of :
     (ts : List Tree) (i : ℕ) (x : Tree) → i < length ts → x ≡ get_or ts i x →
     trees_of ts ≡ around (trees_of (take i ts)) x (trees_of (drop (i + 1) ts))
 place-of ts i x l e =
-    ap trees_of (sym (parted_at ts i x l e)) ∙ ap (λ k. trees_of (take i ts ++ x ∷ drop k ts)) (let k : suc i ≡ i + 1 = omega arith in k) ∙ trees-around (take i ts) x (drop (i + 1) ts)
+    ap trees_of (sym (parted_at ts i x l e)) ∙ ap (λ k. trees_of (take i ts ++ x ∷ drop k ts))
+    (let k : suc i ≡ i + 1 = omega arith in k) ∙ trees-around (take i ts) x (drop (i + 1) ts)
 
 around-differ :
     (before : Trees) (a b : Tree) (ts ss : Trees) → around before a ts ≡ around before b ss → a ≡ b
@@ -68,7 +74,8 @@ list-falls xs i x rest l e is =
     falls-there (y ∷ ys) zero x l e = let w : weight x ≡ weight y = ap (λ t. weight t) e in omega (arith, w)
     falls-there (y ∷ ys) (suc i) x l e =
         let k : suc (i + 1) ≡ suc i + 1 = omega arith in
-        subst (λ j. weight x + list_weight (drop j (y ∷ ys)) < list_weight (y ∷ ys)) k (omega (arith, falls-there ys i x (omega (arith, l)) e))
+        subst (λ j. weight x + list_weight (drop j (y ∷ ys)) < list_weight (y ∷ ys)) k
+        (omega (arith, falls-there ys i x (omega (arith, l)) e))
 
 pub positive : (t : Tree) → 1 ≤ weight t
 positive t = weight_positive t

@@ -1,5 +1,6 @@
 -- The order of a status has the same arguments, each once.
-use Rattle.std.proofs.Common.{◌≡◌, ℕ, zero, suc, ◌+◌, ◌≤◌, Bool, true, false, ◌&&◌, List, [], ◌∷◌, length, Option, Some, None, ap, subst, sym, refl, ◌∙◌, inl, inr, arith}
+use Rattle.std.proofs.Common.{◌≡◌, ℕ, zero, suc, ◌+◌, ◌≤◌, Bool, true, false, ◌&&◌, List, [], ◌∷◌, length, Option}
+use Rattle.std.proofs.Common.{Some, None, ap, subst, sym, refl, ◌∙◌, inl, inr, arith}
 use Rattle.std.specs.Prelude.{◌==◌, if◌then◌else◌}
 use Rattle.std.proofs.lemmas.Bool.{eqb-true, and_parts}
 use Rattle.std.specs.List.{AllByRecursion}
@@ -9,7 +10,8 @@ use Rattle.term_core.specs.Measure.{weight, weights}
 use Rattle.term_core.specs.Precedence.{Precedence, status, is_status, times}
 use Rattle.term_core.proofs.Members.{In}
 use Rattle.term_core.proofs.Numbers.{same_or_not}
-use Rattle.term_core.proofs.Statuses.{IsPlace, status-places, status-once, status-sums, sum_of, sum_to, times-in, times-here, times-other}
+use Rattle.term_core.proofs.Statuses.{IsPlace, status-places, status-once, status-sums, sum_of, sum_to, times-in}
+use Rattle.term_core.proofs.Statuses.{times-here, times-other}
 use Rattle.path_order.specs.Arranged.{numbered, picked, in_order, arranged}
 use Rattle.longest_chains.proofs.Each.{Each}
 

@@ -2,7 +2,8 @@
 use Rattle.std.proofs.Common.{ℕ, suc, refl, sym, subst}
 use Rattle.term_core.specs.Tree.{Tree, Trees, app, none, some}
 use Rattle.term_core.specs.Contexts.{Context, hole, under, around, plug}
-use Rattle.path_order.specs.Bounded.{AboveWithin, AboveAllWithin, FallsWithin, within_argument, within_arguments, within_here, within_further}
+use Rattle.path_order.specs.Bounded.{AboveWithin, AboveAllWithin, FallsWithin, within_argument, within_arguments}
+use Rattle.path_order.specs.Bounded.{within_here, within_further}
 use Rattle.longest_chains.proofs.Each.{Each, each-map, each-after}
 use Rattle.path_order.specs.BoundedArguments.{members-reach-within, each-within}
 use Rattle.term_core.specs.Precedence.{Precedence}

@@ -2,9 +2,12 @@
 use Rattle.std.proofs.Common.{◌≡◌, ◌∙◌, ◌↔◌, ℕ, length, refl, ap, sym, subst, inl, inr, arith}
 use Rattle.term_core.specs.Tree.{Tree, Trees, app, none, some, list_of}
 use Rattle.term_core.specs.Contexts.{Context, hole, under, around, plug}
-use Rattle.path_order.specs.Above.{Above, SomeReaches, AboveAll, Falls, by_argument, by_head, by_arguments, this_is, this_above, later, here, further}
+use Rattle.path_order.specs.Above.{Above, SomeReaches, AboveAll, Falls, by_argument, by_head, by_arguments, this_is}
+use Rattle.path_order.specs.Above.{this_above, later, here, further}
 use Rattle.longest_chains.proofs.Each.{Each, each-map, each-before, each-at, each-after}
-use Rattle.path_order.specs.Irreflexive.{each-above, members-reach, Reaches, reaches-arguments, none-reach, falls-differ, irreflexive, each-irreflexive, unreached, same-arguments, same-symbol, same-first, same-rest, arguments_of}
+use Rattle.path_order.specs.Irreflexive.{each-above, members-reach, Reaches, reaches-arguments, none-reach}
+use Rattle.path_order.specs.Irreflexive.{falls-differ, irreflexive, each-irreflexive, unreached, same-arguments}
+use Rattle.path_order.specs.Irreflexive.{same-symbol, same-first, same-rest, arguments_of}
 use Rattle.term_core.specs.Precedence.{Precedence, level}
 use Rattle.path_order.specs.Arranged.{arranged}
 use Rattle.path_order.specs.ArrangedLaws.{each-arranged, arranged-place}

@@ -1,6 +1,7 @@
 //! `Lpo`: the lexicographic path ordering with levels and statuses, its tests and its ranks.
 
-ghost use Rattle.std.specs.Prelude.{◌≡◌, ◌≤◌, ◌↔◌, List, IsTrue, if◌then◌else◌, length, map, option_map};
+ghost use Rattle.std.specs.Prelude.{◌≡◌, ◌≤◌, ◌↔◌, List, IsTrue, if◌then◌else◌, length, map};
+ghost use Rattle.std.specs.Prelude.{option_map};
 ghost use Rattle.term_core.specs.References.{terms_of};
 ghost use Rattle.std.specs.Option.{IfSome};
 ghost use Rattle.term_core.specs.Tree.{Tree, instance, tree_size, trees_of};
@@ -9,11 +10,12 @@ ghost use Rattle.term_order.specs.Operands.{read, meaning};
 ghost use Rattle.path_order.specs.Operands.{meanings};
 ghost use Rattle.path_order.specs.Standing.{Stands, HaveOneLevel};
 ghost use Rattle.path_order.specs.Arranged.{arranged};
-ghost use Rattle.term_core.specs.Precedence.{Precedence, IsPrecedence, by_number, level, status, is_status};
+ghost use Rattle.term_core.specs.Precedence.{Precedence, IsPrecedence, by_number, level, status};
+ghost use Rattle.term_core.specs.Precedence.{is_status};
 
 use crate::operands::Operands;
 use std::marker::Model;
-use term_core::{TermNode, Seq, SymId, Term, occurs};
+use term_core::{Seq, SymId, Term, TermNode, occurs};
 use term_order::{Operand, TermOrder};
 
 /// The lexicographic path ordering. A symbol of greater level has the greater precedence, and each
@@ -23,8 +25,8 @@ pub struct Lpo {
     lists: Option<Lists>,
 }
 
-/// The levels of the first symbols, and the numbers of their arguments, from 1, in the order in which
-/// they are compared.
+/// The levels of the first symbols, and the numbers of their arguments, from 1, in the order in
+/// which they are compared.
 #[derive(Drop)]
 struct Lists {
     levels: Seq<u32>,
@@ -50,8 +52,8 @@ impl Lpo {
         Lpo { lists: None }
     }
 
-    /// The first symbols have these levels and statuses. Each other symbol has its number as level, and
-    /// its arguments are compared as written.
+    /// The first symbols have these levels and statuses. Each other symbol has its number as level,
+    /// and its arguments are compared as written.
     pub fn with(levels: Seq<u32>, statuses: Seq<Seq<u8>>) -> Lpo
         requires { IsPrecedence (record { levels = levels; statuses = statuses }) }
         ensures { result ≡ record { levels = levels; statuses = statuses } }
@@ -196,8 +198,12 @@ fn told_by_patterns(t: Operand, s: Operand) -> Option<Standing>
     let (term, other) = (t.term, s.term);
     match (&term.node, &other.node) {
         (TermNode::Var(x), TermNode::Var(y)) if x == y => Some(Standing::Same),
-        (TermNode::Var(x), TermNode::App(_, _)) if occurs(x.0 as usize, other) => Some(Standing::Neither),
-        (TermNode::App(_, _), TermNode::Var(y)) if occurs(y.0 as usize, term) => Some(Standing::Greater),
+        (TermNode::Var(x), TermNode::App(_, _)) if occurs(x.0 as usize, other) => Some(
+            Standing::Neither,
+        ),
+        (TermNode::App(_, _), TermNode::Var(y)) if occurs(y.0 as usize, term) => Some(
+            Standing::Greater,
+        ),
         _ => None,
     }
 }
@@ -255,8 +261,8 @@ fn compare<'a>(order: &'a Lpo, list: &'a [&'a Term], t: Operand<'a>, s: Operand<
     }
 }
 
-/// How `t` stands to `s`, by the first arguments that differ and by those after them. The ones before
-/// are the same, so they reach nothing in `s`.
+/// How `t` stands to `s`, by the first arguments that differ and by those after them. The ones
+/// before are the same, so they reach nothing in `s`.
 #[cycle(compare)]
 fn compare_arguments<'a>(
     order: &'a Lpo,

@@ -20,7 +20,8 @@ module _ (above : Tree → Tree → Type 0) (laws : IsTermOrder above) where
   plugged k t u e = (plug_one k k t u e refl).1
 
   -- two terms in one context compare as they do alone
-  in_context : (k : Context) (t u : Tree) (r : Relation) → TermsCompare above (plug k t) (plug k u) r ↔ TermsCompare above t u r
+  in_context : (k : Context) (t u : Tree) (r : Relation) →
+      TermsCompare above (plug k t) (plug k u) r ↔ TermsCompare above t u r
   in_context k t u Same = (plugged k t u, ap (λ s. plug k s))
   in_context k t u Less =
       let h = laws.in_one_context k t u in
@@ -34,6 +35,10 @@ module _ (above : Tree → Tree → Type 0) (laws : IsTermOrder above) where
       let round = sides_round c place at in
       let lists = one_changed round.0 round.1 (plug at.round at.term) (plug at.round u) above r in
       let terms = in_context at.round at.term u r in (
-        λ h. terms.0 (lists.0 (subst (λ ys. MultisetsCompare above (round.0 ++ plug at.round at.term ∷ round.1) ys r) (round.2 u) (subst (λ xs. MultisetsCompare above xs (sides (holding at u)) r) round.3 h))),
-        λ h. subst (λ xs. MultisetsCompare above xs (sides (holding at u)) r) (sym round.3) (subst (λ ys. MultisetsCompare above (round.0 ++ plug at.round at.term ∷ round.1) ys r) (sym (round.2 u)) (lists.1 (terms.1 h))),
+        λ h. terms.0 (lists.0
+            (subst (λ ys. MultisetsCompare above (round.0 ++ plug at.round at.term ∷ round.1) ys r) (round.2 u)
+            (subst (λ xs. MultisetsCompare above xs (sides (holding at u)) r) round.3 h))),
+        λ h. subst (λ xs. MultisetsCompare above xs (sides (holding at u)) r) (sym round.3)
+            (subst (λ ys. MultisetsCompare above (round.0 ++ plug at.round at.term ∷ round.1) ys r)
+            (sym (round.2 u)) (lists.1 (terms.1 h))),
       )

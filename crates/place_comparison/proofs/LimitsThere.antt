@@ -1,6 +1,7 @@
 -- A clause within the limits stays so when a place holds another term, if there is room for the
 -- term's symbols and levels.
-use Rattle.std.proofs.Common.{◌≡◌, ℕ, ◌+◌, ◌-◌, ◌≤◌, List, [], ◌∷◌, ◌++◌, Bool, true, false, length, min, ap, ◌∙◌, arith}
+use Rattle.std.proofs.Common.{◌≡◌, ℕ, ◌+◌, ◌-◌, ◌≤◌, List, [], ◌∷◌, ◌++◌, Bool, true, false, length, min, ap, ◌∙◌}
+use Rattle.std.proofs.Common.{arith}
 use Rattle.term_core.specs.Tree.{Tree, trees_of, tree_size, sizes, tree_depth, depths}
 use Rattle.term_core.specs.Contexts.{plug}
 use Rattle.spec_core.specs.declared.records.Equation.{Equation}
@@ -11,9 +12,11 @@ use Rattle.clause_core.specs.Limits.{IsWithin, clause_size, clause_depth}
 use Rattle.clause_core.specs.NumberedEquations.{EquationAt, equations, exchanged}
 use Rattle.clause_core.specs.Places.{TermAt, path_of, with_side, holding}
 use Rattle.place_comparison.proofs.SidesRound.{holds_own, sides_round}
-use Rattle.place_comparison.proofs.SizesRound.{sizes_append, sizes_round, depths_round, part_size, plug_size, plug_levels, plug_depth}
+use Rattle.place_comparison.proofs.SizesRound.{sizes_append, sizes_round, depths_round, part_size, plug_size}
+use Rattle.place_comparison.proofs.SizesRound.{plug_levels, plug_depth}
 
-pub size_of_clause : (c : Clause) → clause_size c ≡ sizes (trees_of (sides_of c.premises)) + sizes (trees_of (sides_of c.conclusions))
+pub size_of_clause : (c : Clause) →
+    clause_size c ≡ sizes (trees_of (sides_of c.premises)) + sizes (trees_of (sides_of c.conclusions))
 size_of_clause c = sizes_append (sides_of c.premises) (sides_of c.conclusions)
 
 -- how many equations a clause has
@@ -34,7 +37,9 @@ exchanged_many false c n p d e = omega (arith, as_many p.before p.after d e)
 module _ (c : Clause) (place : Place) (at : TermAt c place) (u : Tree) where
   as_many_there : many (holding at u) ≡ many c
   as_many_there =
-      exchanged_many place.conclusion c place.number at.at (with_side place.left at.at.equation (plug at.round u)) (with_side place.left at.at.equation (plug at.round at.term))
+      exchanged_many place.conclusion c place.number at.at
+      (with_side place.left at.at.equation (plug at.round u))
+      (with_side place.left at.at.equation (plug at.round at.term))
       ∙ ap many (holds_own c place at)
 
   -- the size changes by that of the term
@@ -63,7 +68,8 @@ module _ (c : Clause) (place : Place) (at : TermAt c place) (u : Tree) where
       let below = plug_depth at.round at.term u n (omega (arith, h, old)) (omega (arith, l, path_length)) in
       omega (arith, h, old, new, below)
 
-  pub stays_within : IsWithin c → clause_size (holding at u) ≤ 4000 → length place.path + tree_depth u ≤ 100 → IsWithin (holding at u)
+  pub stays_within : IsWithin c → clause_size (holding at u) ≤ 4000 → length place.path + tree_depth u ≤ 100 →
+      IsWithin (holding at u)
   unfolding many
   stays_within w small low = record {
     equations = omega (arith, w.equations, as_many_there);
@@ -88,7 +94,8 @@ module _ (c : Clause) (place : Place) (at : TermAt c place) where
 
     -- the test of the levels below the path
     pub levels_test :
-        (u : Tree) (levels depth : ℕ) → levels ≡ length place.path → depth ≡ min (tree_depth u) (100 - levels + 1) → clause_size (holding at u) ≤ 4000 →
+        (u : Tree) (levels depth : ℕ) → levels ≡ length place.path →
+        depth ≡ min (tree_depth u) (100 - levels + 1) → clause_size (holding at u) ≤ 4000 →
         (depth ≤ 100 - levels → IsWithin (holding at u)) × (IsWithin (holding at u) → depth ≤ 100 - levels)
     levels_test u levels depth l e small = (
       λ low. stays_within c place at u w small (omega (arith, low, e, l, few_levels)),
@@ -96,14 +103,16 @@ module _ (c : Clause) (place : Place) (at : TermAt c place) where
     )
 
 -- how much room there is for another term
-module _ (c : Clause) (w : IsWithin c) (place : Place) (at : TermAt c place) (old : Tree) (is : at.term ≡ old) (first second part : ℕ) where
+module _ (c : Clause) (w : IsWithin c) (place : Place) (at : TermAt c place) (old : Tree) (is : at.term ≡ old)
+    (first second part : ℕ) where
   abbrev pub AreSizes : Type 0
   AreSizes =
       (first ≡ min (sizes (trees_of (sides_of c.premises))) 4000)
       × (second ≡ min (sizes (trees_of (sides_of c.conclusions))) 4000)
       × (part ≡ min (tree_size old) 4000)
 
-  sizes_are : AreSizes → (first + second ≡ clause_size c) × (part ≡ tree_size at.term) × (part ≤ first + second) × (first + second ≤ 4000)
+  sizes_are : AreSizes → (first + second ≡ clause_size c) × (part ≡ tree_size at.term) × (part ≤ first + second)
+      × (first + second ≤ 4000)
   sizes_are s =
       let whole : first + second ≡ clause_size c = omega (arith, s.0, s.1, w.size, size_of_clause c) in
       let own : part ≡ tree_size at.term = omega (arith, s.2, ap tree_size is, own_size c place at, w.size) in

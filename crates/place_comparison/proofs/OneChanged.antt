@@ -2,7 +2,8 @@
 -- cancel.
 use Rattle.std.proofs.Common.{◌≡◌, ◌≢◌, List, [], ◌∷◌, ◌++◌, refl, sym, ◌∙◌, subst, arith, inl, inr}
 use Rattle.std.specs.Prelude.{◌↔◌, IsPermutation, Contains}
-use Rattle.std.proofs.lemmas.List.Sorted.{IsPermutation-refl, IsPermutation-trans, IsPermutation-middle, IsPermutation-append_comm}
+use Rattle.std.proofs.lemmas.List.Sorted.{IsPermutation-refl, IsPermutation-trans, IsPermutation-middle}
+use Rattle.std.proofs.lemmas.List.Sorted.{IsPermutation-append_comm}
 use Rattle.term_core.specs.Tree.{Tree}
 use Rattle.term_core.proofs.Members.{in_contained, contained_in}
 use Rattle.term_core.proofs.SameTrees.{same_tree_or_not}
@@ -15,7 +16,8 @@ use Rattle.place_comparison.specs.AtPlaces.{TermsCompare}
 
 to_end : (before after : List Tree) (t : Tree) → IsPermutation (before ++ t ∷ after) ((before ++ after) ++ t ∷ [])
 to_end before after t =
-    IsPermutation-trans (before ++ t ∷ after) (t ∷ (before ++ after)) ((before ++ after) ++ t ∷ []) (IsPermutation-middle before t after) (IsPermutation-append_comm (t ∷ []) (before ++ after))
+    IsPermutation-trans (before ++ t ∷ after) (t ∷ (before ++ after)) ((before ++ after) ++ t ∷ [])
+    (IsPermutation-middle before t after) (IsPermutation-append_comm (t ∷ []) (before ++ after))
 
 only_member : (t x : Tree) → Contains (t ∷ []) x → x ≡ t
 only_member t x i = elim (in_contained (t ∷ []) x i) [ inl e ↦ e | inr n ↦ absurd n ]
@@ -31,22 +33,26 @@ module _ (before after : List Tree) (t u : Tree) where
   }
 
   same_list : t ≡ u → IsPermutation (before ++ t ∷ after) (before ++ u ∷ after)
-  same_list e = subst (λ z. IsPermutation (before ++ t ∷ after) (before ++ z ∷ after)) e (IsPermutation-refl (before ++ t ∷ after))
+  same_list e = subst (λ z. IsPermutation (before ++ t ∷ after) (before ++ z ∷ after)) e
+      (IsPermutation-refl (before ++ t ∷ after))
 
   same_member : IsPermutation (before ++ t ∷ after) (before ++ u ∷ after) → t ≡ u
   same_member p = elim (same_tree_or_not t u) [
     | inl e ↦ e
     | inr n ↦
-        absurd (let q : t ∷ [] ≡ [] = (nothing_left same_tree_or_not (before ++ t ∷ after) (before ++ u ∷ after) (t ∷ []) (u ∷ []) (rests n) p).0 in cc)
+        absurd (let q : t ∷ [] ≡ [] = (nothing_left same_tree_or_not (before ++ t ∷ after) (before ++ u ∷ after)
+        (t ∷ []) (u ∷ []) (rests n) p).0 in cc)
   ]
 
   module _ (above : Tree → Tree → Type 0) where
     differs : Exceeds above (before ++ t ∷ after) (before ++ u ∷ after) → t ≢ u
-    differs x e = something_left same_tree_or_not (before ++ t ∷ after) (before ++ u ∷ after) [] [] (all_cancel (before ++ t ∷ after) (before ++ u ∷ after) (same_list e)) above x refl
+    differs x e = something_left same_tree_or_not (before ++ t ∷ after) (before ++ u ∷ after) [] []
+        (all_cancel (before ++ t ∷ after) (before ++ u ∷ after) (same_list e)) above x refl
 
     greater_member : Exceeds above (before ++ t ∷ after) (before ++ u ∷ after) → above t u
     greater_member x =
-        let g = each_exceeded same_tree_or_not (before ++ t ∷ after) (before ++ u ∷ after) (t ∷ []) (u ∷ []) (rests (differs x)) above x u (contained_in (u ∷ []) u (inl refl)) in
+        let g = each_exceeded same_tree_or_not (before ++ t ∷ after) (before ++ u ∷ after) (t ∷ []) (u ∷ [])
+        (rests (differs x)) above x u (contained_in (u ∷ []) u (inl refl)) in
         subst (λ z. above z u) (only_member t g.0 g.1) g.2
 
     greater_list : t ≢ u → above t u → Exceeds above (before ++ t ∷ after) (before ++ u ∷ after)
@@ -58,7 +64,11 @@ module _ (before after : List Tree) (t u : Tree) where
       has_greater = λ y i. (t, contained_in (t ∷ []) t (inl refl), subst (λ z. above t z) (sym (only_member u y i)) g);
     }
 
-    pub one_changed : (r : Relation) → MultisetsCompare above (before ++ t ∷ after) (before ++ u ∷ after) r ↔ TermsCompare above t u r
+    pub one_changed : (r : Relation) → MultisetsCompare above (before ++ t ∷ after) (before ++ u ∷ after) r ↔
+        TermsCompare above t u r
     one_changed Same = (same_member, same_list)
     one_changed Less = (λ x. (differs x, greater_member x), λ h. greater_list h.0 h.1)
-    one_changed Neither = (λ h. (λ e. h.0 (same_list e), λ g. h.1 (greater_list (λ e. h.0 (same_list e)) g)), λ h. (λ p. h.0 (same_member p), λ x. h.1 (greater_member x)))
+    one_changed Neither = (
+      λ h. (λ e. h.0 (same_list e), λ g. h.1 (greater_list (λ e. h.0 (same_list e)) g)),
+      λ h. (λ p. h.0 (same_member p), λ x. h.1 (greater_member x)),
+    )

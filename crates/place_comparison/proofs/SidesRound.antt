@@ -14,7 +14,8 @@ own_side : (left : Bool) (e : Equation) → with_side left e (side left e) ≡ e
 own_side true e = refl
 own_side false e = refl
 
-own_equation : (kind : Bool) (c : Clause) (n : ℕ) (p : EquationAt (equations kind c) n) → exchanged kind c p (p.equation ∷ []) ≡ c
+own_equation : (kind : Bool) (c : Clause) (n : ℕ) (p : EquationAt (equations kind c) n) →
+    exchanged kind c p (p.equation ∷ []) ≡ c
 own_equation true c n p = λ i. record { ctx = c.ctx; premises = c.premises; conclusions = sym p.is i }
 own_equation false c n p = λ i. record { ctx = c.ctx; premises = sym p.is i; conclusions = c.conclusions }
 
@@ -23,11 +24,16 @@ round_equation :
     (left : Bool) (e : Equation) (first rest : List Equation) →
     (before : List Tree) × (after : List Tree)
     × ((t : Tree) → sides_of (first ++ (with_side left e t ∷ rest)) ≡ before ++ t ∷ after)
-round_equation true e first rest = (sides_of first, e.right ∷ sides_of rest, λ t. sides_append first (with_side true e t ∷ rest))
+round_equation true e first rest = (
+  sides_of first,
+  e.right ∷ sides_of rest,
+  λ t. sides_append first (with_side true e t ∷ rest),
+)
 round_equation false e first rest = (
   sides_of first ++ e.left ∷ [],
   sides_of rest,
-  λ t. sides_append first (with_side false e t ∷ rest) ∙ sym (append_assoc (sides_of first) (e.left ∷ []) (t ∷ sides_of rest)),
+  λ t. sides_append first (with_side false e t ∷ rest)
+      ∙ sym (append_assoc (sides_of first) (e.left ∷ []) (t ∷ sides_of rest)),
 )
 
 -- and in the sides of the clause
@@ -36,11 +42,19 @@ round_side :
     (before : List Tree) × (after : List Tree)
     × ((t : Tree) → sides (exchanged kind c p (with_side left p.equation t ∷ [])) ≡ before ++ t ∷ after)
 round_side true left c n p =
-    let r = round_equation left p.equation p.before p.after in
-    (sides_of c.premises ++ r.0, r.1, λ t. ap (λ ts. sides_of c.premises ++ ts) (r.2 t) ∙ sym (append_assoc (sides_of c.premises) r.0 (t ∷ r.1)))
+    let r = round_equation left p.equation p.before p.after in (
+      sides_of c.premises ++ r.0,
+      r.1,
+      λ t. ap (λ ts. sides_of c.premises ++ ts) (r.2 t)
+          ∙ sym (append_assoc (sides_of c.premises) r.0 (t ∷ r.1)),
+    )
 round_side false left c n p =
-    let r = round_equation left p.equation p.before p.after in
-    (r.0, r.1 ++ sides_of c.conclusions, λ t. ap (λ ts. ts ++ sides_of c.conclusions) (r.2 t) ∙ append_assoc r.0 (t ∷ r.1) (sides_of c.conclusions))
+    let r = round_equation left p.equation p.before p.after in (
+      r.0,
+      r.1 ++ sides_of c.conclusions,
+      λ t. ap (λ ts. ts ++ sides_of c.conclusions) (r.2 t)
+          ∙ append_assoc r.0 (t ∷ r.1) (sides_of c.conclusions),
+    )
 
 module _ (c : Clause) (place : Place) (at : TermAt c place) where
   -- the clause is the one whose place holds its own term

@@ -9,20 +9,25 @@ sizes_append [] ys = omega arith
 sizes_append (x ∷ xs) ys = omega (arith, sizes_append xs ys)
 
 -- in a list
-pub sizes_round : (before after : List Tree) (t : Tree) → sizes (trees_of (before ++ t ∷ after)) ≡ sizes (trees_of before) + tree_size t + sizes (trees_of after)
+pub sizes_round : (before after : List Tree) (t : Tree) →
+    sizes (trees_of (before ++ t ∷ after)) ≡ sizes (trees_of before) + tree_size t + sizes (trees_of after)
 sizes_round [] after t = omega arith
 sizes_round (b ∷ before) after t = omega (arith, sizes_round before after t)
 
-pub depths_round : (before after : List Tree) (t : Tree) → depths (trees_of (before ++ t ∷ after)) ≡ max (tree_depth t) (max (depths (trees_of before)) (depths (trees_of after)))
+pub depths_round : (before after : List Tree) (t : Tree) →
+    depths (trees_of (before ++ t ∷ after)) ≡ max (tree_depth t)
+    (max (depths (trees_of before)) (depths (trees_of after)))
 depths_round [] after t = omega arith
 depths_round (b ∷ before) after t = omega (arith, depths_round before after t)
 
 -- among arguments
-sizes_around : (before after : Trees) (t : Tree) → sizes (around before t after) ≡ sizes before + tree_size t + sizes after
+sizes_around : (before after : Trees) (t : Tree) →
+    sizes (around before t after) ≡ sizes before + tree_size t + sizes after
 sizes_around none after t = omega arith
 sizes_around (some b before) after t = omega (arith, sizes_around before after t)
 
-depths_around : (before after : Trees) (t : Tree) → depths (around before t after) ≡ max (tree_depth t) (max (depths before) (depths after))
+depths_around : (before after : Trees) (t : Tree) →
+    depths (around before t after) ≡ max (tree_depth t) (max (depths before) (depths after))
 depths_around none after t = omega arith
 depths_around (some b before) after t = omega (arith, depths_around before after t)
 
@@ -43,7 +48,8 @@ plug_levels (under f before k after) t = omega (arith, plug_levels k t, depths_a
 
 -- and only these change with the term
 pub plug_depth :
-    (k : Context) (t u : Tree) (n : ℕ) → tree_depth (plug k t) ≤ n → length (path_of k) + tree_depth u ≤ n → tree_depth (plug k u) ≤ n
+    (k : Context) (t u : Tree) (n : ℕ) → tree_depth (plug k t) ≤ n → length (path_of k) + tree_depth u ≤ n →
+    tree_depth (plug k u) ≤ n
 plug_depth hole t u n h l = omega (arith, l)
 plug_depth (under f before k after) t u n h l =
     let first = depths_around before after (plug k t) in

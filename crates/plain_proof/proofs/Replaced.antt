@@ -31,13 +31,16 @@ only_image x t P here others m =
       | inr n ↦ subst P (sym (image_none (only x t) m (only_apart x t m n))) (others m)
     ]
 
-same_image : (made : List (Option Tree)) (x : ℕ) (t : Tree) → IsSetTo [] x t made → (m : ℕ) → image made m ≡ image (only x t) m
+same_image : (made : List (Option Tree)) (x : ℕ) (t : Tree) → IsSetTo [] x t made → (m : ℕ) →
+    image made m ≡ image (only x t) m
 same_image made x t is m =
     elim (same_or_not m x) as (λ _. image made m ≡ image (only x t) m) [
-      | inl e ↦ image_entry made m t (ap (λ k. entry made k) e ∙ is.0) ∙ sym (image_entry (only x t) m t (ap (λ k. entry (only x t) k) e ∙ only_here x t))
+      | inl e ↦ image_entry made m t (ap (λ k. entry made k) e ∙ is.0)
+          ∙ sym (image_entry (only x t) m t (ap (λ k. entry (only x t) k) e ∙ only_here x t))
       | inr n ↦ image_none made m (is.1 m n) ∙ sym (image_none (only x t) m (only_apart x t m n))
     ]
 
 -- a substitution without entries, in which one is set
-pub set_is_only : (made : List (Option Tree)) (x : ℕ) (t : Tree) → IsSetTo [] x t made → (u : Tree) → apply made u ≡ apply (only x t) u
+pub set_is_only : (made : List (Option Tree)) (x : ℕ) (t : Tree) → IsSetTo [] x t made → (u : Tree) →
+    apply made u ≡ apply (only x t) u
 set_is_only made x t is u = apply_same u made (only x t) (λ m o. same_image made x t is m)

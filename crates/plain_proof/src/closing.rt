@@ -1,6 +1,7 @@
 //! How two normal forms close.
 
-ghost use Rattle.std.specs.Prelude.{◌≡◌, ◌↔◌, ◌≤◌, ℕ, IfOk, IsTrue, MatchOption, Some, slice_get, length};
+ghost use Rattle.std.specs.Prelude.{◌≡◌, ◌↔◌, ◌≤◌, ℕ, IfOk, IsTrue, MatchOption, Some, slice_get};
+ghost use Rattle.std.specs.Prelude.{length};
 ghost use Rattle.term_core.specs.Tree.{app as application, trees_of};
 ghost use Rattle.term_core.specs.declared.ids.SortId.{SortId};
 ghost use Rattle.spec_core.specs.Sig.{IsConstructor};
@@ -10,7 +11,7 @@ ghost use Rattle.plain_proof.specs.ClosingAnswers.{Suffices, IsClosing, AreClosi
 use crate::instances::is_instance;
 use spec_core::{Equation, Signature};
 use std::alloc::Global;
-use term_core::{TermNode, OutOfMemory, SortId, Term, front};
+use term_core::{OutOfMemory, SortId, Term, TermNode, front};
 
 /// How a pair of normal forms is closed.
 #[derive(Clone, Copy)]

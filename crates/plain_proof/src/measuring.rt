@@ -1,6 +1,7 @@
 //! The length of a plain proof on a variable.
 
-ghost use Rattle.std.specs.Prelude.{◌≡◌, ◌↔◌, ◌≤◌, ◌<◌, ◌+◌, ◌^◌, ◌++◌, IfOk, IsTrue, Some, length as length_of};
+ghost use Rattle.std.specs.Prelude.{◌≡◌, ◌↔◌, ◌≤◌, ◌<◌, ◌+◌, ◌^◌, ◌++◌, IfOk, IsTrue, Some};
+ghost use Rattle.std.specs.Prelude.{length as length_of};
 ghost use Rattle.spec_core.specs.declared.records.SymInfo.{SymInfo as Info};
 ghost use Rattle.spec_core.specs.Sig.{info_of};
 ghost use Rattle.spec_core.specs.WellSorted.{IsWellSorted};

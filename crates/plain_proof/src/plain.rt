@@ -1,7 +1,8 @@
 //! `first_plain`: the first variable with a plain proof.
 
 ghost use Rattle.std.specs.Prelude.{◌≡◌, ◌≤◌, IfOk, length as length_of};
-ghost use Rattle.spec_core.specs.WellSorted.{IsWellSorted, GoalIsSorted, sorts_of as sorts_of_variables};
+ghost use Rattle.spec_core.specs.WellSorted.{IsWellSorted, GoalIsSorted};
+ghost use Rattle.spec_core.specs.WellSorted.{sorts_of as sorts_of_variables};
 ghost use Rattle.plain_proof.specs.CaseAnswers.{HasSort, IsFirstCovered};
 ghost use Rattle.plain_proof.specs.FirstPlain.{IsFirstPlain};
 

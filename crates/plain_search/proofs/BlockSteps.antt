@@ -1,5 +1,6 @@
 -- The steps of a block by their numbers, with what they make over the nodes so far.
-use Rattle.std.proofs.Common.{◌≡◌, ℕ, zero, suc, ◌+◌, ◌<◌, ◌≤◌, List, [], ◌∷◌, ◌++◌, Some, inl, inr, take, length, append_assoc, refl, ap, sym, ◌∙◌, subst, arith}
+use Rattle.std.proofs.Common.{◌≡◌, ℕ, zero, suc, ◌+◌, ◌<◌, ◌≤◌, List, [], ◌∷◌, ◌++◌, Some, inl, inr, take, length}
+use Rattle.std.proofs.Common.{append_assoc, refl, ap, sym, ◌∙◌, subst, arith}
 use Rattle.std.specs.Prelude.{Contains, flat_map, slice_get}
 use Rattle.std.proofs.lemmas.List.{append-nil, take_all}
 use Rattle.std.proofs.lemmas.Option.{slice_get_within}
@@ -16,18 +17,23 @@ use Rattle.plain_search.specs.Choices.{IsChosen}
 use Rattle.plain_search.specs.Blocks.{IsPlainBlock, IsSplit}
 
 -- one item more of a list
-pub taken_more : {X : Type 0} (xs : List X) (k : ℕ) (x : X) → slice_get xs k ≡ Some x → take (suc k) xs ≡ take k xs ++ x ∷ []
+pub taken_more : {X : Type 0} (xs : List X) (k : ℕ) (x : X) → slice_get xs k ≡ Some x →
+    take (suc k) xs ≡ take k xs ++ x ∷ []
 taken_more [] k x at = absurd (cc)
 taken_more (y ∷ xs) zero x at = let q : Some y ≡ Some x = at in let e : y ≡ x = cc in ap (λ z. z ∷ []) e
 taken_more (y ∷ xs) (suc k) x at = ap (λ ys. y ∷ ys) (taken_more xs k x at)
 
 module _ (above : Tree → Tree → Type 0) (spec : Spec) (usable : ℕ → Type 0) where
   -- each step makes something
-  pub same_count : (nodes : List Clause) (n : ℕ) (steps : List Step) (made : List Children) → StepsMake above spec usable nodes n steps made → length steps ≡ length made
+  pub same_count : (nodes : List Clause) (n : ℕ) (steps : List Step) (made : List Children) →
+      StepsMake above spec usable nodes n steps made → length steps ≡ length made
   same_count nodes n [] [] h = refl
   same_count nodes n [] (m ∷ made) h = absurd h
   same_count nodes n (step ∷ steps) [] h = absurd h
-  same_count nodes n (step ∷ steps) (m ∷ made) h = omega (arith, same_count (nodes ++ clauses_of m) (suc n) steps made h.1)
+  same_count nodes n (step ∷ steps) (m ∷ made) h = omega (
+    arith,
+    same_count (nodes ++ clauses_of m) (suc n) steps made h.1,
+  )
 
   -- the step of a number, over the nodes so far
   pub record Turn (nodes : List Clause) (n : ℕ) (steps : List Step) (made : List Children) (k : ℕ) : Type 0 where
@@ -37,7 +43,8 @@ module _ (above : Tree → Tree → Type 0) (spec : Spec) (usable : ℕ → Type
     pub makes_at : slice_get made k ≡ Some made_by
     pub makes : StepMakes above spec usable (nodes ++ flat_map clauses_of (take k made)) (n + k) step made_by
 
-  pub turn : (nodes : List Clause) (n : ℕ) (steps : List Step) (made : List Children) → StepsMake above spec usable nodes n steps made → (k : ℕ) → k < length steps → Turn nodes n steps made k
+  pub turn : (nodes : List Clause) (n : ℕ) (steps : List Step) (made : List Children) →
+      StepsMake above spec usable nodes n steps made → (k : ℕ) → k < length steps → Turn nodes n steps made k
   turn nodes n [] made h k lt = absurd (omega arith)
   turn nodes n (step ∷ steps) [] h k lt = absurd h
   turn nodes n (step ∷ steps) (m ∷ made) h zero lt = record {
@@ -47,7 +54,8 @@ module _ (above : Tree → Tree → Type 0) (spec : Spec) (usable : ℕ → Type
     makes_at = refl;
     makes =
         let z : n ≡ n + 0 = omega arith in
-        subst (λ ns. StepMakes above spec usable ns (n + 0) step m) (sym (append-nil nodes)) (subst (λ j. StepMakes above spec usable nodes j step m) z h.0);
+        subst (λ ns. StepMakes above spec usable ns (n + 0) step m) (sym (append-nil nodes))
+        (subst (λ j. StepMakes above spec usable nodes j step m) z h.0);
   }
   turn nodes n (step ∷ steps) (m ∷ made) h (suc k) lt =
       let t = turn (nodes ++ clauses_of m) (suc n) steps made h.1 k (omega arith) in
@@ -58,18 +66,26 @@ module _ (above : Tree → Tree → Type 0) (spec : Spec) (usable : ℕ → Type
         makes_at = t.makes_at;
         makes =
             let z : suc n + k ≡ n + suc k = omega arith in
-            subst (λ ns. StepMakes above spec usable ns (n + suc k) t.step t.made_by) (append_assoc nodes (clauses_of m) (flat_map clauses_of (take k made))) (subst (λ j. StepMakes above spec usable ((nodes ++ clauses_of m) ++ flat_map clauses_of (take k made)) j t.step t.made_by) z t.makes);
+            subst (λ ns. StepMakes above spec usable ns (n + suc k) t.step t.made_by)
+            (append_assoc nodes (clauses_of m) (flat_map clauses_of (take k made)))
+            (subst (λ j. StepMakes above spec usable ((nodes ++ clauses_of m)
+            ++ flat_map clauses_of (take k made)) j t.step t.made_by) z t.makes);
       }
 
 -- the nodes after one step more
-nodes_joined : (ms : List Children) (m : Children) → flat_map clauses_of (ms ++ m ∷ []) ≡ flat_map clauses_of ms ++ clauses_of m
+nodes_joined : (ms : List Children) (m : Children) → flat_map clauses_of (ms ++ m ∷ []) ≡ flat_map clauses_of ms
+    ++ clauses_of m
 nodes_joined [] m = append-nil (clauses_of m)
-nodes_joined (x ∷ ms) m = ap (λ ns. clauses_of x ++ ns) (nodes_joined ms m) ∙ sym (append_assoc (clauses_of x) (flat_map clauses_of ms) (clauses_of m))
+nodes_joined (x ∷ ms) m = ap (λ ns. clauses_of x ++ ns) (nodes_joined ms m)
+    ∙ sym (append_assoc (clauses_of x) (flat_map clauses_of ms) (clauses_of m))
 
-pub nodes_more : (start : Clause) (made : List Children) (k : ℕ) (m : Children) → slice_get made k ≡ Some m → nodes_of start (take (suc k) made) ≡ nodes_of start (take k made) ++ clauses_of m
-nodes_more start made k m at = ap (λ ns. start ∷ ns) (ap (λ ms. flat_map clauses_of ms) (taken_more made k m at) ∙ nodes_joined (take k made) m)
+pub nodes_more : (start : Clause) (made : List Children) (k : ℕ) (m : Children) → slice_get made k ≡ Some m →
+    nodes_of start (take (suc k) made) ≡ nodes_of start (take k made) ++ clauses_of m
+nodes_more start made k m at = ap (λ ns. start ∷ ns) (ap (λ ms. flat_map clauses_of ms) (taken_more made k m at)
+    ∙ nodes_joined (take k made) m)
 
-module _ (above : Tree → Tree → Type 0) (spec : Spec) (goal : Goal) (x : ℕ) (steps : List Step) (b : IsPlainBlock above spec goal x steps) where
+module _ (above : Tree → Tree → Type 0) (spec : Spec) (goal : Goal) (x : ℕ) (steps : List Step)
+    (b : IsPlainBlock above spec goal x steps) where
   abbrev pub start : Clause
   start = goal_clause goal
 
@@ -133,7 +149,8 @@ module _ (above : Tree → Tree → Type 0) (spec : Spec) (goal : Goal) (x : ℕ
       subst (λ s. IsSplit spec goal x s) e b.splits
 
   -- each other one is chosen
-  pub later_chosen : (k : ℕ) (step : Step) (c : Clause) → slice_get steps (suc k) ≡ Some step → slice_get (nodes_at (suc k)) (suc k) ≡ Some c → IsChosen above spec (Contains []) start (nodes_at (suc k)) c step
+  pub later_chosen : (k : ℕ) (step : Step) (c : Clause) → slice_get steps (suc k) ≡ Some step →
+      slice_get (nodes_at (suc k)) (suc k) ≡ Some c → IsChosen above spec (Contains []) start (nodes_at (suc k)) c step
   later_chosen k step c at there =
       let q : slice_get b.others k ≡ Some step = ap (λ ss. slice_get ss (suc k)) (sym b.is) ∙ at in
       b.chosen k step c q there

@@ -1,5 +1,6 @@
 -- How a block is built, node by node.
-use Rattle.std.proofs.Common.{◌≡◌, ℕ, ◌+◌, ◌*◌, zero, suc, ◌≤◌, List, [], ◌∷◌, ◌++◌, take, length, Bool, true, Some, None, refl, ap, sym, ◌∙◌, subst, arith, append_assoc, length-append}
+use Rattle.std.proofs.Common.{◌≡◌, ℕ, ◌+◌, ◌*◌, zero, suc, ◌≤◌, List, [], ◌∷◌, ◌++◌, take, length, Bool, true, Some}
+use Rattle.std.proofs.Common.{None, refl, ap, sym, ◌∙◌, subst, arith, append_assoc, length-append}
 use Rattle.std.specs.Prelude.{slice_get, flat_map, Ok}
 use Rattle.std.specs.List.{AllByRecursion}
 use Rattle.std.proofs.lemmas.List.{append-nil}
@@ -17,7 +18,8 @@ use Rattle.acceptance.specs.Blocks.{clauses_of, StepsMake}
 
 -- what a step makes at a clause, whichever goals may be used
 abbrev pub SaysMade : (Tree → Tree → Type 0) → Spec → List Clause → Clause → Step → Children → Type 1
-SaysMade above spec nodes c step made = (usable : ℕ → Type 0) → Says above c nodes (row_of spec usable nodes c step) (Ok made)
+SaysMade above spec nodes c step made = (usable : ℕ → Type 0) →
+    Says above c nodes (row_of spec usable nodes c step) (Ok made)
 
 -- the children are Less, and the references are to the first node, as Same
 pub record IsFine (made : Children) : Type 0 where
@@ -70,19 +72,26 @@ module _ (above : Tree → Tree → Type 0) (spec : Spec) (Chosen : List Clause 
       slice_get (nodes ++ flat_map clauses_of (take i made)) (k + i) ≡ Some c →
       Chosen (nodes ++ flat_map clauses_of (take i made)) c step
 
-  chosen_more : (nodes : List Clause) (k : ℕ) (c : Clause) (step : Step) (steps : List Step) (m : Children) (made : List Children) → slice_get nodes k ≡ Some c → Chosen nodes c step → ChosenFrom (nodes ++ clauses_of m) (suc k) steps made → ChosenFrom nodes k (step ∷ steps) (m ∷ made)
+  chosen_more : (nodes : List Clause) (k : ℕ) (c : Clause) (step : Step) (steps : List Step) (m : Children)
+      (made : List Children) → slice_get nodes k ≡ Some c → Chosen nodes c step →
+      ChosenFrom (nodes ++ clauses_of m) (suc k) steps made → ChosenFrom nodes k (step ∷ steps) (m ∷ made)
   chosen_more nodes k c step steps m made at one rest zero s d get here =
       let q : Some step ≡ Some s = get in
       let same : step ≡ s = cc in
       let z : k + 0 ≡ k = omega arith in
-      let there : slice_get nodes k ≡ Some d = subst (λ j. slice_get nodes j ≡ Some d) z (subst (λ xs. slice_get xs (k + 0) ≡ Some d) (append-nil nodes) here) in
+      let there : slice_get nodes k ≡ Some d = subst (λ j. slice_get nodes j ≡ Some d) z
+      (subst (λ xs. slice_get xs (k + 0) ≡ Some d) (append-nil nodes) here) in
       let p : Some c ≡ Some d = sym at ∙ there in
       let e : c ≡ d = cc in
-      subst (λ xs. Chosen xs d s) (sym (append-nil nodes)) (subst (λ x. Chosen nodes x s) e (subst (λ x. Chosen nodes c x) same one))
+      subst (λ xs. Chosen xs d s) (sym (append-nil nodes))
+      (subst (λ x. Chosen nodes x s) e (subst (λ x. Chosen nodes c x) same one))
   chosen_more nodes k c step steps m made at one rest (suc i) s d get here =
-      let a : (nodes ++ clauses_of m) ++ flat_map clauses_of (take i made) ≡ nodes ++ (clauses_of m ++ flat_map clauses_of (take i made)) = append_assoc nodes (clauses_of m) (flat_map clauses_of (take i made)) in
+      let a : (nodes ++ clauses_of m) ++ flat_map clauses_of (take i made) ≡ nodes
+      ++ (clauses_of m ++ flat_map clauses_of (take i made)) = append_assoc nodes (clauses_of m)
+      (flat_map clauses_of (take i made)) in
       let z : k + suc i ≡ suc k + i = omega arith in
-      let there = subst (λ j. slice_get ((nodes ++ clauses_of m) ++ flat_map clauses_of (take i made)) j ≡ Some d) z (subst (λ xs. slice_get xs (k + suc i) ≡ Some d) (sym a) here) in
+      let there = subst (λ j. slice_get ((nodes ++ clauses_of m) ++ flat_map clauses_of (take i made)) j ≡ Some
+      d) z (subst (λ xs. slice_get xs (k + suc i) ≡ Some d) (sym a) here) in
       subst (λ xs. Chosen xs d s) a (rest i s d get there)
 
   module _ (start : Clause) (Closable : Clause → ℕ → Bool → Type 0) (Cheap : Type 0) (cost : Step → ℕ) (rate : ℕ) where
@@ -116,7 +125,8 @@ module _ (above : Tree → Tree → Type 0) (spec : Spec) (Chosen : List Clause 
       pub count : length steps ≤ total marks
       pub costs : Cheap → total_cost cost steps ≤ rate * total marks
 
-    closable_append : (cs ds : List Clause) (ms ns : List (ℕ × Bool)) → AllClosable Closable cs ms → AllClosable Closable ds ns → AllClosable Closable (cs ++ ds) (ms ++ ns)
+    closable_append : (cs ds : List Clause) (ms ns : List (ℕ × Bool)) → AllClosable Closable cs ms →
+        AllClosable Closable ds ns → AllClosable Closable (cs ++ ds) (ms ++ ns)
     closable_append [] ds [] ns a b = b
     closable_append [] ds (m ∷ ms) ns a b = absurd a
     closable_append (c ∷ cs) ds [] ns a b = absurd a
@@ -142,7 +152,9 @@ module _ (above : Tree → Tree → Type 0) (spec : Spec) (Chosen : List Clause 
       one_more : (done : List Clause) (c : Clause) → length (done ++ c ∷ []) ≡ suc (length done)
       one_more done c = omega (arith, length-append done (c ∷ []))
 
-      pub rest : (fuel : ℕ) (done pending : List Clause) (marks : List (ℕ × Bool)) → total marks ≤ fuel → slice_get (done ++ pending) 0 ≡ Some start → length done + total marks ≤ 10000 → AllClosable Closable pending marks → Rest done pending marks
+      pub rest : (fuel : ℕ) (done pending : List Clause) (marks : List (ℕ × Bool)) → total marks ≤ fuel →
+          slice_get (done ++ pending) 0 ≡ Some start → length done + total marks ≤ 10000 →
+          AllClosable Closable pending marks → Rest done pending marks
       rest fuel done [] [] enough first room closable = record {
         steps = [];
         made = [];
@@ -156,7 +168,8 @@ module _ (above : Tree → Tree → Type 0) (spec : Spec) (Chosen : List Clause 
       }
       rest fuel done [] (m ∷ ms) enough first room closable = absurd closable
       rest fuel done (c ∷ cs) [] enough first room closable = absurd closable
-      rest zero done (c ∷ cs) (m ∷ ms) enough first room closable = absurd (omega (arith, positive c m.0 m.1 closable.0, enough))
+      rest zero done (c ∷ cs) (m ∷ ms) enough first room closable = absurd
+          (omega (arith, positive c m.0 m.1 closable.0, enough))
       rest (suc fuel) done (c ∷ cs) (m ∷ ms) enough first room closable =
           let nodes = done ++ c ∷ cs in
           let n = length-append done (c ∷ cs) in
@@ -166,18 +179,33 @@ module _ (above : Tree → Tree → Type 0) (spec : Spec) (Chosen : List Clause 
           let w = total_append ms s.marks in
           let o = one_more done c in
           let next = next_nodes done cs ds c in
-          let r = rest fuel (done ++ c ∷ []) (cs ++ ds) (ms ++ s.marks) (omega (arith, s.smaller, w, enough)) (subst (λ xs. slice_get xs 0 ≡ Some start) next (first_stays nodes ds start first)) (omega (arith, s.smaller, w, o, room)) (closable_append cs ds ms s.marks closable.1 s.closable) in
+          let r = rest fuel (done ++ c ∷ []) (cs ++ ds) (ms ++ s.marks) (omega (arith, s.smaller, w, enough))
+          (subst (λ xs. slice_get xs 0 ≡ Some start) next (first_stays nodes ds start first))
+          (omega (arith, s.smaller, w, o, room)) (closable_append cs ds ms s.marks closable.1 s.closable) in
           let here = middle_get done cs c in
-          let onward : ChosenFrom (nodes ++ ds) (suc (length done)) r.steps r.made = subst (λ j. ChosenFrom (nodes ++ ds) j r.steps r.made) o (subst (λ xs. ChosenFrom xs (length (done ++ c ∷ [])) r.steps r.made) (sym next) r.chosen) in
+          let onward : ChosenFrom (nodes ++ ds) (suc (length done)) r.steps r.made = subst
+          (λ j. ChosenFrom (nodes ++ ds) j r.steps r.made) o
+          (subst (λ xs. ChosenFrom xs (length (done ++ c ∷ [])) r.steps r.made) (sym next) r.chosen) in
           record {
             steps = s.step ∷ r.steps;
             made = s.made ∷ r.made;
-            makes = λ usable.
-                (record { clause = c; is = here; says = s.says usable }, subst (λ j. StepsMake above spec usable (nodes ++ ds) j r.steps r.made) o (subst (λ xs. StepsMake above spec usable xs (length (done ++ c ∷ [])) r.steps r.made) (sym next) (r.makes usable)));
+            makes = λ usable. (
+              record { clause = c; is = here; says = s.says usable },
+              subst (λ j. StepsMake above spec usable (nodes ++ ds) j r.steps r.made) o
+                  (subst (λ xs. StepsMake above spec usable xs (length (done ++ c ∷ [])) r.steps r.made)
+                  (sym next) (r.makes usable)),
+            );
             chosen = chosen_more nodes (length done) c s.step r.steps s.made r.made here s.chosen onward;
             fine = (s.fine, r.fine);
             marked = (s.marked, marked_front ms s.marks r.made r.marked);
-            finished = omega (arith, r.finished, o, ap (λ (xs : List Clause). length xs) next, length-append nodes ds, length-append ds (flat_map clauses_of r.made));
+            finished = omega (
+              arith,
+              r.finished,
+              o,
+              ap (λ (xs : List Clause). length xs) next,
+              length-append nodes ds,
+              length-append ds (flat_map clauses_of r.made),
+            );
             count = omega (arith, r.count, s.smaller, w);
             costs = λ z. omega (arith, r.costs z, s.cheap z, ap (λ x. rate * x) w);
           }

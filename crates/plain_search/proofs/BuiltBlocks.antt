@@ -1,5 +1,6 @@
 -- What the builder has made of a block: its first steps, with nodes that can be in a block.
-use Rattle.std.proofs.Common.{◌≡◌, ℕ, zero, suc, ◌-◌, ◌<◌, ◌≤◌, List, [], ◌∷◌, ◌++◌, Option, Some, None, length, get_or, ap, sym, ◌∙◌, subst, arith}
+use Rattle.std.proofs.Common.{◌≡◌, ℕ, zero, suc, ◌-◌, ◌<◌, ◌≤◌, List, [], ◌∷◌, ◌++◌, Option, Some, None, length}
+use Rattle.std.proofs.Common.{get_or, ap, sym, ◌∙◌, subst, arith}
 use Rattle.std.specs.Prelude.{IfSome, slice_get}
 use Rattle.std.proofs.lemmas.List.{length-append}
 use Rattle.std.proofs.lemmas.Option.{slice_get-get_or}
@@ -27,7 +28,10 @@ use Rattle.plain_search.proofs.FirstNodes.{first_is_node, first_premises, first_
 use Rattle.plain_search.proofs.Following.{IsPart, whole, splits_here, begun, some_chosen, followed}
 
 -- what the split makes, over nodes that are the goal's alone
-pub made_first : (above : Tree → Tree → Type 0) (spec : Spec) (start : Clause) (nodes : List Clause) → nodes ≡ start ∷ [] → (step : Step) (found answer : Option Children) → found ≡ answer → ((c : Clause) → slice_get nodes 0 ≡ Some c → IsMade above spec nodes c step found) → IsMade above spec (start ∷ []) start step answer
+pub made_first : (above : Tree → Tree → Type 0) (spec : Spec) (start : Clause) (nodes : List Clause) →
+    nodes ≡ start ∷ [] → (step : Step) (found answer : Option Children) → found ≡ answer →
+    ((c : Clause) → slice_get nodes 0 ≡ Some c → IsMade above spec nodes c step found) →
+    IsMade above spec (start ∷ []) start step answer
 made_first above spec start nodes e step found answer is h =
     let f = h start (ap (λ ns. slice_get ns 0) e) in
     subst (λ ns. IsMade above spec ns start step answer) e (subst (λ o. IsMade above spec nodes start step o) is f)
@@ -45,31 +49,41 @@ module _ (above : Tree → Tree → Type 0) (spec : Spec) (goal : Goal) (x : ℕ
   built_few first nodes b = omega (arith, b.few, b.part.some)
 
   -- the first node is that of the goal
-  pub built_start : (first : List Step) (nodes : List Clause) → IsBuilt first nodes → slice_get nodes 0 ≡ Some (goal_clause goal)
+  pub built_start : (first : List Step) (nodes : List Clause) → IsBuilt first nodes →
+      slice_get nodes 0 ≡ Some (goal_clause goal)
   built_start first nodes b = ap (λ ns. slice_get ns 0) b.part.nodes_are
 
   -- if each node has its step the block is made
-  pub built_whole : (first : List Step) (nodes : List Clause) → IsBuilt first nodes → length nodes ≤ length first → IsPlainBlock above spec goal x first
+  pub built_whole : (first : List Step) (nodes : List Clause) → IsBuilt first nodes →
+      length nodes ≤ length first → IsPlainBlock above spec goal x first
   built_whole first nodes b past =
       let e = whole above spec goal x b.steps b.block first nodes b.part past in
       subst (λ ss. IsPlainBlock above spec goal x ss) (sym e) b.block
 
-  module _ (one_choice : OneChoice above) (one_answer : OneAnswer above) (fine : IsWellSorted spec) (node : IsNode spec.sig (goal_clause goal)) (premises : (goal_clause goal).premises ≡ []) where
-    module _ (steps : List Step) (block : IsPlainBlock above spec goal x steps) (few : length steps ≤ 1001) (split : Step) (splits : IsSplit spec goal x split) where
+  module _ (one_choice : OneChoice above) (one_answer : OneAnswer above) (fine : IsWellSorted spec)
+      (node : IsNode spec.sig (goal_clause goal)) (premises : (goal_clause goal).premises ≡ []) where
+    module _ (steps : List Step) (block : IsPlainBlock above spec goal x steps) (few : length steps ≤ 1001)
+        (split : Step) (splits : IsSplit spec goal x split) where
       pub not_split : IsMade above spec (goal_clause goal ∷ []) (goal_clause goal) split None → ⊥
-      not_split never = splits_here above spec goal x steps block one_choice one_answer fine node.is_tidied premises split splits never
+      not_split never = splits_here above spec goal x steps block one_choice one_answer fine node.is_tidied
+          premises split splits never
 
-      pub built_first : (made : Children) → IsMade above spec (goal_clause goal ∷ []) (goal_clause goal) split (Some made) → AreNodes spec.sig (clauses_made made) → IsBuilt (split ∷ []) ((goal_clause goal ∷ []) ++ clauses_of made)
+      pub built_first : (made : Children) →
+          IsMade above spec (goal_clause goal ∷ []) (goal_clause goal) split (Some made) →
+          AreNodes spec.sig (clauses_made made) → IsBuilt (split ∷ []) ((goal_clause goal ∷ []) ++ clauses_of made)
       built_first made says stand = record {
         steps = steps;
         block = block;
         few = few;
-        part = begun above spec goal x steps block one_choice one_answer fine node.is_tidied premises split splits made says;
+        part = begun above spec goal x steps block one_choice one_answer fine node.is_tidied premises split
+            splits made says;
         begun_with = omega arith;
-        nodes_stand = nodes_joined spec.sig (goal_clause goal ∷ []) (clauses_of made) (one_node spec.sig (goal_clause goal) node) stand;
+        nodes_stand = nodes_joined spec.sig (goal_clause goal ∷ []) (clauses_of made)
+            (one_node spec.sig (goal_clause goal) node) stand;
       }
 
-    module _ (first : List Step) (nodes : List Clause) (b : IsBuilt first nodes) (lt : length first < length nodes) where
+    module _ (first : List Step) (nodes : List Clause) (b : IsBuilt first nodes)
+        (lt : length first < length nodes) where
       abbrev here : Clause
       here = get_or nodes (length first) (goal_clause goal)
 
@@ -79,33 +93,46 @@ module _ (above : Tree → Tree → Type 0) (spec : Spec) (goal : Goal) (x : ℕ
       later : length first ≡ suc (length first - 1)
       later = let h = b.begun_with in omega arith
 
-      pub not_chosen : ((start c : Clause) → slice_get nodes 0 ≡ Some start → slice_get nodes (length first) ≡ Some c → IsNext above spec start nodes c None) → ⊥
+      pub not_chosen : ((start c : Clause) → slice_get nodes 0 ≡ Some start →
+          slice_get nodes (length first) ≡ Some c → IsNext above spec start nodes c None) → ⊥
       not_chosen h =
-          some_chosen above spec goal x b.steps b.block one_choice one_answer fine node.is_tidied premises first nodes b.part (length first - 1) later here there (h (goal_clause goal) here (built_start first nodes b) there)
+          some_chosen above spec goal x b.steps b.block one_choice one_answer fine node.is_tidied premises first
+          nodes b.part (length first - 1) later here there
+          (h (goal_clause goal) here (built_start first nodes b) there)
 
-      pub built_next : (taken : Taken) → ((start c : Clause) → slice_get nodes 0 ≡ Some start → slice_get nodes (length first) ≡ Some c → IsNext above spec start nodes c (Some taken)) → AreNodes spec.sig (clauses_made taken.made) → IsBuilt (first ++ taken.step ∷ []) (nodes ++ clauses_of taken.made)
+      pub built_next : (taken : Taken) → ((start c : Clause) → slice_get nodes 0 ≡ Some start →
+          slice_get nodes (length first) ≡ Some c → IsNext above spec start nodes c (Some taken)) →
+          AreNodes spec.sig (clauses_made taken.made) →
+          IsBuilt (first ++ taken.step ∷ []) (nodes ++ clauses_of taken.made)
       built_next taken h stand =
           let n = h (goal_clause goal) here (built_start first nodes b) there in
           record {
             steps = b.steps;
             block = b.block;
             few = b.few;
-            part = followed above spec goal x b.steps b.block one_choice one_answer fine node.is_tidied premises first nodes b.part (length first - 1) later here there taken.step taken.made n.0 n.1;
+            part = followed above spec goal x b.steps b.block one_choice one_answer fine node.is_tidied premises
+                first nodes b.part (length first - 1) later here there taken.step taken.made n.0 n.1;
             begun_with = omega (arith, length-append first (taken.step ∷ []));
             nodes_stand = nodes_joined spec.sig nodes (clauses_of taken.made) b.nodes_stand stand;
           }
 
 -- what is next, over the same nodes and at the same number
 pub next_over :
-    (above : Tree → Tree → Type 0) (spec : Spec) (nodes others : List Clause) → nodes ≡ others → (k j : ℕ) → k ≡ j → (found answer : Option Taken) → found ≡ answer →
-    ((start c : Clause) → slice_get nodes 0 ≡ Some start → slice_get nodes k ≡ Some c → IsNext above spec start nodes c found) →
-    (start c : Clause) → slice_get others 0 ≡ Some start → slice_get others j ≡ Some c → IsNext above spec start others c answer
+    (above : Tree → Tree → Type 0) (spec : Spec) (nodes others : List Clause) → nodes ≡ others → (k j : ℕ) →
+    k ≡ j → (found answer : Option Taken) → found ≡ answer →
+    ((start c : Clause) → slice_get nodes 0 ≡ Some start → slice_get nodes k ≡ Some c →
+    IsNext above spec start nodes c found) →
+    (start c : Clause) → slice_get others 0 ≡ Some start → slice_get others j ≡ Some c →
+    IsNext above spec start others c answer
 next_over above spec nodes others e k j n found answer is h =
-    let P = λ (ns : List Clause) (i : ℕ) (o : Option Taken). (start c : Clause) → slice_get ns 0 ≡ Some start → slice_get ns i ≡ Some c → IsNext above spec start ns c o in
+    let P = λ (ns : List Clause) (i : ℕ) (o : Option Taken). (start c : Clause) → slice_get ns 0 ≡ Some start →
+    slice_get ns i ≡ Some c → IsNext above spec start ns c o in
     subst (λ ns. P ns j answer) e (subst (λ i. P nodes i answer) n (subst (λ o. P nodes k o) is h))
 
 -- a goal with a plain proof on x
-module _ (above : Tree → Tree → Type 0) (law : PlainBlocks above) (one_choice : OneChoice above) (one_answer : OneAnswer above) (laws : TidyingLaws) (spec : Spec) (fine : IsWellSorted spec) (goal : Goal) (sorted : GoalIsSorted spec.sig goal) (x : ℕ) (plain : HasPlain spec goal 1000 x) where
+module _ (above : Tree → Tree → Type 0) (law : PlainBlocks above) (one_choice : OneChoice above)
+    (one_answer : OneAnswer above) (laws : TidyingLaws) (spec : Spec) (fine : IsWellSorted spec) (goal : Goal)
+    (sorted : GoalIsSorted spec.sig goal) (x : ℕ) (plain : HasPlain spec goal 1000 x) where
   node : IsNode spec.sig (goal_clause goal)
   node = first_is_node laws spec fine goal sorted x plain.0 plain.1
 
@@ -121,15 +148,25 @@ module _ (above : Tree → Tree → Type 0) (law : PlainBlocks above) (one_choic
   pub start_stands : (ns : List Clause) → ns ≡ goal_clause goal ∷ [] → AreNodes spec.sig ns
   start_stands ns e = subst (λ ms. AreNodes spec.sig ms) (sym e) (one_node spec.sig (goal_clause goal) node)
 
-  module _ (ns : List Clause) (e : ns ≡ goal_clause goal ∷ []) (split : Step) (splits : IsSplit spec goal x split) (found : Option Children) (answer : (c : Clause) → slice_get ns 0 ≡ Some c → IsMade above spec ns c split found) where
+  module _ (ns : List Clause) (e : ns ≡ goal_clause goal ∷ []) (split : Step)
+      (splits : IsSplit spec goal x split) (found : Option Children) (answer : (c : Clause) →
+      slice_get ns 0 ≡ Some c → IsMade above spec ns c split found) where
     pub split_made : found ≡ None → ⊥
-    split_made is = not_split above spec goal x one_choice one_answer fine node premises the_block.steps the_block.plain few split splits (made_first above spec (goal_clause goal) ns e split found None is answer)
+    split_made is = not_split above spec goal x one_choice one_answer fine node premises the_block.steps
+        the_block.plain few split splits (made_first above spec (goal_clause goal) ns e split found None is answer)
 
-    pub begins : (made : Children) → found ≡ Some made → IfSome found (λ (m : Children). AreNodes spec.sig (clauses_made m)) → (first : List Step) → first ≡ split ∷ [] → (nodes : List Clause) → nodes ≡ ns ++ clauses_made made → IsBuilt above spec goal x first nodes
+    pub begins : (made : Children) → found ≡ Some made →
+        IfSome found (λ (m : Children). AreNodes spec.sig (clauses_made m)) → (first : List Step) →
+        first ≡ split ∷ [] → (nodes : List Clause) → nodes ≡ ns ++ clauses_made made →
+        IsBuilt above spec goal x first nodes
     begins made is stand first s nodes n =
-        let stands : AreNodes spec.sig (clauses_made made) = subst (λ (o : Option Children). IfSome o (λ m. AreNodes spec.sig (clauses_made m))) is stand in
-        let b = built_first above spec goal x one_choice one_answer fine node premises the_block.steps the_block.plain few split splits made (made_first above spec (goal_clause goal) ns e split found (Some made) is answer) stands in
-        subst (λ ss. IsBuilt above spec goal x ss nodes) (sym s) (subst (λ ms. IsBuilt above spec goal x (split ∷ []) ms) (sym (n ∙ ap (λ ms. ms ++ clauses_made made) e)) b)
+        let stands : AreNodes spec.sig (clauses_made made) = subst
+        (λ (o : Option Children). IfSome o (λ m. AreNodes spec.sig (clauses_made m))) is stand in
+        let b = built_first above spec goal x one_choice one_answer fine node premises the_block.steps
+        the_block.plain few split splits made (made_first above spec (goal_clause goal) ns e split found
+        (Some made) is answer) stands in
+        subst (λ ss. IsBuilt above spec goal x ss nodes) (sym s)
+        (subst (λ ms. IsBuilt above spec goal x (split ∷ []) ms) (sym (n ∙ ap (λ ms. ms ++ clauses_made made) e)) b)
 
   module _ (first : List Step) (nodes : List Clause) (b : IsBuilt above spec goal x first nodes) where
     pub starts : (start : Clause) → slice_get nodes 0 ≡ Some start → IsStart start
@@ -138,12 +175,21 @@ module _ (above : Tree → Tree → Type 0) (law : PlainBlocks above) (one_choic
         let same : goal_clause goal ≡ start = cc in
         subst (λ d. IsStart d) same (first_is_start laws spec fine goal sorted x plain.0 plain.1)
 
-    module _ (lt : length first < length nodes) (ns : List Clause) (e : ns ≡ nodes) (k : ℕ) (n : k ≡ length first) (found : Option Taken) (answer : (start c : Clause) → slice_get ns 0 ≡ Some start → slice_get ns k ≡ Some c → IsNext above spec start ns c found) where
+    module _ (lt : length first < length nodes) (ns : List Clause) (e : ns ≡ nodes) (k : ℕ)
+        (n : k ≡ length first) (found : Option Taken) (answer : (start c : Clause) →
+        slice_get ns 0 ≡ Some start → slice_get ns k ≡ Some c → IsNext above spec start ns c found) where
       pub some_next : found ≡ None → ⊥
-      some_next is = not_chosen above spec goal x one_choice one_answer fine node premises first nodes b lt (next_over above spec ns nodes e k (length first) n found None is answer)
+      some_next is = not_chosen above spec goal x one_choice one_answer fine node premises first nodes b lt
+          (next_over above spec ns nodes e k (length first) n found None is answer)
 
-      pub goes_further : (taken : Taken) → found ≡ Some taken → IfSome found (λ (t : Taken). AreNodes spec.sig (clauses_made t.made)) → (ss : List Step) → ss ≡ first ++ taken.step ∷ [] → (ms : List Clause) → ms ≡ nodes ++ clauses_made taken.made → IsBuilt above spec goal x ss ms
+      pub goes_further : (taken : Taken) → found ≡ Some taken →
+          IfSome found (λ (t : Taken). AreNodes spec.sig (clauses_made t.made)) → (ss : List Step) →
+          ss ≡ first ++ taken.step ∷ [] → (ms : List Clause) → ms ≡ nodes ++ clauses_made taken.made →
+          IsBuilt above spec goal x ss ms
       goes_further taken is stand ss s ms m =
-          let stands : AreNodes spec.sig (clauses_made taken.made) = subst (λ (o : Option Taken). IfSome o (λ t. AreNodes spec.sig (clauses_made t.made))) is stand in
-          let r = built_next above spec goal x one_choice one_answer fine node premises first nodes b lt taken (next_over above spec ns nodes e k (length first) n found (Some taken) is answer) stands in
-          subst (λ z. IsBuilt above spec goal x z ms) (sym s) (subst (λ z. IsBuilt above spec goal x (first ++ taken.step ∷ []) z) (sym m) r)
+          let stands : AreNodes spec.sig (clauses_made taken.made) = subst
+          (λ (o : Option Taken). IfSome o (λ t. AreNodes spec.sig (clauses_made t.made))) is stand in
+          let r = built_next above spec goal x one_choice one_answer fine node premises first nodes b lt taken
+          (next_over above spec ns nodes e k (length first) n found (Some taken) is answer) stands in
+          subst (λ z. IsBuilt above spec goal x z ms) (sym s)
+          (subst (λ z. IsBuilt above spec goal x (first ++ taken.step ∷ []) z) (sym m) r)

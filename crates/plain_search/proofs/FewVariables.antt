@@ -1,5 +1,6 @@
 -- Numbers below a number, each once, are no more than that.
-use Rattle.std.proofs.Common.{◌≡◌, ◌≢◌, ℕ, ◌<◌, ◌≤◌, ◌||◌, List, [], ◌∷◌, true, false, inl, inr, length, ap, sym, ◌∙◌, arith}
+use Rattle.std.proofs.Common.{◌≡◌, ◌≢◌, ℕ, ◌<◌, ◌≤◌, ◌||◌, List, [], ◌∷◌, true, false, inl, inr, length, ap, sym, ◌∙◌}
+use Rattle.std.proofs.Common.{arith}
 use Rattle.std.specs.List.{AllByRecursion, IsDistinct, list_any}
 use Rattle.std.proofs.Math.Dec.{eqb}
 use Rattle.std.proofs.lemmas.Bool.Decides.{eqb_tells}
@@ -10,7 +11,11 @@ use Rattle.plain_search.proofs.Variables.{AreApart, firsts_apart}
 
 others_differ : (n : ℕ) (ns : List ℕ) → AllByRecursion (λ m. m ≢ n) ns → AllByRecursion (λ m. eqb n m ≡ false) ns
 others_differ n [] h = tt
-others_differ n (m ∷ ns) h = (elim (eqb_tells n m) as (λ _. eqb n m ≡ false) [ inl y ↦ absurd (h.0 (sym y.1)) | inr z ↦ z.0 ], others_differ n ns h.1)
+others_differ n (m ∷ ns)
+    h = (
+      elim (eqb_tells n m) as (λ _. eqb n m ≡ false) [ inl y ↦ absurd (h.0 (sym y.1)) | inr z ↦ z.0 ],
+      others_differ n ns h.1,
+    )
 
 distinct : (ns : List ℕ) → AreApart ns → IsDistinct eqb ns
 unfolding IsDistinct
@@ -25,4 +30,5 @@ found_below k (n ∷ ns) h q e = elim (eqb_tells q n) as (λ _. q < k) [
 ]
 
 pub firsts_below : (k : ℕ) (ns : List ℕ) → AllByRecursion (λ n. n < k) ns → length (firsts ns) ≤ k
-firsts_below k ns h = length-le_from_distinct_below (firsts ns) k (distinct (firsts ns) (firsts_apart ns)) (found_below k (firsts ns) (firsts_all (λ n. n < k) ns h))
+firsts_below k ns h = length-le_from_distinct_below (firsts ns) k (distinct (firsts ns) (firsts_apart ns))
+    (found_below k (firsts ns) (firsts_all (λ n. n < k) ns h))

@@ -15,19 +15,34 @@ use Rattle.descent.specs.SortedChildren.{IsNode}
 use Rattle.plain_proof.specs.PlainProofs.{IsPlain}
 use Rattle.plain_search.specs.Candidates.{IsStart}
 
-sorts_all : (sig : Sig) (vars : List VarInfo) → AllByRecursion (λ (v : VarInfo). IsSort sig v.sort) vars → AllByRecursion (IsSort sig) (sorts_of vars)
+sorts_all : (sig : Sig) (vars : List VarInfo) → AllByRecursion (λ (v : VarInfo). IsSort sig v.sort) vars →
+    AllByRecursion (IsSort sig) (sorts_of vars)
 sorts_all sig [] h = tt
 sorts_all sig (v ∷ vars) h = (h.0, sorts_all sig vars h.1)
 
 written_sorted : (sig : Sig) (goal : Goal) → GoalIsSorted sig goal → ClauseIsSorted sig (written_clause goal)
-written_sorted sig goal h = record { variables = sorts_all sig goal.vars h.variables; premises = h.premises; conclusions = h.conclusions }
+written_sorted sig goal h = record {
+  variables = sorts_all sig goal.vars h.variables;
+  premises = h.premises;
+  conclusions = h.conclusions;
+}
 
-module _ (laws : TidyingLaws) (spec : Spec) (fine : IsWellSorted spec) (goal : Goal) (sorted : GoalIsSorted spec.sig goal) (x long : ℕ) (p : IsPlain spec goal x long) where
+module _ (laws : TidyingLaws) (spec : Spec) (fine : IsWellSorted spec) (goal : Goal)
+    (sorted : GoalIsSorted spec.sig goal) (x long : ℕ) (p : IsPlain spec goal x long) where
   written_within : IsWithin (written_clause goal)
   written_within =
       let e = p.equation in
-      let w : IsWithin (record { ctx = sorts_of goal.vars; premises = []; conclusions = e ∷ [] }) = record { equations = p.within.equations; depth = p.within.depth; size = p.within.size } in
-      subst (λ (c : Clause). IsWithin c) (λ i. record { ctx = sorts_of goal.vars; premises = sym p.no_premises i; conclusions = sym p.conclusion i }) w
+      let w : IsWithin (record {
+        ctx = sorts_of goal.vars;
+        premises = [];
+        conclusions = e ∷ [];
+      }) = record {
+        equations = p.within.equations;
+        depth = p.within.depth;
+        size = p.within.size;
+      } in
+      subst (λ (c : Clause). IsWithin c)
+      (λ i. record { ctx = sorts_of goal.vars; premises = sym p.no_premises i; conclusions = sym p.conclusion i }) w
 
   pub first_is_node : IsNode spec.sig (goal_clause goal)
   first_is_node = record {

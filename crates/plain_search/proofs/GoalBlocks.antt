@@ -1,5 +1,6 @@
 -- The block of a goal with a plain proof.
-use Rattle.std.proofs.Common.{◌≡◌, ℕ, ◌+◌, ◌*◌, ◌^◌, suc, ◌<◌, ◌≤◌, ◌⊎◌, inl, inr, List, [], ◌∷◌, ◌++◌, take, length, map, Bool, true, Some, refl, ap, sym, ◌∙◌, subst, arith, length-append}
+use Rattle.std.proofs.Common.{◌≡◌, ℕ, ◌+◌, ◌*◌, ◌^◌, suc, ◌<◌, ◌≤◌, ◌⊎◌, inl, inr, List, [], ◌∷◌, ◌++◌, take, length}
+use Rattle.std.proofs.Common.{map, Bool, true, Some, refl, ap, sym, ◌∙◌, subst, arith, length-append}
 use Rattle.std.specs.Prelude.{slice_get, slice_index_or, flat_map, Contains, Ok}
 use Rattle.std.specs.List.{AllByRecursion}
 use Rattle.std.proofs.lemmas.List.{length-map}
@@ -59,11 +60,15 @@ same_relations : (ds : List Clause) → AllByRecursion (λ (x : Child). x.relati
 same_relations [] = tt
 same_relations (d ∷ ds) = (refl, same_relations ds)
 
-module _ (spec : Spec) (fine : IsWellSorted spec) (ctx : List SortId) (e : Equation) (sort : SortId) (left : Sorted spec.sig ctx e.left sort) (right : Sorted spec.sig ctx e.right sort) (x : ℕ) (s : SortId) where
-  narrow_in : (t : Tree) → Sorted spec.sig ctx t sort → (c : ℕ × List SortId) → IsOneOf spec.sig s c → IsNarrow (in_case ctx x c t)
-  narrow_in t sorted c is = subst (λ (k : ℕ × List SortId). IsNarrow (in_case ctx x k t)) (λ i. (c.0, is.args i)) (case_narrow spec fine ctx x c.0 is.info is.at t sort sorted)
+module _ (spec : Spec) (fine : IsWellSorted spec) (ctx : List SortId) (e : Equation) (sort : SortId)
+    (left : Sorted spec.sig ctx e.left sort) (right : Sorted spec.sig ctx e.right sort) (x : ℕ) (s : SortId) where
+  narrow_in : (t : Tree) → Sorted spec.sig ctx t sort → (c : ℕ × List SortId) → IsOneOf spec.sig s c →
+      IsNarrow (in_case ctx x c t)
+  narrow_in t sorted c is = subst (λ (k : ℕ × List SortId). IsNarrow (in_case ctx x k t))
+      (λ i. (c.0, is.args i)) (case_narrow spec fine ctx x c.0 is.info is.at t sort sorted)
 
-  case_pending : (c : ℕ × List SortId) (n : ℕ) → IsOneOf spec.sig s c → CaseCloses spec ctx e x c n → Pending spec ctx e (case_clause ctx e x c) n true
+  case_pending : (c : ℕ × List SortId) (n : ℕ) → IsOneOf spec.sig s c → CaseCloses spec ctx e x c n →
+      Pending spec ctx e (case_clause ctx e x c) n true
   case_pending c n is h = record {
     over = case_ctx ctx c;
     a = in_case ctx x c e.left;
@@ -95,7 +100,8 @@ module _ (spec : Spec) (fine : IsWellSorted spec) (ctx : List SortId) (e : Equat
     sum : total marks ≡ n
     few : 2 * length cs ≤ n
 
-  cases_pending : (cs : List (ℕ × List SortId)) (n : ℕ) → AllByRecursion (IsOneOf spec.sig s) cs → CasesClose spec ctx e x cs n → CasesPending cs n
+  cases_pending : (cs : List (ℕ × List SortId)) (n : ℕ) → AllByRecursion (IsOneOf spec.sig s) cs →
+      CasesClose spec ctx e x cs n → CasesPending cs n
   cases_pending [] n is h = record { marks = []; closable = tt; marked = tt; sum = sym h; few = omega (arith, h) }
   cases_pending (c ∷ cs) n is h =
       let r = cases_pending cs h.1 is.1 h.3 in
@@ -118,45 +124,81 @@ record BlockOf (above : Tree → Tree → Type 0) (spec : Spec) (long : ℕ) (c 
   count : length others ≤ long
   costs : IsCheap spec → total_cost (bytes spec.sig) others ≤ 213 * long
 
-module _ (tidies : (c : Clause) → IsTidied (tidied c)) (above : Tree → Tree → Type 0) (spec : Spec) (fine : IsWellSorted spec) (ctx : List SortId) (e : Equation) (ranges : (n : ℕ) → Occurs n e.left ⊎ Occurs n e.right → n < length ctx) where
+module _ (tidies : (c : Clause) → IsTidied (tidied c)) (above : Tree → Tree → Type 0) (spec : Spec)
+    (fine : IsWellSorted spec) (ctx : List SortId) (e : Equation) (ranges : (n : ℕ) →
+    Occurs n e.left ⊎ Occurs n e.right → n < length ctx) where
   abbrev first_node : Clause
   first_node = start tidies above spec fine ctx e ranges
 
-  block : (cases : List Clause) (marks : List (ℕ × Bool)) (long : ℕ) (split : Step) → AllClosable (Pending spec ctx e) cases marks → AllByRecursion (λ (m : ℕ × Bool). m.1 ≡ true) marks → total marks ≡ long → long < 10000 →
-      ((usable : ℕ → Type 0) → Says above first_node (first_node ∷ []) (row_of spec usable (first_node ∷ []) first_node split) (Ok (same_children cases))) → BlockOf above spec long first_node split
+  block : (cases : List Clause) (marks : List (ℕ × Bool)) (long : ℕ) (split : Step) →
+      AllClosable (Pending spec ctx e) cases marks → AllByRecursion (λ (m : ℕ × Bool). m.1 ≡ true) marks →
+      total marks ≡ long → long < 10000 →
+      ((usable : ℕ → Type 0) →
+      Says above first_node (first_node ∷ []) (row_of spec usable (first_node ∷ []) first_node split)
+      (Ok (same_children cases))) → BlockOf above spec long first_node split
   block cases marks long split closable marked sum short says =
       let first = same_children cases in
       let chosen = Chosen tidies above spec fine ctx e ranges in
-      let r = rest above spec chosen first_node (Pending spec ctx e) (IsCheap spec) (bytes spec.sig) 213 (pending_positive spec ctx e) (has_steps tidies above spec fine ctx e ranges) (total marks) (first_node ∷ []) cases marks (omega arith) refl (omega (arith, sum, short)) closable in
+      let r = rest above spec chosen first_node (Pending spec ctx e) (IsCheap spec) (bytes spec.sig) 213
+      (pending_positive spec ctx e) (has_steps tidies above spec fine ctx e ranges) (total marks)
+      (first_node ∷ []) cases marks (omega arith) refl (omega (arith, sum, short)) closable in
       let same = same_clauses cases in
-      let many = aligned above spec chosen first_node (Pending spec ctx e) (IsCheap spec) (bytes spec.sig) 213 cases marks closable in
+      let many = aligned above spec chosen first_node (Pending spec ctx e) (IsCheap spec) (bytes spec.sig) 213
+      cases marks closable in
       record {
         others = r.steps;
         made = first ∷ r.made;
-        makes = λ usable. (record { clause = first_node; is = refl; says = says usable }, subst (λ (ds : List Clause). StepsMake above spec usable (first_node ∷ ds) 1 r.steps r.made) (sym same) (r.makes usable));
-        finished = omega (arith, r.finished, length-append (clauses_of first) (flat_map clauses_of r.made), ap (λ (ds : List Clause). length ds) same);
+        makes = λ usable. (
+          record { clause = first_node; is = refl; says = says usable },
+          subst (λ (ds : List Clause). StepsMake above spec usable (first_node ∷ ds) 1 r.steps r.made)
+              (sym same) (r.makes usable),
+        );
+        finished = omega (
+          arith,
+          r.finished,
+          length-append (clauses_of first) (flat_map clauses_of r.made),
+          ap (λ (ds : List Clause). length ds) same,
+        );
         chosen = λ k step d get here.
             let nodes = λ (ds : List Clause). first_node ∷ (ds ++ flat_map clauses_of (take k r.made)) in
             let z : suc k ≡ 1 + k = omega arith in
-            let there = subst (λ j. slice_get (nodes cases) j ≡ Some d) z (subst (λ (ds : List Clause). slice_get (nodes ds) (suc k) ≡ Some d) same here) in
-            subst (λ (ds : List Clause). IsChosen above spec (Contains []) first_node (nodes ds) d step) (sym same) (r.chosen k step d get there);
-        allowed = all_allowed first marks r.made refl (same_relations cases) (length-map cases (λ (d : Clause). record { clause = d; relation = Same }) ∙ many) marked r.fine r.marked;
+            let there = subst (λ j. slice_get (nodes cases) j ≡ Some d) z
+            (subst (λ (ds : List Clause). slice_get (nodes ds) (suc k) ≡ Some d) same here) in
+            subst (λ (ds : List Clause). IsChosen above spec (Contains []) first_node (nodes ds) d step)
+            (sym same) (r.chosen k step d get there);
+        allowed = all_allowed first marks r.made refl (same_relations cases)
+            (length-map cases (λ (d : Clause). record { clause = d; relation = Same }) ∙ many) marked r.fine r.marked;
         count = omega (arith, r.count, sum);
         costs = λ z. omega (arith, r.costs z, ap (λ n. 213 * n) sum);
       }
 
-few_arguments : (spec : Spec) → IsWellSorted spec → (s : SortId) (cs : List (ℕ × List SortId)) → AllByRecursion (IsOneOf spec.sig s) cs → AllByRecursion (λ (c : ℕ × List SortId). length c.1 ≤ 8) cs
+few_arguments : (spec : Spec) → IsWellSorted spec → (s : SortId) (cs : List (ℕ × List SortId)) →
+    AllByRecursion (IsOneOf spec.sig s) cs → AllByRecursion (λ (c : ℕ × List SortId). length c.1 ≤ 8) cs
 few_arguments spec fine s [] h = tt
-few_arguments spec fine s (c ∷ cs) h = (omega (arith, fine.arities c.0 h.0.info h.0.at, ap (λ (ss : List SortId). length ss) h.0.args), few_arguments spec fine s cs h.1)
+few_arguments spec fine s (c ∷ cs) h = (
+  omega (
+    arith,
+    fine.arities c.0 h.0.info h.0.at,
+    ap (λ (ss : List SortId). length ss) h.0.args,
+  ),
+  few_arguments spec fine s cs h.1,
+)
 
-pub plain_blocks : ((c : Clause) → IsTidied (tidied c)) → (above : Tree → Tree → Type 0) → FirstSteps above → PlainBlocks above
+pub plain_blocks : ((c : Clause) → IsTidied (tidied c)) → (above : Tree → Tree → Type 0) → FirstSteps above →
+    PlainBlocks above
 plain_blocks tidies above firsts spec goal x long fine sorted p short =
     let ctx = sorts_of goal.vars in
     let e = p.equation in
     let one_sort = sorted.conclusions 0 e (ap (λ (es : List Equation). slice_get es 0) p.conclusion) in
-    let ranges = λ (n : ℕ) (o : Occurs n e.left ⊎ Occurs n e.right). (elim o as (λ _. n < length ctx) [ inl q ↦ occurs_within spec.sig ctx e.left one_sort.0 one_sort.1 n q | inr q ↦ occurs_within spec.sig ctx e.right one_sort.0 one_sort.2 n q ]) in
-    let written : equation_clause ctx e.left e.right ≡ written_clause goal = λ i. record { ctx = ctx; premises = sym p.no_premises i; conclusions = sym p.conclusion i } in
-    let node : goal_clause goal ≡ start tidies above spec fine ctx e ranges = ap (λ c. tidied c) (sym written) ∙ node_is ctx e.left e.right in
+    let ranges = λ (n : ℕ) (o : Occurs n e.left ⊎ Occurs n e.right).
+    (elim o as (λ _. n < length ctx) [
+      | inl q ↦ occurs_within spec.sig ctx e.left one_sort.0 one_sort.1 n q
+      | inr q ↦ occurs_within spec.sig ctx e.right one_sort.0 one_sort.2 n q
+    ]) in
+    let written : equation_clause ctx e.left e.right ≡ written_clause goal = λ i.
+    record { ctx = ctx; premises = sym p.no_premises i; conclusions = sym p.conclusion i } in
+    let node : goal_clause goal ≡ start tidies above spec fine ctx e ranges = ap (λ c. tidied c) (sym written)
+    ∙ node_is ctx e.left e.right in
     let cs = constructors_of spec.sig p.sort in
     let of_sort = each_of_sort spec.sig p.sort in
     let first = firsts spec goal x long sorted p short in
@@ -165,10 +207,14 @@ plain_blocks tidies above firsts spec goal x long fine sorted p short =
     let patterns = test_set_of spec.sig p.sort in
     let split = Cover variable patterns in
     let made = map (case_clause ctx e x) cs in
-    let says = subst (λ c. Says above c (c ∷ []) (cover_row spec c first.variable patterns) (Ok (same_children made))) node first.says in
-    let built = block tidies above spec fine ctx e ranges made cases.marks long split cases.closable cases.marked cases.sum short (λ usable. says) in
-    let b : BlockOf above spec long (goal_clause goal) split = subst (λ c. BlockOf above spec long c split) (sym node) built in
-    let within : IsWithin (goal_clause goal) = subst (λ c. IsWithin (tidied c)) written (within_node ctx e.left e.right p.within) in
+    let says = subst (λ c. Says above c (c ∷ []) (cover_row spec c first.variable patterns)
+    (Ok (same_children made))) node first.says in
+    let built = block tidies above spec fine ctx e ranges made cases.marks long split cases.closable
+    cases.marked cases.sum short (λ usable. says) in
+    let b : BlockOf above spec long (goal_clause goal) split = subst (λ c. BlockOf above spec long c split)
+    (sym node) built in
+    let within : IsWithin (goal_clause goal) = subst (λ c. IsWithin (tidied c)) written
+    (within_node ctx e.left e.right p.within) in
     record {
       steps = split ∷ b.others;
       plain = record {
@@ -191,6 +237,21 @@ plain_blocks tidies above firsts spec goal x long fine sorted p short =
       few = omega (arith, b.count);
       short = λ small name names rules.
           let many : length (split ∷ b.others) < 10 ^ 4 = omega (arith, b.count, small) in
-          let small_variable : first.variable < 10 ^ 4 = omega (arith, slice_get_within (variables_of (written_clause goal)) first.variable x first.is, length-map (variables_of (written_clause goal)) (λ n. slice_index_or ctx n bool_sort), numbered_all_few 0 (length (goal_clause goal).ctx) (trees_of (sides (goal_clause goal))) (tidies (written_clause goal)), within.size) in
-          omega (arith, claim_parts spec.sig goal.name split b.others, head_short spec.sig goal.name (split ∷ b.others) name many, cover_short spec.sig names variable cs small_variable (few_arguments spec fine p.sort cs of_sort), b.costs (names, rules), cases.few, small);
+          let small_variable : first.variable < 10 ^ 4 = omega (
+            arith,
+            slice_get_within (variables_of (written_clause goal)) first.variable x first.is,
+            length-map (variables_of (written_clause goal)) (λ n. slice_index_or ctx n bool_sort),
+            numbered_all_few 0 (length (goal_clause goal).ctx) (trees_of (sides (goal_clause goal)))
+                (tidies (written_clause goal)),
+            within.size,
+          ) in
+          omega (
+            arith,
+            claim_parts spec.sig goal.name split b.others,
+            head_short spec.sig goal.name (split ∷ b.others) name many,
+            cover_short spec.sig names variable cs small_variable (few_arguments spec fine p.sort cs of_sort),
+            b.costs (names, rules),
+            cases.few,
+            small,
+          );
     }

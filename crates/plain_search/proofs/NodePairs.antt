@@ -61,7 +61,8 @@ module _ (over : List SortId) (a b : Tree) where
   back m = slice_index_or olds m 0
 
   pub back_number : (n : ℕ) → Met olds n → back (number n) ≡ n
-  back_number n h = get_or_from_slice_get olds (number n) n 0 (subst (λ (ns : List ℕ). slice_get ns (number n) ≡ Some n) (map-id olds) (at_place (λ i. i) olds n h))
+  back_number n h = get_or_from_slice_get olds (number n) n 0
+      (subst (λ (ns : List ℕ). slice_get ns (number n) ≡ Some n) (map-id olds) (at_place (λ i. i) olds n h))
 
   one_number : (m n : ℕ) → Met olds m → Met olds n → number m ≡ number n → m ≡ n
   one_number m n p q e = sym (back_number m p) ∙ ap back e ∙ back_number n q
@@ -72,13 +73,17 @@ module _ (over : List SortId) (a b : Tree) where
 
   -- the sort of a variable in the node
   pub sort_here : (n : ℕ) (s : SortId) → Met olds n → slice_get over n ≡ Some s → slice_get node_ctx (number n) ≡ Some s
-  sort_here n s h at = at_place (λ i. slice_index_or over i bool_sort) olds n h ∙ ap (λ (q : SortId). Some q) (sort_at over n s at)
+  sort_here n s h at = at_place (λ i. slice_index_or over i bool_sort) olds n h
+      ∙ ap (λ (q : SortId). Some q) (sort_at over n s at)
 
   -- terms of the pair's variables make one clause in the node and in the pair
-  pub again : (x y : Tree) → ((n : ℕ) → Occurs n x ⊎ Occurs n y → IsHere n) → tidied (equation_clause node_ctx (in_node x) (in_node y)) ≡ tidied (equation_clause over x y)
+  pub again : (x y : Tree) → ((n : ℕ) → Occurs n x ⊎ Occurs n y → IsHere n) →
+      tidied (equation_clause node_ctx (in_node x) (in_node y)) ≡ tidied (equation_clause over x y)
   again x y h =
       let each = all_any_occurring (Met olds) (some x (some y none)) (λ n o. here_met n (h n (either n o))) in
-      renamed_tidied number (Met olds) one_number over node_ctx x y each (λ n m. get_or_from_slice_get node_ctx (number n) (slice_index_or over n bool_sort) bool_sort (at_place (λ i. slice_index_or over i bool_sort) olds n m))
+      renamed_tidied number (Met olds) one_number over node_ctx x y each
+      (λ n m. get_or_from_slice_get node_ctx (number n) (slice_index_or over n bool_sort) bool_sort
+      (at_place (λ i. slice_index_or over i bool_sort) olds n m))
     where
       either : (n : ℕ) → OccursAny n (some x (some y none)) → Occurs n x ⊎ Occurs n y
       either n (inl o) = inl o

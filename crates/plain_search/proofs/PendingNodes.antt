@@ -43,11 +43,15 @@ module _ (spec : Spec) (gctx : List SortId) (e : Equation) where
   pending_positive c m mark p = omega (arith, p.number, size_positive p.left)
 
 pub within_node : (over : List SortId) (a b : Tree) → AreWithin a b → IsWithin (tidied (equation_clause over a b))
-within_node over a b w = (tidied_within (equation_clause over a b)).1 (record { equations = w.equations; depth = w.depth; size = w.size })
+within_node over a b w = (tidied_within (equation_clause over a b)).1
+    (record { equations = w.equations; depth = w.depth; size = w.size })
 
 -- parts of a clause within the limits
-pub pair_within : (f g : ℕ) (t u : Tree) (ts us : Trees) → AreWithin (app f (some t ts)) (app g (some u us)) → AreWithin t u × AreWithin (app f ts) (app g us)
+pub pair_within : (f g : ℕ) (t u : Tree) (ts us : Trees) → AreWithin (app f (some t ts)) (app g (some u us)) →
+    AreWithin t u × AreWithin (app f ts) (app g us)
 pair_within f g t u ts us w =
     let d = w.depth in
-    let s = w.size in
-    (record { equations = omega arith; depth = omega arith; size = omega arith }, record { equations = omega arith; depth = omega arith; size = omega arith })
+    let s = w.size in (
+      record { equations = omega arith; depth = omega arith; size = omega arith },
+      record { equations = omega arith; depth = omega arith; size = omega arith },
+    )

@@ -29,18 +29,22 @@ use Rattle.plain_search.proofs.UseSteps.{clause_of}
 abbrev pub to_first : Children
 to_first = record { clauses = []; refs = record { node = 0; relation = Same } ∷ [] }
 
-module _ (above : Tree → Tree → Type 0) (spec : Spec) (usable : ℕ → Type 0) (nodes : List Clause) (sctx : List SortId) (first : Equation) (there : slice_get nodes 0 ≡ Some (clause_of sctx first)) (ctx : List SortId) (e : Equation) where
+module _ (above : Tree → Tree → Type 0) (spec : Spec) (usable : ℕ → Type 0) (nodes : List Clause)
+    (sctx : List SortId) (first : Equation) (there : slice_get nodes 0 ≡ Some (clause_of sctx first))
+    (ctx : List SortId) (e : Equation) where
   abbrev start : Clause
   start = clause_of sctx first
 
   abbrev c : Clause
   c = clause_of ctx e
 
-  instance_is : (terms : List Tree) (d : Equation) → with_terms terms (first ∷ []) ≡ d ∷ [] → instance_here spec c start terms ≡ clause_of ctx d
+  instance_is : (terms : List Tree) (d : Equation) → with_terms terms (first ∷ []) ≡ d ∷ [] →
+      instance_here spec c start terms ≡ clause_of ctx d
   instance_is terms d is = λ i. record { ctx = ctx; premises = []; conclusions = is i }
 
   by_instance :
-      (terms : List Tree) (d : Equation) → length nodes ≤ 10000 → with_terms terms (first ∷ []) ≡ d ∷ [] → AreTermsFor spec c start terms →
+      (terms : List Tree) (d : Equation) → length nodes ≤ 10000 → with_terms terms (first ∷ []) ≡ d ∷ [] →
+      AreTermsFor spec c start terms →
       IsWithin (clause_of ctx d) → Among d (e ∷ []) → IsPermutation (sides c) (sides (clause_of ctx d)) →
       Says above c nodes (row_of spec usable nodes c (Subsume 0 terms)) (Ok to_first)
   by_instance terms d few is sorted within among permutes =
@@ -49,24 +53,41 @@ module _ (above : Tree → Tree → Type 0) (spec : Spec) (usable : ℕ → Type
       let fits = subst (λ x. IsWithin x) inst within in
       let subsumes = subst (λ x. Subsumes c x) inst (tt, (among, tt)) in
       let same = subst (λ x. IsPermutation (sides c) (sides x)) inst permutes in
-      inl (node, inl (sorted, inl (fits, inl (subsumes, (to_first, tt, ((refl, same), tt), inl ((tt, omega (arith, few)), refl))))))
+      inl (
+        node,
+        inl (
+          sorted,
+          inl (fits, inl (subsumes, (to_first, tt, ((refl, same), tt), inl ((tt, omega (arith, few)), refl)))),
+        ),
+      )
 
   -- as written
   pub reference_says :
-      (terms : List Tree) → length nodes ≤ 10000 → with_terms terms (first ∷ []) ≡ e ∷ [] → AreTermsFor spec c start terms → IsWithin c →
+      (terms : List Tree) → length nodes ≤ 10000 → with_terms terms (first ∷ []) ≡ e ∷ [] →
+      AreTermsFor spec c start terms → IsWithin c →
       Says above c nodes (row_of spec usable nodes c (Subsume 0 terms)) (Ok to_first)
-  reference_says terms few is sorted within = by_instance terms e few is sorted within (inl (inl refl)) (IsPermutation-refl (sides c))
+  reference_says terms few is sorted within = by_instance terms e few is sorted within (inl (inl refl))
+      (IsPermutation-refl (sides c))
 
   -- with the sides swapped
   pub swapped_says :
-      (terms : List Tree) → length nodes ≤ 10000 → with_terms terms (first ∷ []) ≡ swapped e ∷ [] → AreTermsFor spec c start terms → IsWithin c →
+      (terms : List Tree) → length nodes ≤ 10000 → with_terms terms (first ∷ []) ≡ swapped e ∷ [] →
+      AreTermsFor spec c start terms → IsWithin c →
       Says above c nodes (row_of spec usable nodes c (Subsume 0 terms)) (Ok to_first)
   swapped_says terms few is sorted within =
-      let w : IsWithin (clause_of ctx (swapped e)) = record { equations = within.equations; depth = omega (arith, within.depth); size = omega (arith, within.size) } in
-      by_instance terms (swapped e) few is sorted w (inl (inr refl)) (IsPermutation-append_comm (e.left ∷ []) (e.right ∷ []))
+      let w : IsWithin (clause_of ctx (swapped e)) = record {
+        equations = within.equations;
+        depth = omega
+            (arith, within.depth);
+        size = omega (arith, within.size);
+      } in
+      by_instance terms (swapped e) few is sorted w (inl (inr refl))
+      (IsPermutation-append_comm (e.left ∷ []) (e.right ∷ []))
 
   -- if it is possible the terms have the sorts of the first node's variables
-  pub terms_fit : (s : Step) (es : List Equation) → IsPossible above spec usable start nodes c (IsReference start es) s → (terms : List Tree) × (with_terms terms (first ∷ []) ≡ es) × AreTermsFor spec c start terms
+  pub terms_fit : (s : Step) (es : List Equation) →
+      IsPossible above spec usable start nodes c (IsReference start es) s →
+      (terms : List Tree) × (with_terms terms (first ∷ []) ≡ es) × AreTermsFor spec c start terms
   terms_fit s es (is, made, says) =
       let t = subst (λ (x : Step). Says above c nodes (row_of spec usable nodes c x) (Ok made)) is.2 says in
       let node = is_met made NoSuchNode t in

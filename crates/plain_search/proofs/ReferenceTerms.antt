@@ -1,5 +1,6 @@
 -- References to the first node, as answers to a question for the terms of its variables.
-use Rattle.std.proofs.Common.{◌≡◌, ℕ, List, [], ◌∷◌, Bool, true, false, not, Some, None, map, length, refl, ap, sym, ◌∙◌, subst, arith, ◌++◌}
+use Rattle.std.proofs.Common.{◌≡◌, ℕ, List, [], ◌∷◌, Bool, true, false, not, Some, None, map, length, refl, ap, sym}
+use Rattle.std.proofs.Common.{◌∙◌, subst, arith, ◌++◌}
 use Rattle.term_core.specs.Tree.{Tree, trees_of, instance}
 use Rattle.term_core.specs.Variables.{NumberedAll}
 use Rattle.term_core.proofs.Numbered.{numbered_all_below}

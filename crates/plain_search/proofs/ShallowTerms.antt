@@ -1,5 +1,6 @@
 -- Terms for the variables of a tidied clause are no deeper than the instance that they make.
-use Rattle.std.proofs.Common.{◌≡◌, ℕ, zero, suc, ◌≤◌, List, [], ◌∷◌, ◌++◌, Option, Some, None, inl, inr, map, length, refl, ap, sym, ◌∙◌, arith}
+use Rattle.std.proofs.Common.{◌≡◌, ℕ, zero, suc, ◌≤◌, List, [], ◌∷◌, ◌++◌, Option, Some, None, inl, inr, map, length}
+use Rattle.std.proofs.Common.{refl, ap, sym, ◌∙◌, arith}
 use Rattle.std.specs.Prelude.{slice_get}
 use Rattle.std.proofs.lemmas.List.{map-append}
 use Rattle.std.proofs.lemmas.Option.{slice_get_within}
@@ -22,7 +23,8 @@ use Rattle.clause_core.specs.Tidied.{IsTidied}
 module _ (s : List (Option Tree)) where
   mutual
     image_depth : (t : Tree) (n : ℕ) → Occurs n t → tree_depth (image s n) ≤ tree_depth (apply s t)
-    image_depth (var m) n o = let e : tree_depth (image s n) ≡ tree_depth (image s m) = ap (λ j. tree_depth (image s j)) o in omega (arith, e)
+    image_depth (var m) n o = let e : tree_depth (image s n) ≡ tree_depth (image s m) = ap
+        (λ j. tree_depth (image s j)) o in omega (arith, e)
     image_depth (app f ts) n o = omega (arith, image_depths ts n o)
 
     image_depths : (ts : Trees) (n : ℕ) → OccursAny n ts → tree_depth (image s n) ≤ depths (apply_all s ts)
@@ -34,25 +36,33 @@ module _ (s : List (Option Tree)) where
   sides_instance [] = refl
   sides_instance (e ∷ es) = ap (λ ts. apply s e.left ∷ apply s e.right ∷ ts) (sides_instance es)
 
-term_entry : (terms : List Tree) (k : ℕ) (t : Tree) → slice_get terms k ≡ Some t → entry (map (λ (u : Tree). Some u) terms) k ≡ Some t
+term_entry : (terms : List Tree) (k : ℕ) (t : Tree) → slice_get terms k ≡ Some t →
+    entry (map (λ (u : Tree). Some u) terms) k ≡ Some t
 term_entry [] k t at = absurd (let q : None ≡ Some t = at in cc)
 term_entry (u ∷ terms) zero t at = at
 term_entry (u ∷ terms) (suc k) t at = term_entry terms k t at
 
-as_many : (sig : Sig) (ctx : List SortId) (ts : List Tree) (ss : List SortId) → SortedAll sig ctx (trees_of ts) ss → length ts ≡ length ss
+as_many : (sig : Sig) (ctx : List SortId) (ts : List Tree) (ss : List SortId) →
+    SortedAll sig ctx (trees_of ts) ss → length ts ≡ length ss
 as_many sig ctx [] [] h = refl
 as_many sig ctx [] (s ∷ ss) h = absurd h
 as_many sig ctx (t ∷ ts) [] h = absurd h
 as_many sig ctx (t ∷ ts) (s ∷ ss) h = ap (λ n. suc n) (as_many sig ctx ts ss h.1)
 
 pub terms_shallow :
-    (sig : Sig) (ctx : List SortId) (d : Clause) (terms : List Tree) → IsTidied d → SortedAll sig ctx (trees_of terms) d.ctx → IsWithin (instance_by terms ctx d) →
+    (sig : Sig) (ctx : List SortId) (d : Clause) (terms : List Tree) → IsTidied d →
+    SortedAll sig ctx (trees_of terms) d.ctx → IsWithin (instance_by terms ctx d) →
     (k : ℕ) (t : Tree) → slice_get terms k ≡ Some t → tree_depth t ≤ 100
 terms_shallow sig ctx d terms tidy sorted within k t at =
     let s : List (Option Tree) = map (λ (u : Tree). Some u) terms in
     let below = slice_get_within terms k t at in
-    let occurs = numbered_occur 0 (length d.ctx) (trees_of (sides d)) tidy k (omega arith) (omega (arith, below, as_many sig ctx terms d.ctx sorted)) in
-    let both : sides (instance_by terms ctx d) ≡ map (apply s) (sides d) = (λ i. sides_instance s d.premises i ++ sides_instance s d.conclusions i) ∙ sym (map-append (apply s) (sides_of d.premises) (sides_of d.conclusions)) in
-    let all : trees_of (sides (instance_by terms ctx d)) ≡ apply_all s (trees_of (sides d)) = ap trees_of both ∙ sym (apply_all-trees_of s (sides d)) in
-    let own : tree_depth (image s k) ≡ tree_depth t = ap (λ u. tree_depth u) (image_entry s k t (term_entry terms k t at)) in
+    let occurs = numbered_occur 0 (length d.ctx) (trees_of (sides d)) tidy k (omega arith)
+    (omega (arith, below, as_many sig ctx terms d.ctx sorted)) in
+    let both : sides (instance_by terms ctx d) ≡ map (apply s) (sides d) = (λ i. sides_instance s d.premises i
+    ++ sides_instance s d.conclusions i)
+    ∙ sym (map-append (apply s) (sides_of d.premises) (sides_of d.conclusions)) in
+    let all : trees_of (sides (instance_by terms ctx d)) ≡ apply_all s (trees_of (sides d)) = ap trees_of both
+    ∙ sym (apply_all-trees_of s (sides d)) in
+    let own : tree_depth (image s k) ≡ tree_depth t = ap (λ u. tree_depth u)
+    (image_entry s k t (term_entry terms k t at)) in
     omega (arith, own, image_depths s (trees_of (sides d)) k occurs, ap (λ ts. depths ts) all, within.depth)

@@ -18,7 +18,8 @@ use Rattle.spec_core.proofs.Constructors.{info_parts}
 use Rattle.clause_core.specs.Instances.{variables}
 use Rattle.clause_core.specs.Patterns.{IsPatternOf}
 use Rattle.proof_script.specs.Names.{IsReportName}
-use Rattle.proof_script.specs.Standing.{IsShort, Between, SymbolStands, SymbolsStand, AllSymbolsStand, TermStands, PatternStands}
+use Rattle.proof_script.specs.Standing.{IsShort, Between, SymbolStands, SymbolsStand, AllSymbolsStand, TermStands}
+use Rattle.proof_script.specs.Standing.{PatternStands}
 use Rattle.normalization.specs.Narrow.{IsNarrow}
 use Rattle.normalization.proofs.Fine.{narrow_all}
 use Rattle.test_sets.specs.TestSets.{applied, test_set_of}
@@ -36,17 +37,27 @@ path_stands (j ∷ p) (app f ts) s at n =
     ((one, nine), path_stands p at.0 s at.2 (all_at IsNarrow (list_of ts) (narrow_all ts n.1) at.1.0 at.0 at.1.2))
 
 module _ (sig : Sig) (names : SymbolNamesStand sig) where
-  symbol_stands : (f : ℕ) (i : SymInfo) (arity : ℕ) → info_of sig f ≡ Some i → length i.args ≡ arity → SymbolStands sig f arity
+  symbol_stands : (f : ℕ) (i : SymInfo) (arity : ℕ) → info_of sig f ≡ Some i → length i.args ≡ arity →
+      SymbolStands sig f arity
   symbol_stands f i arity at few =
       let e = info_parts sig.table f i at in
-      let named : slice_get (names_of sig) f ≡ Some e.0.0 = slice_get-map (λ (x : List ℕ × SymInfo). x.0) sig.table f ∙ ap (λ o. option_map (λ (x : List ℕ × SymInfo). x.0) o) e.1 in
-      (e.0.0, i, e.1 ∙ ap (λ (j : SymInfo). Some (e.0.0, j)) e.2, few, all_at IsReportName (names_of sig) names f e.0.0 named)
+      let named : slice_get (names_of sig) f ≡ Some e.0.0 = slice_get-map (λ (x : List ℕ × SymInfo). x.0)
+      sig.table f ∙ ap (λ o. option_map (λ (x : List ℕ × SymInfo). x.0) o) e.1 in (
+        e.0.0,
+        i,
+        e.1 ∙ ap (λ (j : SymInfo). Some (e.0.0, j)) e.2,
+        few,
+        all_at IsReportName (names_of sig) names f e.0.0 named,
+      )
 
   module _ (ctx : List SortId) (short : IsShort (length ctx)) where
     mutual
       symbols_stand : (t : Tree) (s : SortId) → Sorted sig ctx t s → SymbolsStand sig t
       symbols_stand (var n) s p = let below = slice_get_within ctx n s p in omega (arith, below, short)
-      symbols_stand (app f ts) s p = (symbol_stands f p.0 (length (list_of ts)) p.1 (as_many ts p.0.args p.3), all_symbols_stand ts p.0.args p.3)
+      symbols_stand (app f ts) s p = (
+        symbol_stands f p.0 (length (list_of ts)) p.1 (as_many ts p.0.args p.3),
+        all_symbols_stand ts p.0.args p.3,
+      )
 
       all_symbols_stand : (ts : Trees) (ss : List SortId) → SortedAll sig ctx ts ss → AllSymbolsStand sig ts
       all_symbols_stand none ss p = tt
@@ -59,22 +70,27 @@ module _ (sig : Sig) (names : SymbolNamesStand sig) where
       as_many (some t ts) [] p = absurd p
       as_many (some t ts) (s ∷ ss) p = ap (λ n. suc n) (as_many ts ss p.1)
 
-    pub terms_stand : (ts : List Tree) (ss : List SortId) → SortedAll sig ctx (trees_of ts) ss → ((k : ℕ) (t : Tree) → slice_get ts k ≡ Some t → tree_depth t ≤ 100) → AllByRecursion (TermStands sig) ts
+    pub terms_stand : (ts : List Tree) (ss : List SortId) → SortedAll sig ctx (trees_of ts) ss →
+        ((k : ℕ) (t : Tree) → slice_get ts k ≡ Some t → tree_depth t ≤ 100) → AllByRecursion (TermStands sig) ts
     terms_stand [] ss p shallow = tt
     terms_stand (t ∷ ts) [] p shallow = absurd p
-    terms_stand (t ∷ ts) (s ∷ ss) p shallow =
-        (record { symbols = symbols_stand t s p.0; depth = shallow 0 t refl }, terms_stand ts ss p.1 (λ k u at. shallow (suc k) u at))
+    terms_stand (t ∷ ts) (s ∷ ss) p shallow = (
+      record { symbols = symbols_stand t s p.0; depth = shallow 0 t refl },
+      terms_stand ts ss p.1 (λ k u at. shallow (suc k) u at),
+    )
 
   variables_shallow : (from count : ℕ) → depths (trees_of (variables from count)) ≤ 1
   variables_shallow from zero = omega arith
   variables_shallow from (suc count) = omega (arith, variables_shallow (from + 1) count)
 
   module _ (few : HasFewArguments sig) (s : SortId) where
-    pattern_stands : (c : ℕ × List SortId) → IsOneOf sig s c → IsPatternOf sig s c.1 (applied c) → PatternStands sig (applied c)
+    pattern_stands : (c : ℕ × List SortId) → IsOneOf sig s c → IsPatternOf sig s c.1 (applied c) →
+        PatternStands sig (applied c)
     pattern_stands c is p =
         let count = few c.0 is.info is.at in
         let same = ap (λ (ss : List SortId). length ss) is.args in
-        let long : length (occurrences (applied c)) ≡ length c.1 = ap (λ (ns : List ℕ). length ns) p.numbered ∙ length-range_with_len 0 (length c.1) in
+        let long : length (occurrences (applied c)) ≡ length c.1 = ap (λ (ns : List ℕ). length ns) p.numbered
+        ∙ length-range_with_len 0 (length c.1) in
         record {
           stands = record {
             symbols = symbols_stand c.1 (omega (arith, count, same)) (applied c) s p.sorted;
@@ -83,7 +99,9 @@ module _ (sig : Sig) (names : SymbolNamesStand sig) where
           numbered = p.numbered ∙ ap (λ n. range_with_len 0 n) (sym long);
         }
 
-    patterns_stand : (cs : List (ℕ × List SortId)) → AllByRecursion (IsOneOf sig s) cs → AllZip (IsPatternOf sig s) (map (λ (c : ℕ × List SortId). c.1) cs) (map applied cs) → AllByRecursion (PatternStands sig) (map applied cs)
+    patterns_stand : (cs : List (ℕ × List SortId)) → AllByRecursion (IsOneOf sig s) cs →
+        AllZip (IsPatternOf sig s) (map (λ (c : ℕ × List SortId). c.1) cs) (map applied cs) →
+        AllByRecursion (PatternStands sig) (map applied cs)
     patterns_stand [] is p = tt
     patterns_stand (c ∷ cs) is p = (pattern_stands c is.0 p.0, patterns_stand cs is.1 p.1)
 

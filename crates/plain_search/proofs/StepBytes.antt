@@ -1,9 +1,12 @@
 -- How long the lines of steps are.
-use Rattle.std.proofs.Common.{◌≡◌, ℕ, ◌+◌, ◌*◌, ◌^◌, zero, suc, ◌<◌, ◌≤◌, inl, inr, Bool, true, false, List, [], ◌∷◌, ◌++◌, length, map, Some, None, Option, refl, ap, sym, ◌∙◌, subst, arith, length-append, lit<}
+use Rattle.std.proofs.Common.{◌≡◌, ℕ, ◌+◌, ◌*◌, ◌^◌, zero, suc, ◌<◌, ◌≤◌, inl, inr, Bool, true, false, List, [], ◌∷◌}
+use Rattle.std.proofs.Common.{◌++◌, length, map, Some, None, Option, refl, ap, sym, ◌∙◌, subst, arith, length-append}
+use Rattle.std.proofs.Common.{lit<}
 use Rattle.std.specs.Prelude.{slice_get, slice_index_or, unwrap_or, codes, flat_map}
 use Rattle.std.specs.Fmt.{decimal}
 use Rattle.std.proofs.lemmas.Fmt.{length-decimal-le}
-use Rattle.term_core.specs.Tree.{Tree, Trees, var, app, none, some, trees_of, list_of, tree_size, sizes, tree_depth, depths}
+use Rattle.term_core.specs.Tree.{Tree, Trees, var, app, none, some, trees_of, list_of, tree_size, sizes, tree_depth}
+use Rattle.term_core.specs.Tree.{depths}
 use Rattle.term_core.specs.Places.{IsAt}
 use Rattle.term_core.specs.Variables.{Occurs, OccursAny, Numbered, NumberedAll}
 use Rattle.spec_core.specs.declared.records.Spec.{Spec}
@@ -55,30 +58,45 @@ module _ (sig : Sig) (short : NamesAreShort sig) where
         let d = length-append ((name ++ codes "(") ++ term_text sig [] t) (others_text sig [] ts) in
         let c = length-append (name ++ codes "(") (term_text sig [] t) in
         let b = length-append name (codes "(") in
-        omega (arith, a, b, c, d, e, symbol_short f, term_short t (λ n o. small n (inl o)), others_short ts (λ n o. small n (inr o)))
+        omega (
+          arith,
+          a,
+          b,
+          c,
+          d,
+          e,
+          symbol_short f,
+          term_short t (λ n o. small n (inl o)),
+          others_short ts (λ n o. small n (inr o)),
+        )
 
-    others_short : (ts : Trees) → ((n : ℕ) → OccursAny n ts → n < 10 ^ 4) → length (others_text sig [] ts) ≤ 68 * sizes ts
+    others_short : (ts : Trees) → ((n : ℕ) → OccursAny n ts → n < 10 ^ 4) →
+        length (others_text sig [] ts) ≤ 68 * sizes ts
     others_short none small = omega arith
     others_short (some t ts) small =
         let a = length-append (codes ", ") (term_text sig [] t) in
         let b = length-append (codes ", " ++ term_text sig [] t) (others_text sig [] ts) in
         omega (arith, a, b, term_short t (λ n o. small n (inl o)), others_short ts (λ n o. small n (inr o)))
 
-  more_short : (ts : List Tree) → ((n : ℕ) → OccursAny n (trees_of ts) → n < 10 ^ 4) → length (flat_map (λ u. codes ", " ++ u) (map (term_text sig []) ts)) ≤ 68 * sizes (trees_of ts)
+  more_short : (ts : List Tree) → ((n : ℕ) → OccursAny n (trees_of ts) → n < 10 ^ 4) →
+      length (flat_map (λ u. codes ", " ++ u) (map (term_text sig []) ts)) ≤ 68 * sizes (trees_of ts)
   more_short [] small = omega arith
   more_short (t ∷ ts) small =
       let a = length-append (codes ", ") (term_text sig [] t) in
-      let b = length-append (codes ", " ++ term_text sig [] t) (flat_map (λ u. codes ", " ++ u) (map (term_text sig []) ts)) in
+      let b = length-append (codes ", " ++ term_text sig [] t)
+      (flat_map (λ u. codes ", " ++ u) (map (term_text sig []) ts)) in
       omega (arith, a, b, term_short t (λ n o. small n (inl o)), more_short ts (λ n o. small n (inr o)))
 
-  terms_short : (ts : List Tree) → ((n : ℕ) → OccursAny n (trees_of ts) → n < 10 ^ 4) → length (with_commas (map (term_text sig []) ts)) ≤ 68 * sizes (trees_of ts)
+  terms_short : (ts : List Tree) → ((n : ℕ) → OccursAny n (trees_of ts) → n < 10 ^ 4) →
+      length (with_commas (map (term_text sig []) ts)) ≤ 68 * sizes (trees_of ts)
   terms_short [] small = omega arith
   terms_short (t ∷ ts) small =
       let a = length-append (term_text sig [] t) (flat_map (λ u. codes ", " ++ u) (map (term_text sig []) ts)) in
       omega (arith, a, term_short t (λ n o. small n (inl o)), more_short ts (λ n o. small n (inr o)))
 
   -- the line of an instance of the first node
-  pub subsume_short : (ts : List Tree) → ((n : ℕ) → OccursAny n (trees_of ts) → n < 10 ^ 4) → bytes sig (Subsume 0 ts) ≤ 68 * sizes (trees_of ts) + 13
+  pub subsume_short : (ts : List Tree) → ((n : ℕ) → OccursAny n (trees_of ts) → n < 10 ^ 4) →
+      bytes sig (Subsume 0 ts) ≤ 68 * sizes (trees_of ts) + 13
   subsume_short ts small = simp length-append (omega (arith, one_digit 0 (lit< tt), terms_short ts small))
 
 argument_depth : (ts : Trees) (k : ℕ) (t : Tree) → slice_get (list_of ts) k ≡ Some t → tree_depth t ≤ depths ts
@@ -90,9 +108,11 @@ argument_depth (some u ts) zero t at =
     omega (arith, d)
 argument_depth (some u ts) (suc k) t at = omega (arith, argument_depth ts k t at)
 
-argument_narrow : (ts : Trees) (k : ℕ) (t : Tree) → slice_get (list_of ts) k ≡ Some t → AreNarrow ts → IsNarrow t × (k < length (list_of ts))
+argument_narrow : (ts : Trees) (k : ℕ) (t : Tree) → slice_get (list_of ts) k ≡ Some t → AreNarrow ts →
+    IsNarrow t × (k < length (list_of ts))
 argument_narrow none k t at n = absurd (let q : None ≡ Some t = at in cc)
-argument_narrow (some u ts) zero t at n = let q : Some u ≡ Some t = at in let e : u ≡ t = cc in (subst (λ x. IsNarrow x) e n.0, omega arith)
+argument_narrow (some u ts) zero t at n = let q : Some u ≡ Some t = at in let e : u ≡ t = cc in
+    (subst (λ x. IsNarrow x) e n.0, omega arith)
 argument_narrow (some u ts) (suc k) t at n = let r = argument_narrow ts k t at n.1 in (r.0, omega (arith, r.1))
 
 abbrev path_text : List ℕ → List ℕ
@@ -123,9 +143,17 @@ pub decompose_short : (sig : Sig) → bytes sig (Decompose true 1) ≤ 213
 decompose_short sig = simp length-append (omega (arith, one_digit 1 (lit< tt)))
 
 -- the line of a rule has at most 213 bytes
-pub rule_short : (sig : Sig) (side : Bool) (p : List ℕ) (k : ℕ) (t s : Tree) → IsAt p t s → IsNarrow t → tree_depth t ≤ 100 → k < 10 ^ 4 → bytes sig (Rule (place_in side p) k) ≤ 213
+pub rule_short : (sig : Sig) (side : Bool) (p : List ℕ) (k : ℕ) (t s : Tree) → IsAt p t s → IsNarrow t →
+    tree_depth t ≤ 100 → k < 10 ^ 4 → bytes sig (Rule (place_in side p) k) ≤ 213
 rule_short sig side p k t s at narrow deep small =
-    simp length-append (omega (arith, one_digit 1 (lit< tt), side_one side, path_short p t s at narrow, deep, small_decimal k small))
+    simp length-append (omega (
+      arith,
+      one_digit 1 (lit< tt),
+      side_one side,
+      path_short p t s at narrow,
+      deep,
+      small_decimal k small,
+    ))
 
 -- the sizes of the first entries, where a variable without an entry counts as one
 abbrev entry_size : List (Option Tree) → ℕ → ℕ
@@ -142,7 +170,8 @@ option_size (Some t) n = refl
 image_size : (s : List (Option Tree)) (n : ℕ) → tree_size (image s n) ≡ entry_size s n
 image_size s n = option_size (slice_index_or s n None) n
 
-upto_front : (o : Option Tree) (s : List (Option Tree)) (n : ℕ) → upto (o ∷ s) (suc n) ≡ tree_size (unwrap_or o (var 0)) + upto s n
+upto_front : (o : Option Tree) (s : List (Option Tree)) (n : ℕ) →
+    upto (o ∷ s) (suc n) ≡ tree_size (unwrap_or o (var 0)) + upto s n
 unfolding upto
 upto_front o s zero = omega arith
 upto_front o s (suc n) = omega (arith, upto_front o s n)
@@ -150,14 +179,16 @@ upto_front o s (suc n) = omega (arith, upto_front o s n)
 upto_terms : (ts : List Tree) → upto (map (λ (t : Tree). Some t) ts) (length ts) ≡ sizes (trees_of ts)
 unfolding upto
 upto_terms [] = refl
-upto_terms (t ∷ ts) = upto_front (Some t) (map (λ (u : Tree). Some u) ts) (length ts) ∙ ap (λ n. tree_size t + n) (upto_terms ts)
+upto_terms (t ∷ ts) = upto_front (Some t) (map (λ (u : Tree). Some u) ts) (length ts)
+    ∙ ap (λ n. tree_size t + n) (upto_terms ts)
 
 upto_next : (s : List (Option Tree)) (k : ℕ) → upto s (suc k) ≡ upto s k + entry_size s k
 unfolding upto
 upto_next s k = refl
 
 mutual
-  numbered_sizes : (s : List (Option Tree)) (k m : ℕ) (t : Tree) → Numbered k t m → upto s m ≤ upto s k + tree_size (apply s t)
+  numbered_sizes : (s : List (Option Tree)) (k m : ℕ) (t : Tree) → Numbered k t m →
+      upto s m ≤ upto s k + tree_size (apply s t)
   numbered_sizes s k m (var n) (inl h) = let e : upto s m ≡ upto s k = ap (λ i. upto s i) h.1 in omega (arith, e)
   numbered_sizes s k m (var n) (inr h) =
       let j : k + 1 ≡ suc k = omega arith in
@@ -166,12 +197,15 @@ mutual
       omega (arith, e, z, upto_next s k)
   numbered_sizes s k m (app f ts) h = omega (arith, all_sizes s k m ts h)
 
-  all_sizes : (s : List (Option Tree)) (k m : ℕ) (ts : Trees) → NumberedAll k ts m → upto s m ≤ upto s k + sizes (apply_all s ts)
+  all_sizes : (s : List (Option Tree)) (k m : ℕ) (ts : Trees) → NumberedAll k ts m →
+      upto s m ≤ upto s k + sizes (apply_all s ts)
   all_sizes s k m none h = let e : upto s m ≡ upto s k = ap (λ i. upto s i) h in omega (arith, e)
   all_sizes s k m (some t ts) h = omega (arith, numbered_sizes s k h.0 t h.1, all_sizes s h.0 m ts h.2)
 
 -- the terms for the variables of two numbered terms are no larger than the instances
-pub terms_small : (ts : List Tree) (l r : Tree) → NumberedAll 0 (some l (some r none)) (length ts) → sizes (trees_of ts) ≤ tree_size (apply (map (λ (t : Tree). Some t) ts) l) + tree_size (apply (map (λ (t : Tree). Some t) ts) r)
+pub terms_small : (ts : List Tree) (l r : Tree) → NumberedAll 0 (some l (some r none)) (length ts) →
+    sizes (trees_of ts) ≤ tree_size (apply (map (λ (t : Tree). Some t) ts) l) + tree_size
+    (apply (map (λ (t : Tree). Some t) ts) r)
 unfolding upto
 terms_small ts l r h =
     let a = all_sizes (map (λ (t : Tree). Some t) ts) 0 (length ts) (some l (some r none)) h in

@@ -20,15 +20,19 @@ use Rattle.plain_search.proofs.Conditions.{is_met, only_equation, is_only}
 abbrev pub nothing : Children
 nothing = record { clauses = []; refs = [] }
 
-module _ (above : Tree → Tree → Type 0) (spec : Spec) (usable : ℕ → Type 0) (nodes : List Clause) (ctx : List SortId) (l r : Tree) where
+module _ (above : Tree → Tree → Type 0) (spec : Spec) (usable : ℕ → Type 0) (nodes : List Clause)
+    (ctx : List SortId) (l r : Tree) where
   abbrev here : Equation
   here = record { left = l; right = r }
 
-  pub trivial_says : length nodes ≤ 10000 → l ≡ r → Says above (equation_clause ctx l r) nodes (row_of spec usable nodes (equation_clause ctx l r) (Trivial 1)) (Ok nothing)
+  pub trivial_says : length nodes ≤ 10000 → l ≡ r →
+      Says above (equation_clause ctx l r) nodes
+      (row_of spec usable nodes (equation_clause ctx l r) (Trivial 1)) (Ok nothing)
   trivial_says few same = inl (only_equation here, inl (same, (nothing, tt, tt, inl ((tt, omega (arith, few)), refl))))
 
   -- it is possible if both sides are the same
-  pub trivial_same : (start : Clause) (s : Step) → IsPossible above spec usable start nodes (equation_clause ctx l r) IsTrivial s → l ≡ r
+  pub trivial_same : (start : Clause) (s : Step) →
+      IsPossible above spec usable start nodes (equation_clause ctx l r) IsTrivial s → l ≡ r
   trivial_same start s (is, made, says) =
       let c = equation_clause ctx l r in
       let t = subst (λ (x : Step). Says above c nodes (row_of spec usable nodes c x) (Ok made)) is says in

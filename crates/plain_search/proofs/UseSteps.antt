@@ -1,5 +1,6 @@
 -- `rule` at the leftmost-innermost use in a side of a clause of one equation.
-use Rattle.std.proofs.Common.{◌≡◌, ℕ, ◌+◌, ◌≤◌, List, [], ◌∷◌, Bool, Some, inl, refl, ap, sym, ◌∙◌, subst, map, length, arith}
+use Rattle.std.proofs.Common.{◌≡◌, ℕ, ◌+◌, ◌≤◌, List, [], ◌∷◌, Bool, Some, inl, refl, ap, sym, ◌∙◌, subst, map, length}
+use Rattle.std.proofs.Common.{arith}
 use Rattle.std.specs.Prelude.{Ok}
 use Rattle.std.specs.List.{AllByRecursion}
 use Rattle.std.proofs.lemmas.List.{length-map}
@@ -60,32 +61,70 @@ use_terms spec fine k t u w =
       fits = record {
         terms = terms;
         long = tabulated_long (image w.entries) (length ctx) ∙ long;
-        is = tabulated_instance w.entries (length ctx) w.rule.left (λ n o. occurs_within spec.sig ctx w.rule.left sides.0 sides.1 n o) ∙ w.left;
+        is = tabulated_instance w.entries (length ctx) w.rule.left
+            (λ n o. occurs_within spec.sig ctx w.rule.left sides.0 sides.1 n o) ∙ w.left;
       };
-      new = tabulated_instance w.entries (length ctx) w.rule.right (λ n o. occurs_within spec.sig ctx w.rule.right sides.0 sides.2 n o) ∙ sym w.right;
-      unguarded = λ c. subst (λ (gs : List Guard). AllByRecursion (λ (e : Equation). Among e c.premises) (map (guard_equation terms) gs)) (sym w.unguarded) tt;
+      new = tabulated_instance w.entries (length ctx) w.rule.right
+          (λ n o. occurs_within spec.sig ctx w.rule.right sides.0 sides.2 n o) ∙ sym w.right;
+      unguarded = λ c. subst (λ (gs : List Guard). AllByRecursion (λ (e : Equation). Among e c.premises)
+          (map (guard_equation terms) gs)) (sym w.unguarded) tt;
     }
 
-module _ (above : Tree → Tree → Type 0) (spec : Spec) (fine : IsWellSorted spec) (usable : ℕ → Type 0) (nodes : List Clause) (ctx : List SortId) (e : Equation) (left : Bool) where
+module _ (above : Tree → Tree → Type 0) (spec : Spec) (fine : IsWellSorted spec) (usable : ℕ →
+    Type 0) (nodes : List Clause) (ctx : List SortId) (e : Equation) (left : Bool) where
   pub use_says :
       (p : List ℕ) (k : ℕ) (made : Tree) → length nodes + 1 ≤ 10000 → IsFirstUse spec (side left e) p k made →
       IsWithin (tidied (clause_of ctx (with_side left e made))) →
-      Says above (clause_of ctx e) nodes (row_of spec usable nodes (clause_of ctx e) (RuleStep (place_in left p) k)) (Ok (one_child (clause_of ctx (with_side left e made))))
+      Says above (clause_of ctx e) nodes
+      (row_of spec usable nodes (clause_of ctx e) (RuleStep (place_in left p) k))
+      (Ok (one_child (clause_of ctx (with_side left e made))))
   use_says p k made few w within =
       let c = clause_of ctx e in
       let x = w.rule in
       let h = use_terms spec fine k w.old w.new x in
       let round = context_at p (side left e) w.old w.at in
-      let at : TermAt c (place_in left p) = record { at = only_equation e; round = round.0; term = w.old; is = round.1; path = round.2 } in
-      let rule : RuleAt spec k = record { place = x.listed.0; rule = x.rule; counts = omega (arith, x.listed.1); is = x.listed.2 } in
+      let at : TermAt c (place_in left p) = record {
+        at = only_equation e;
+        round = round.0;
+        term = w.old;
+        is = round.1;
+        path = round.2;
+      } in
+      let rule : RuleAt spec k = record {
+        place = x.listed.0;
+        rule = x.rule;
+        counts = omega (
+          arith,
+          x.listed.1,
+        );
+        is = x.listed.2;
+      } in
       let replaced = term_is_replaced c (place_in left p) at w.new in
       let same : made ≡ plug round.0 (instance h.fits.terms x.rule.right) =
-      one_replacement p (side left e) w.new made (plug round.0 w.new) w.made replaced ∙ ap (λ t. plug round.0 t) (sym h.new) in
-      let child : tidied (clause_of ctx (with_side left e made)) ≡ tidied (holding at (instance h.fits.terms x.rule.right)) = ap (λ t. tidied (clause_of ctx (with_side left e t))) same in
-      inl (at, inl (rule, inl ((h.fits, h.unguarded c), (one_child (clause_of ctx (with_side left e made)), ((child, refl), tt), tt, inl (((within, tt), omega (arith, few)), refl)))))
+      one_replacement p (side left e) w.new made (plug round.0 w.new) w.made replaced
+      ∙ ap (λ t. plug round.0 t) (sym h.new) in
+      let child : tidied (clause_of ctx (with_side left e made)) ≡ tidied
+      (holding at (instance h.fits.terms x.rule.right)) = ap
+      (λ t. tidied (clause_of ctx (with_side left e t))) same in
+      inl (
+        at,
+        inl (
+          rule,
+          inl (
+            (h.fits, h.unguarded c),
+            (
+              one_child (clause_of ctx (with_side left e made)),
+              ((child, refl), tt),
+              tt,
+              inl (((within, tt), omega (arith, few)), refl),
+            ),
+          ),
+        ),
+      )
 
   -- there is no use in a normal side
-  pub no_use : (start : Clause) → IsNormal spec (side left e) → (s : Step) → IsPossible above spec usable start nodes (clause_of ctx e) (IsUse spec (clause_of ctx e) left) s → ⊥
+  pub no_use : (start : Clause) → IsNormal spec (side left e) → (s : Step) →
+      IsPossible above spec usable start nodes (clause_of ctx e) (IsUse spec (clause_of ctx e) left) s → ⊥
   no_use start normal s (is, makes, says) =
       let w = is.5 in
       let q : Some e ≡ Some is.0 = is.4 in

@@ -34,10 +34,13 @@ module _ (spec : Spec) (c : Clause) (left : Bool) where
     side_normal normal = λ step u.
         let q : Some e ≡ Some u.0 = sym at ∙ u.4 in
         let same : u.0 ≡ e = cc in
-        let first : IsFirstUse spec (side left e) u.1 u.2 u.3 = subst (λ (d : Equation). IsFirstUse spec (side left d) u.1 u.2 u.3) same u.5 in
+        let first : IsFirstUse spec (side left e) u.1 u.2 u.3 = subst
+        (λ (d : Equation). IsFirstUse spec (side left d) u.1 u.2 u.3) same u.5 in
         normal u.1 first.old first.at u.2 first.new first.rule
 
-    pub side_used : (path : List ℕ) (number : ℕ) (made : Tree) → IsFirstUse spec (side left e) path number made → (step : Step) → step ≡ Rule (place_in left path) number → IsOnly (IsUse spec c left) (Some step)
+    pub side_used : (path : List ℕ) (number : ℕ) (made : Tree) →
+        IsFirstUse spec (side left e) path number made → (step : Step) →
+        step ≡ Rule (place_in left path) number → IsOnly (IsUse spec c left) (Some step)
     side_used path number made first step is =
         let here : IsUse spec c left step = (e, path, number, made, at, first, is) in
         (here, λ other u. use_one spec c left other step u here)

@@ -1,5 +1,6 @@
 -- The variables of terms by first occurrence: each occurs once, and there are few.
-use Rattle.std.proofs.Common.{◌≡◌, ◌≢◌, ℕ, zero, suc, ◌≤◌, ◌==◌, List, [], ◌∷◌, Bool, true, false, not, cond, Some, inl, inr, filter, length, refl, ap, sym, ◌∙◌, arith}
+use Rattle.std.proofs.Common.{◌≡◌, ◌≢◌, ℕ, zero, suc, ◌≤◌, ◌==◌, List, [], ◌∷◌, Bool, true, false, not, cond, Some}
+use Rattle.std.proofs.Common.{inl, inr, filter, length, refl, ap, sym, ◌∙◌, arith}
 use Rattle.std.specs.Prelude.{slice_get}
 use Rattle.std.specs.List.{AllByRecursion}
 use Rattle.std.proofs.lemmas.List.{length-append}
@@ -21,15 +22,18 @@ others n m h =
     ]
 
 -- what holds of all holds of those that a test lets through, and so does what the test tells
-keep_all : (P : ℕ → Type 0) (n : ℕ) (ns : List ℕ) (b : Bool) → P n → AllByRecursion P ns → AllByRecursion P (cond b (n ∷ ns) ns)
+keep_all : (P : ℕ → Type 0) (n : ℕ) (ns : List ℕ) (b : Bool) → P n → AllByRecursion P ns →
+    AllByRecursion P (cond b (n ∷ ns) ns)
 keep_all P n ns true p h = (p, h)
 keep_all P n ns false p h = h
 
-all_filtered : (P : ℕ → Type 0) (test : ℕ → Bool) (ns : List ℕ) → AllByRecursion P ns → AllByRecursion P (filter test ns)
+all_filtered : (P : ℕ → Type 0) (test : ℕ → Bool) (ns : List ℕ) → AllByRecursion P ns →
+    AllByRecursion P (filter test ns)
 all_filtered P test [] h = tt
 all_filtered P test (n ∷ ns) h = keep_all P n (filter test ns) (test n) h.0 (all_filtered P test ns h.1)
 
-pass_more : (n m : ℕ) (ns : List ℕ) (b : Bool) → not (m == n) ≡ b → AllByRecursion (λ k. k ≢ n) ns → AllByRecursion (λ k. k ≢ n) (cond b (m ∷ ns) ns)
+pass_more : (n m : ℕ) (ns : List ℕ) (b : Bool) → not (m == n) ≡ b → AllByRecursion (λ k. k ≢ n) ns →
+    AllByRecursion (λ k. k ≢ n) (cond b (m ∷ ns) ns)
 pass_more n m ns true e h = (others n m e, h)
 pass_more n m ns false e h = h
 
@@ -37,13 +41,15 @@ all_pass : (n : ℕ) (ns : List ℕ) → AllByRecursion (λ m. m ≢ n) (filter 
 all_pass n [] = tt
 all_pass n (m ∷ ns) = pass_more n m (filter (λ k. not (k == n)) ns) (not (m == n)) refl (all_pass n ns)
 
-keep_apart : (n : ℕ) (ns : List ℕ) (b : Bool) → AllByRecursion (λ m. m ≢ n) ns → AreApart ns → AreApart (cond b (n ∷ ns) ns)
+keep_apart : (n : ℕ) (ns : List ℕ) (b : Bool) → AllByRecursion (λ m. m ≢ n) ns → AreApart ns →
+    AreApart (cond b (n ∷ ns) ns)
 keep_apart n ns true a h = (a, h)
 keep_apart n ns false a h = h
 
 apart_filtered : (test : ℕ → Bool) (ns : List ℕ) → AreApart ns → AreApart (filter test ns)
 apart_filtered test [] h = tt
-apart_filtered test (n ∷ ns) h = keep_apart n (filter test ns) (test n) (all_filtered (λ m. m ≢ n) test ns h.0) (apart_filtered test ns h.1)
+apart_filtered test (n ∷ ns) h = keep_apart n (filter test ns) (test n) (all_filtered (λ m. m ≢ n) test ns h.0)
+    (apart_filtered test ns h.1)
 
 pub firsts_apart : (ns : List ℕ) → AreApart (firsts ns)
 firsts_apart [] = tt
@@ -82,7 +88,12 @@ mutual
 
   occurrences_all_few : (ts : Trees) → length (occurrences_all ts) ≤ sizes ts
   occurrences_all_few none = omega arith
-  occurrences_all_few (some t ts) = omega (arith, length-append (occurrences t) (occurrences_all ts), occurrences_few t, occurrences_all_few ts)
+  occurrences_all_few (some t ts) = omega (
+    arith,
+    length-append (occurrences t) (occurrences_all ts),
+    occurrences_few t,
+    occurrences_all_few ts,
+  )
 
 -- terms have no more variables than symbols and occurrences of variables
 pub variables_few : (ts : Trees) → length (firsts (occurrences_all ts)) ≤ sizes ts

@@ -12,7 +12,8 @@ use Rattle.clause_core.specs.Says.{Says}
 use Rattle.clause_core.specs.Steps.{row_of}
 use Rattle.clause_core.specs.Tidied.{IsTidied}
 use Rattle.plain_search.specs.declared.candidates.Candidate.{Candidate}
-use Rattle.plain_search.specs.declared.candidates.Candidate.TheVariants.{Trivial, RuleOnLeft, RuleOnRight, Decompose, AsWritten, WithSidesSwapped}
+use Rattle.plain_search.specs.declared.candidates.Candidate.TheVariants.{Trivial, RuleOnLeft, RuleOnRight, Decompose}
+use Rattle.plain_search.specs.declared.candidates.Candidate.TheVariants.{AsWritten, WithSidesSwapped}
 use Rattle.plain_search.specs.declared.candidates.Taken.{Taken}
 use Rattle.plain_search.specs.Choices.{IsTrivial, IsUse, IsDecomposition, IsReference, IsPossible, IsChosen}
 

@@ -6,7 +6,8 @@ ghost use Rattle.spec_core.specs.WellSorted.{IsWellSorted};
 ghost use Rattle.clause_core.specs.Clauses.{ClauseIsSorted};
 ghost use Rattle.clause_core.specs.Places.{side as side_of};
 ghost use Rattle.plain_search.specs.Choices.{IsUse};
-ghost use Rattle.plain_search.specs.Candidates.{IsStart, IsOnly, IsFullReference, IsCandidate, wanted};
+ghost use Rattle.plain_search.specs.Candidates.{IsStart, IsOnly, IsFullReference, IsCandidate};
+ghost use Rattle.plain_search.specs.Candidates.{wanted};
 
 use clause_core::{Children, Clause, Place, Step, side};
 use fitting_lists::fitting_terms;
@@ -48,8 +49,8 @@ impl Candidate {
         Candidate::WithSidesSwapped,
     ];
 
-    /// The step that the candidate stands for at a clause, in the block of `start`, before the table
-    /// is asked what it makes.
+    /// The step that the candidate stands for at a clause, in the block of `start`, before the
+    /// table is asked what it makes.
     pub(crate) fn step(
         self,
         alloc: Global,

@@ -1,5 +1,6 @@
 -- The words of a line, one after the other.
-use Rattle.std.proofs.Common.{◌≡◌, ℕ, List, [], ◌∷◌, ◌++◌, refl, ap, sym, ◌∙◌, subst, codes, append_assoc, append-nil, map, Bool, true, false, length, ◌≤◌, arith}
+use Rattle.std.proofs.Common.{◌≡◌, ℕ, List, [], ◌∷◌, ◌++◌, refl, ap, sym, ◌∙◌, subst, codes, append_assoc, append-nil}
+use Rattle.std.proofs.Common.{map, Bool, true, false, length, ◌≤◌, arith}
 use Rattle.std.proofs.lemmas.Bool.Decides.{nat_tests}
 use Rattle.std.specs.Prelude.{◌==◌}
 use Rattle.term_core.specs.Tree.{Tree}
@@ -7,7 +8,8 @@ use Rattle.proof_script.proofs.Runs.{true_false}
 use Rattle.std.specs.List.{AllByRecursion}
 use Rattle.spec_core.specs.Sig.{Sig}
 use Rattle.proof_script.specs.Delimiters.{Ends}
-use Rattle.proof_script.specs.Words.{Word, fixed, name, number, variable, equation, place, side, term, terms, patterns, word_text}
+use Rattle.proof_script.specs.Words.{Word, fixed, name, number, variable, equation, place, side, term, terms, patterns}
+use Rattle.proof_script.specs.Words.{word_text}
 use Rattle.proof_script.specs.Standing.{WordStands}
 use Rattle.proof_script.specs.LineWords.{IsWordAt, AreWords}
 use Rattle.proof_script.proofs.TermReads.{NamesDiffer}
@@ -37,25 +39,37 @@ module _ (sig : Sig) where
   text_ends (w ∷ ws) = refl
 
   -- the first word, and what follows it
-  pub front : (bytes : List ℕ) (w : Word) (ws : List Word) → AreWords sig bytes (w ∷ ws) → IsWordAt sig bytes w (words_text sig ws)
+  pub front : (bytes : List ℕ) (w : Word) (ws : List Word) → AreWords sig bytes (w ∷ ws) →
+      IsWordAt sig bytes w (words_text sig ws)
   front bytes w ws h = record { stands = h.stand.0; is = h.is; ends = text_ends ws }
 
   -- the words after the first one, if that was read
-  pub behind : NamesDiffer sig → (bytes : List ℕ) (v : Word) (rest : List ℕ) (w : Word) (ws : List Word) → kind_of v ≡ kind_of w → Varies v → Varies w → IsWordAt sig bytes v rest → AreWords sig bytes (w ∷ ws) → (v ≡ w) × AreWords sig rest ws
+  pub behind : NamesDiffer sig → (bytes : List ℕ) (v : Word) (rest : List ℕ) (w : Word) (ws : List Word) →
+      kind_of v ≡ kind_of w → Varies v → Varies w → IsWordAt sig bytes v rest → AreWords sig bytes (w ∷ ws) →
+      (v ≡ w) × AreWords sig rest ws
   behind d bytes v rest w ws k x y h l =
-      let one = word_reads sig d v w rest (words_text sig ws) k (sound sig v x h.stands) (sound sig w y l.stand.0) h.ends (text_ends ws) (same_tail (sym h.is ∙ l.is)) in
+      let one = word_reads sig d v w rest (words_text sig ws) k (sound sig v x h.stands)
+      (sound sig w y l.stand.0) h.ends (text_ends ws) (same_tail (sym h.is ∙ l.is)) in
       (one.0, record { stand = l.stand.1; is = one.1 })
 
-  sounds : (ws : List Word) → AllByRecursion Varies ws → AllByRecursion (WordStands sig) ws → AllByRecursion (Sound sig) ws
+  sounds : (ws : List Word) → AllByRecursion Varies ws → AllByRecursion (WordStands sig) ws →
+      AllByRecursion (Sound sig) ws
   sounds [] v h = tt
   sounds (w ∷ ws) v h = (sound sig w v.0 h.0, sounds ws v.1 h.1)
 
   -- words of the same kinds with the same text are the same
-  pub one_words : NamesDiffer sig → (bytes : List ℕ) (ws vs : List Word) → map kind_of ws ≡ map kind_of vs → AllByRecursion Varies ws → AllByRecursion Varies vs → AreWords sig bytes ws → AreWords sig bytes vs → ws ≡ vs
-  one_words d bytes ws vs k x y h l = (words_reads sig d ws vs [] [] k (sounds ws x h.stand) (sounds vs y l.stand) (ap (λ z. z ++ (10 ∷ [])) (sym h.is ∙ l.is))).0
+  pub one_words : NamesDiffer sig → (bytes : List ℕ) (ws vs : List Word) → map kind_of ws ≡ map kind_of vs →
+      AllByRecursion Varies ws → AllByRecursion Varies vs → AreWords sig bytes ws → AreWords sig bytes vs → ws ≡ vs
+  one_words d bytes ws vs k x y h l = (words_reads sig d ws vs [] [] k (sounds ws x h.stand)
+      (sounds vs y l.stand) (ap (λ z. z ++ (10 ∷ [])) (sym h.is ∙ l.is))).0
 
-  pub joined : (bytes : List ℕ) (w : Word) (rest : List ℕ) (ws : List Word) → IsWordAt sig bytes w rest → AreWords sig rest ws → AreWords sig bytes (w ∷ ws)
-  joined bytes w rest ws h l = record { stand = (h.stands, l.stand); is = h.is ∙ ap (λ z. codes " " ++ (word_text sig w ++ z)) l.is }
+  pub joined : (bytes : List ℕ) (w : Word) (rest : List ℕ) (ws : List Word) → IsWordAt sig bytes w rest →
+      AreWords sig rest ws → AreWords sig bytes (w ∷ ws)
+  joined bytes w rest ws h l = record {
+    stand = (h.stands, l.stand);
+    is = h.is
+        ∙ ap (λ z. codes " " ++ (word_text sig w ++ z)) l.is;
+  }
 
   pub no_more : (rest : List ℕ) → rest ≡ [] → AreWords sig rest []
   no_more rest e = record { stand = tt; is = e }

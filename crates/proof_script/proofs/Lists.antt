@@ -20,7 +20,8 @@ pub record Same (a b r s : List ℕ) : Type 0 where
   pub rest : r ≡ s
 
 -- two runs of a class that go on to the same bytes are the same, if the class ends after them
-pub run_one : (P : ℕ → Type 0) (a b r s : List ℕ) → AllByRecursion P a → AllByRecursion P b → Stops P r → Stops P s → a ++ r ≡ b ++ s → Same a b r s
+pub run_one : (P : ℕ → Type 0) (a b r s : List ℕ) → AllByRecursion P a → AllByRecursion P b → Stops P r →
+    Stops P s → a ++ r ≡ b ++ s → Same a b r s
 run_one P [] [] r s p q u v e = record { text = refl; rest = e }
 run_one P [] (c ∷ b) [] s p q u v e = absurd (nil_cons e)
 run_one P [] (c ∷ b) (d ∷ r) s p q u v e = absurd (u (subst P (sym (same_head e)) q.0))

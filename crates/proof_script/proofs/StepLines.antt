@@ -20,16 +20,22 @@ module _ (sig : Sig) (line head words : List ℕ) (split : IsFirstWord line head
   step_behind step h = record { named = sym same.text; stand = record { stand = h.stands; is = same.rest } }
     where
       whole : line ≡ (step_line step).head ++ words_text sig (step_line step).words
-      whole = append_cancel_right line ((step_line step).head ++ words_text sig (step_line step).words) (codes "\n") (h.is ∙ sym (append_assoc (step_line step).head (words_text sig (step_line step).words) (codes "\n")))
+      whole = append_cancel_right line ((step_line step).head ++ words_text sig (step_line step).words)
+          (codes "\n") (h.is ∙ sym (append_assoc (step_line step).head (words_text sig (step_line step).words)
+          (codes "\n")))
 
       same : Same head (step_line step).head words (words_text sig (step_line step).words)
-      same = run_one Run head (step_line step).head words (words_text sig (step_line step).words) split.run (step_run step) split.stops (ends_stop (words_text sig (step_line step).words) (text_ends sig (step_line step).words)) (sym split.is ∙ whole)
+      same = run_one Run head (step_line step).head words (words_text sig (step_line step).words) split.run
+          (step_run step) split.stops
+          (ends_stop (words_text sig (step_line step).words) (text_ends sig (step_line step).words))
+          (sym split.is ∙ whole)
 
   pub line_found : (step : Step) → IsStepBehind sig head words step → IsStepLine sig line step
   line_found step h = record {
     stands = h.stand.stand;
     is = ap (λ z. z ++ codes "\n") split.is ∙ append_assoc head words (codes "\n")
-        ∙ ap (λ z. z ++ (words ++ codes "\n")) (sym h.named) ∙ ap (λ z. (step_line step).head ++ (z ++ codes "\n")) h.stand.is;
+        ∙ ap (λ z. z ++ (words ++ codes "\n")) (sym h.named)
+        ∙ ap (λ z. (step_line step).head ++ (z ++ codes "\n")) h.stand.is;
   }
 
   -- what is found after the name is what the line says

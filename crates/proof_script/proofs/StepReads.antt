@@ -6,9 +6,12 @@ use Rattle.term_core.specs.Tree.{Tree, var}
 use Rattle.spec_core.specs.Sig.{Sig}
 use Rattle.clause_core.specs.declared.steps.Place.{Place}
 use Rattle.clause_core.specs.declared.steps.Step.{Step}
-use Rattle.clause_core.specs.declared.steps.Step.TheVariants.{Trivial, Match, Absurd, Subsume, ByLemma, Rule, Case, Decompose, Clash, Drop, Solve, Cover, Generalize, Context, Hyp, Lemma}
+use Rattle.clause_core.specs.declared.steps.Step.TheVariants.{Trivial, Match, Absurd, Subsume, ByLemma, Rule, Case}
+use Rattle.clause_core.specs.declared.steps.Step.TheVariants.{Decompose, Clash, Drop, Solve, Cover, Generalize}
+use Rattle.clause_core.specs.declared.steps.Step.TheVariants.{Context, Hyp, Lemma}
 use Rattle.proof_script.specs.Delimiters.{is_delimiter, AllRun}
-use Rattle.proof_script.specs.Words.{Word, fixed, name, number, variable, equation, place, side, term, terms, patterns, Line, line_text}
+use Rattle.proof_script.specs.Words.{Word, fixed, name, number, variable, equation, place, side, term, terms, patterns}
+use Rattle.proof_script.specs.Words.{Line, line_text}
 use Rattle.proof_script.specs.Steps.{step_line}
 use Rattle.proof_script.specs.Standing.{StepStands}
 use Rattle.proof_script.proofs.Runs.{true_false}
@@ -28,7 +31,10 @@ runs_all (c ∷ cs) e = by (λ k. runs_all cs k) (is_delimiter c) refl e
     by next false h k = (h, next k)
 
 -- lines whose words have the same kinds
-pub same_words : (sig : Sig) → NamesDiffer sig → (l m : Line) (r s : List ℕ) → map kind_of l.words ≡ map kind_of m.words → AllByRecursion (Sound sig) l.words → AllByRecursion (Sound sig) m.words → AllRun l.head → AllRun m.head → line_text sig l ++ r ≡ line_text sig m ++ s → (l.words ≡ m.words) × (r ≡ s)
+pub same_words : (sig : Sig) → NamesDiffer sig → (l m : Line) (r s : List ℕ) →
+    map kind_of l.words ≡ map kind_of m.words → AllByRecursion (Sound sig) l.words →
+    AllByRecursion (Sound sig) m.words → AllRun l.head → AllRun m.head → line_text sig l ++ r ≡ line_text sig m
+    ++ s → (l.words ≡ m.words) × (r ≡ s)
 same_words sig d l m r s k p q x y e = words_reads sig d l.words m.words r s k p q (head_reads sig l m r s x y e).rest
 
 -- what a word holds
@@ -104,27 +110,82 @@ step_run (Context a0 a1 a2) = runs_all (step_line (Context a0 a1 a2)).head refl
 step_run (Hyp a0 a1 a2 a3) = runs_all (step_line (Hyp a0 a1 a2 a3)).head refl
 step_run (Lemma a0 a1 a2 a3) = runs_all (step_line (Lemma a0 a1 a2 a3)).head refl
 
-tags_same : (sig : Sig) (t u : Step) (r s : List ℕ) → line_text sig (step_line t) ++ r ≡ line_text sig (step_line u) ++ s → tag t ≡ tag u
-tags_same sig t u r s e = ap (λ bs. total bs) (head_reads sig (step_line t) (step_line u) r s (step_run t) (step_run u) e).text
+tags_same : (sig : Sig) (t u : Step) (r s : List ℕ) → line_text sig (step_line t)
+    ++ r ≡ line_text sig (step_line u) ++ s → tag t ≡ tag u
+tags_same sig t u r s e = ap (λ bs. total bs) (head_reads sig (step_line t) (step_line u) r s (step_run t)
+    (step_run u) e).text
 
-pub step_by : (sig : Sig) → NamesDiffer sig → (t u : Step) (r s : List ℕ) → StepStands sig t → StepStands sig u → line_text sig (step_line t) ++ r ≡ line_text sig (step_line u) ++ s → tag t ≡ tag u → (t ≡ u) × (r ≡ s)
-step_by sig d (Trivial a0) (Trivial b0) r s p q e k = let h = same_words sig d (step_line (Trivial a0)) (step_line (Trivial b0)) r s refl p q (runs_all (step_line (Trivial a0)).head refl) (runs_all (step_line (Trivial b0)).head refl) e in (ap (λ ws. Trivial (number_in (word_first ws))) h.0, h.1)
-step_by sig d (Match a0 a1) (Match b0 b1) r s p q e k = let h = same_words sig d (step_line (Match a0 a1)) (step_line (Match b0 b1)) r s refl p q (runs_all (step_line (Match a0 a1)).head refl) (runs_all (step_line (Match b0 b1)).head refl) e in (ap (λ ws. Match (number_in (word_first ws)) (number_in (word_second ws))) h.0, h.1)
-step_by sig d (Absurd a0) (Absurd b0) r s p q e k = let h = same_words sig d (step_line (Absurd a0)) (step_line (Absurd b0)) r s refl p q (runs_all (step_line (Absurd a0)).head refl) (runs_all (step_line (Absurd b0)).head refl) e in (ap (λ ws. Absurd (number_in (word_first ws))) h.0, h.1)
-step_by sig d (Subsume a0 a1) (Subsume b0 b1) r s p q e k = let h = same_words sig d (step_line (Subsume a0 a1)) (step_line (Subsume b0 b1)) r s refl p q (runs_all (step_line (Subsume a0 a1)).head refl) (runs_all (step_line (Subsume b0 b1)).head refl) e in (ap (λ ws. Subsume (number_in (word_first ws)) (terms_in (word_second ws))) h.0, h.1)
-step_by sig d (ByLemma a0 a1) (ByLemma b0 b1) r s p q e k = let h = same_words sig d (step_line (ByLemma a0 a1)) (step_line (ByLemma b0 b1)) r s refl p q (runs_all (step_line (ByLemma a0 a1)).head refl) (runs_all (step_line (ByLemma b0 b1)).head refl) e in (ap (λ ws. ByLemma (text_in (word_first ws)) (terms_in (word_second ws))) h.0, h.1)
-step_by sig d (Rule a0 a1) (Rule b0 b1) r s p q e k = let h = same_words sig d (step_line (Rule a0 a1)) (step_line (Rule b0 b1)) r s refl p q (runs_all (step_line (Rule a0 a1)).head refl) (runs_all (step_line (Rule b0 b1)).head refl) e in (ap (λ ws. Rule (place_in (word_first ws)) (number_in (word_second ws))) h.0, h.1)
-step_by sig d (Case a0 a1) (Case b0 b1) r s p q e k = let h = same_words sig d (step_line (Case a0 a1)) (step_line (Case b0 b1)) r s refl p q (runs_all (step_line (Case a0 a1)).head refl) (runs_all (step_line (Case b0 b1)).head refl) e in (ap (λ ws. Case (place_in (word_first ws)) (number_in (word_second ws))) h.0, h.1)
-step_by sig d (Decompose a0 a1) (Decompose b0 b1) r s p q e k = let h = same_words sig d (step_line (Decompose a0 a1)) (step_line (Decompose b0 b1)) r s refl p q (runs_all (step_line (Decompose a0 a1)).head refl) (runs_all (step_line (Decompose b0 b1)).head refl) e in (ap (λ ws. Decompose (flag_in (word_first ws)) (number_in (word_first ws))) h.0, h.1)
-step_by sig d (Clash a0) (Clash b0) r s p q e k = let h = same_words sig d (step_line (Clash a0)) (step_line (Clash b0)) r s refl p q (runs_all (step_line (Clash a0)).head refl) (runs_all (step_line (Clash b0)).head refl) e in (ap (λ ws. Clash (number_in (word_first ws))) h.0, h.1)
-step_by sig d (Drop a0 a1) (Drop b0 b1) r s p q e k = let h = same_words sig d (step_line (Drop a0 a1)) (step_line (Drop b0 b1)) r s refl p q (runs_all (step_line (Drop a0 a1)).head refl) (runs_all (step_line (Drop b0 b1)).head refl) e in (ap (λ ws. Drop (flag_in (word_first ws)) (number_in (word_first ws))) h.0, h.1)
-step_by sig d (Solve a0) (Solve b0) r s p q e k = let h = same_words sig d (step_line (Solve a0)) (step_line (Solve b0)) r s refl p q (runs_all (step_line (Solve a0)).head refl) (runs_all (step_line (Solve b0)).head refl) e in (ap (λ ws. Solve (number_in (word_first ws))) h.0, h.1)
-step_by sig d (Cover a0 a1) (Cover b0 b1) r s p q e k = let h = same_words sig d (step_line (Cover a0 a1)) (step_line (Cover b0 b1)) r s refl p q (runs_all (step_line (Cover a0 a1)).head refl) (runs_all (step_line (Cover b0 b1)).head refl) e in (ap (λ ws. Cover (record { 0 = number_in (word_first ws) }) (terms_in (word_second ws))) h.0, h.1)
-step_by sig d (Generalize a0) (Generalize b0) r s p q e k = let h = same_words sig d (step_line (Generalize a0)) (step_line (Generalize b0)) r s refl p q (runs_all (step_line (Generalize a0)).head refl) (runs_all (step_line (Generalize b0)).head refl) e in (ap (λ ws. Generalize (term_in (word_first ws))) h.0, h.1)
-step_by sig d (Context a0 a1 a2) (Context b0 b1 b2) r s p q e k = let h = same_words sig d (step_line (Context a0 a1 a2)) (step_line (Context b0 b1 b2)) r s refl p q (runs_all (step_line (Context a0 a1 a2)).head refl) (runs_all (step_line (Context b0 b1 b2)).head refl) e in (ap (λ ws. Context (place_in (word_first ws)) (number_in (word_second ws)) (flag_in (word_third ws))) h.0, h.1)
-step_by sig d (Hyp a0 a1 a2 a3) (Hyp b0 b1 b2 b3) r s p q e k = let h = same_words sig d (step_line (Hyp a0 a1 a2 a3)) (step_line (Hyp b0 b1 b2 b3)) r s refl p q (runs_all (step_line (Hyp a0 a1 a2 a3)).head refl) (runs_all (step_line (Hyp b0 b1 b2 b3)).head refl) e in (ap (λ ws. Hyp (number_in (word_first ws)) (terms_in (word_second ws)) (place_in (word_third ws)) (flag_in (word_fourth ws))) h.0, h.1)
-step_by sig d (Lemma a0 a1 a2 a3) (Lemma b0 b1 b2 b3) r s p q e k = let h = same_words sig d (step_line (Lemma a0 a1 a2 a3)) (step_line (Lemma b0 b1 b2 b3)) r s refl p q (runs_all (step_line (Lemma a0 a1 a2 a3)).head refl) (runs_all (step_line (Lemma b0 b1 b2 b3)).head refl) e in (ap (λ ws. Lemma (text_in (word_first ws)) (terms_in (word_second ws)) (place_in (word_third ws)) (flag_in (word_fourth ws))) h.0, h.1)
+pub step_by : (sig : Sig) → NamesDiffer sig → (t u : Step) (r s : List ℕ) → StepStands sig t →
+    StepStands sig u → line_text sig (step_line t) ++ r ≡ line_text sig (step_line u) ++ s → tag t ≡ tag u →
+    (t ≡ u) × (r ≡ s)
+step_by sig d (Trivial a0) (Trivial b0) r s p q e k = let h = same_words sig d (step_line (Trivial a0))
+    (step_line (Trivial b0)) r s refl p q (runs_all (step_line (Trivial a0)).head refl)
+    (runs_all (step_line (Trivial b0)).head refl) e in (ap (λ ws. Trivial (number_in (word_first ws))) h.0, h.1)
+step_by sig d (Match a0 a1) (Match b0 b1) r s p q e k = let h = same_words sig d (step_line (Match a0 a1))
+    (step_line (Match b0 b1)) r s refl p q (runs_all (step_line (Match a0 a1)).head refl)
+    (runs_all (step_line (Match b0 b1)).head refl) e in
+    (ap (λ ws. Match (number_in (word_first ws)) (number_in (word_second ws))) h.0, h.1)
+step_by sig d (Absurd a0) (Absurd b0) r s p q e k = let h = same_words sig d (step_line (Absurd a0))
+    (step_line (Absurd b0)) r s refl p q (runs_all (step_line (Absurd a0)).head refl)
+    (runs_all (step_line (Absurd b0)).head refl) e in (ap (λ ws. Absurd (number_in (word_first ws))) h.0, h.1)
+step_by sig d (Subsume a0 a1) (Subsume b0 b1) r s p q e k = let h = same_words sig d (step_line (Subsume a0 a1))
+    (step_line (Subsume b0 b1)) r s refl p q (runs_all (step_line (Subsume a0 a1)).head refl)
+    (runs_all (step_line (Subsume b0 b1)).head refl) e in
+    (ap (λ ws. Subsume (number_in (word_first ws)) (terms_in (word_second ws))) h.0, h.1)
+step_by sig d (ByLemma a0 a1) (ByLemma b0 b1) r s p q e k = let h = same_words sig d (step_line (ByLemma a0 a1))
+    (step_line (ByLemma b0 b1)) r s refl p q (runs_all (step_line (ByLemma a0 a1)).head refl)
+    (runs_all (step_line (ByLemma b0 b1)).head refl) e in
+    (ap (λ ws. ByLemma (text_in (word_first ws)) (terms_in (word_second ws))) h.0, h.1)
+step_by sig d (Rule a0 a1) (Rule b0 b1) r s p q e k = let h = same_words sig d (step_line (Rule a0 a1))
+    (step_line (Rule b0 b1)) r s refl p q (runs_all (step_line (Rule a0 a1)).head refl)
+    (runs_all (step_line (Rule b0 b1)).head refl) e in
+    (ap (λ ws. Rule (place_in (word_first ws)) (number_in (word_second ws))) h.0, h.1)
+step_by sig d (Case a0 a1) (Case b0 b1) r s p q e k = let h = same_words sig d (step_line (Case a0 a1))
+    (step_line (Case b0 b1)) r s refl p q (runs_all (step_line (Case a0 a1)).head refl)
+    (runs_all (step_line (Case b0 b1)).head refl) e in
+    (ap (λ ws. Case (place_in (word_first ws)) (number_in (word_second ws))) h.0, h.1)
+step_by sig d (Decompose a0 a1) (Decompose b0 b1) r s p q e k = let h = same_words sig d
+    (step_line (Decompose a0 a1)) (step_line (Decompose b0 b1)) r s refl p q
+    (runs_all (step_line (Decompose a0 a1)).head refl) (runs_all (step_line (Decompose b0 b1)).head refl) e in
+    (ap (λ ws. Decompose (flag_in (word_first ws)) (number_in (word_first ws))) h.0, h.1)
+step_by sig d (Clash a0) (Clash b0) r s p q e k = let h = same_words sig d (step_line (Clash a0))
+    (step_line (Clash b0)) r s refl p q (runs_all (step_line (Clash a0)).head refl)
+    (runs_all (step_line (Clash b0)).head refl) e in (ap (λ ws. Clash (number_in (word_first ws))) h.0, h.1)
+step_by sig d (Drop a0 a1) (Drop b0 b1) r s p q e k = let h = same_words sig d (step_line (Drop a0 a1))
+    (step_line (Drop b0 b1)) r s refl p q (runs_all (step_line (Drop a0 a1)).head refl)
+    (runs_all (step_line (Drop b0 b1)).head refl) e in
+    (ap (λ ws. Drop (flag_in (word_first ws)) (number_in (word_first ws))) h.0, h.1)
+step_by sig d (Solve a0) (Solve b0) r s p q e k = let h = same_words sig d (step_line (Solve a0))
+    (step_line (Solve b0)) r s refl p q (runs_all (step_line (Solve a0)).head refl)
+    (runs_all (step_line (Solve b0)).head refl) e in (ap (λ ws. Solve (number_in (word_first ws))) h.0, h.1)
+step_by sig d (Cover a0 a1) (Cover b0 b1) r s p q e k = let h = same_words sig d (step_line (Cover a0 a1))
+    (step_line (Cover b0 b1)) r s refl p q (runs_all (step_line (Cover a0 a1)).head refl)
+    (runs_all (step_line (Cover b0 b1)).head refl) e in
+    (ap (λ ws. Cover (record { 0 = number_in (word_first ws) }) (terms_in (word_second ws))) h.0, h.1)
+step_by sig d (Generalize a0) (Generalize b0) r s p q e k = let h = same_words sig d (step_line (Generalize a0))
+    (step_line (Generalize b0)) r s refl p q (runs_all (step_line (Generalize a0)).head refl)
+    (runs_all (step_line (Generalize b0)).head refl) e in (ap (λ ws. Generalize (term_in (word_first ws))) h.0, h.1)
+step_by sig d (Context a0 a1 a2) (Context b0 b1 b2) r s p q e k = let h = same_words sig d
+    (step_line (Context a0 a1 a2)) (step_line (Context b0 b1 b2)) r s refl p q
+    (runs_all (step_line (Context a0 a1 a2)).head refl) (runs_all (step_line (Context b0 b1 b2)).head refl) e in
+    (ap (λ ws. Context (place_in (word_first ws)) (number_in (word_second ws)) (flag_in (word_third ws))) h.0, h.1)
+step_by sig d (Hyp a0 a1 a2 a3) (Hyp b0 b1 b2 b3) r s p q e k = let h = same_words sig d
+    (step_line (Hyp a0 a1 a2 a3)) (step_line (Hyp b0 b1 b2 b3)) r s refl p q
+    (runs_all (step_line (Hyp a0 a1 a2 a3)).head refl) (runs_all (step_line (Hyp b0 b1 b2 b3)).head refl) e in (
+      ap (λ ws. Hyp (number_in (word_first ws)) (terms_in (word_second ws)) (place_in (word_third ws))
+          (flag_in (word_fourth ws))) h.0,
+      h.1,
+    )
+step_by sig d (Lemma a0 a1 a2 a3) (Lemma b0 b1 b2 b3) r s p q e k = let h = same_words sig d
+    (step_line (Lemma a0 a1 a2 a3)) (step_line (Lemma b0 b1 b2 b3)) r s refl p q
+    (runs_all (step_line (Lemma a0 a1 a2 a3)).head refl) (runs_all (step_line (Lemma b0 b1 b2 b3)).head refl)
+    e in (
+      ap (λ ws. Lemma (text_in (word_first ws)) (terms_in (word_second ws)) (place_in (word_third ws))
+          (flag_in (word_fourth ws))) h.0,
+      h.1,
+    )
 step_by sig d _ _ r s p q e k = absurd (omega (arith, k))
 
-pub step_reads : (sig : Sig) → NamesDiffer sig → (t u : Step) (r s : List ℕ) → StepStands sig t → StepStands sig u → line_text sig (step_line t) ++ r ≡ line_text sig (step_line u) ++ s → (t ≡ u) × (r ≡ s)
+pub step_reads : (sig : Sig) → NamesDiffer sig → (t u : Step) (r s : List ℕ) → StepStands sig t →
+    StepStands sig u → line_text sig (step_line t) ++ r ≡ line_text sig (step_line u) ++ s → (t ≡ u) × (r ≡ s)
 step_reads sig d t u r s p q e = step_by sig d t u r s p q e (tags_same sig t u r s e)

@@ -1,7 +1,9 @@
 -- The line of each step.
 use Rattle.std.specs.Prelude.{[], ◌∷◌, true, false, codes}
 use Rattle.clause_core.specs.declared.steps.Step.{Step}
-use Rattle.clause_core.specs.declared.steps.Step.TheVariants.{Trivial, Match, Absurd, Subsume, ByLemma, Rule, Case, Decompose, Clash, Drop, Solve, Cover, Generalize, Context, Hyp, Lemma}
+use Rattle.clause_core.specs.declared.steps.Step.TheVariants.{Trivial, Match, Absurd, Subsume, ByLemma, Rule, Case}
+use Rattle.clause_core.specs.declared.steps.Step.TheVariants.{Decompose, Clash, Drop, Solve, Cover, Generalize}
+use Rattle.clause_core.specs.declared.steps.Step.TheVariants.{Context, Hyp, Lemma}
 use Rattle.proof_script.specs.Words.{Line, name, number, variable, equation, place, side, term, terms, patterns}
 
 abbrev pub step_line : Step → Line

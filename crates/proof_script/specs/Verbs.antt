@@ -1,7 +1,9 @@
 -- What the line of a step begins with.
 use Rattle.std.specs.Prelude.{ℕ, List, codes}
 use Rattle.proof_script.specs.declared.verbs.Verb.{Verb}
-use Rattle.proof_script.specs.declared.verbs.Verb.TheVariants.{Trivial, Match, Absurd, Subsume, ByLemma, Rule, Case, Decompose, Clash, Drop, Solve, Cover, Generalize, Context, Hyp, Lemma}
+use Rattle.proof_script.specs.declared.verbs.Verb.TheVariants.{Trivial, Match, Absurd, Subsume, ByLemma, Rule, Case}
+use Rattle.proof_script.specs.declared.verbs.Verb.TheVariants.{Decompose, Clash, Drop, Solve, Cover, Generalize}
+use Rattle.proof_script.specs.declared.verbs.Verb.TheVariants.{Context, Hyp, Lemma}
 
 abbrev pub verb_text : Verb → List ℕ
 verb_text Trivial = codes "trivial"

@@ -3,7 +3,8 @@ use Rattle.std.specs.Prelude.{ℕ, List, []}
 use Rattle.term_core.specs.Tree.{Tree, Trees}
 use Rattle.spec_core.specs.Sig.{Sig}
 use Rattle.spec_core.specs.TermText.{term_text, others_text}
-use Rattle.proof_script.specs.Words.{Word, fixed, name, number, variable, equation, place, side, term, terms, patterns, other_patterns_text, pattern_text}
+use Rattle.proof_script.specs.Words.{Word, fixed, name, number, variable, equation, place, side, term, terms, patterns}
+use Rattle.proof_script.specs.Words.{other_patterns_text, pattern_text}
 use Rattle.proof_script.specs.declared.words.Word as written
 use Rattle.proof_script.specs.declared.words.Word.TheVariants as written_words
 use Rattle.proof_script.specs.declared.words.Variables.{Variables}

@@ -27,7 +27,8 @@ pub fn print_report(alloc: Global, sig: &Signature, report: &Report) -> Result<V
     Ok(text)
 }
 
-/// The first two lines of a report. `steps` is how many rule uses the evaluation of a side may cost.
+/// The first two lines of a report. `steps` is how many rule uses the evaluation of a side may
+/// cost.
 pub fn print_header(alloc: Global, sig: &Signature, steps: u32) -> Result<Vec<u8>, OutOfMemory>
     ensures { IfOk result (λ made. made.items ≡ lines_text sig.now (header_lines steps)) }
 {

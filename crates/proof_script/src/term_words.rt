@@ -4,7 +4,8 @@ ghost use Rattle.std.specs.Prelude.{ℕ, List, IfOk, MatchOption};
 ghost use Rattle.term_core.specs.Tree.{Tree};
 ghost use Rattle.spec_core.specs.Declarations.{IsDeclared};
 ghost use Rattle.proof_script.specs.LineWords.{IsWordAt};
-ghost use Rattle.proof_script.specs.Words.{patterns as pattern_list, term as one_term, terms as term_list};
+ghost use Rattle.proof_script.specs.Words.{patterns as pattern_list, term as one_term};
+ghost use Rattle.proof_script.specs.Words.{terms as term_list};
 
 use crate::term_lists::{MAX_DEPTH, read_list};
 use crate::terms::{Cursor, after, ends, read_term};

@@ -4,7 +4,8 @@ ghost use Rattle.std.specs.Prelude.{◌≡◌, ◌++◌, ◌↔◌, [], ◌∷�
 ghost use Rattle.term_core.specs.Tree.{Tree, Trees, var as variable, trees_of, list_of};
 ghost use Rattle.term_core.specs.Variables.{occurrences, occurrences_all};
 ghost use Rattle.spec_core.specs.Declarations.{IsDeclared};
-ghost use Rattle.proof_script.specs.Delimiters.{Ends, is_delimiter as delimits, is_end as is_end_byte};
+ghost use Rattle.proof_script.specs.Delimiters.{Ends, is_delimiter as delimits};
+ghost use Rattle.proof_script.specs.Delimiters.{is_end as is_end_byte};
 ghost use Rattle.proof_script.specs.Reading.{AreArgumentsAt, AreOthersAt, IsFirstWord, IsSymbol};
 ghost use Rattle.proof_script.specs.Reading.{CountFrom, IsTermAt, IsVariable, count_after};
 ghost use Rattle.proof_script.specs.Standing.{IsShort};

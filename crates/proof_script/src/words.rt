@@ -5,7 +5,8 @@ ghost use Rattle.std.specs.Fmt.{decimal};
 ghost use Rattle.std.specs.List.{AllByRecursion};
 ghost use Rattle.term_core.specs.Tree.{trees_of};
 ghost use Rattle.spec_core.specs.TermText.{SymbolsAreInRange, AllSymbolsAreInRange};
-ghost use Rattle.proof_script.specs.Words.{equation_text, in_brackets, line_text, other_patterns_text};
+ghost use Rattle.proof_script.specs.Words.{equation_text, in_brackets, line_text};
+ghost use Rattle.proof_script.specs.Words.{other_patterns_text};
 ghost use Rattle.proof_script.specs.Words.{pattern_text, place_text, with_commas, word_text};
 ghost use Rattle.proof_script.specs.Ranges.{WordIsInRange};
 ghost use Rattle.proof_script.specs.Written.{text_by, word_of};
@@ -13,7 +14,7 @@ ghost use Rattle.proof_script.specs.Written.{text_by, word_of};
 use clause_core::Place;
 use spec_core::{Signature, append_decimal};
 use std::alloc::Global;
-use term_core::{Name, TermNode, OutOfMemory, Term, front};
+use term_core::{Name, OutOfMemory, Term, TermNode, front};
 
 /// A word of a line.
 #[derive(Clone, Copy)]

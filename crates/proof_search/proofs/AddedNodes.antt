@@ -1,6 +1,7 @@
 -- What the children of a step add to a block that is built: their nodes, the number of their parent, and the places of
 -- their leading equations.
-use Rattle.std.proofs.Common.{◌≡◌, ℕ, ◌<◌, List, [], ◌∷◌, ◌++◌, ◌+◌, Option, map, take, length, get_or, refl, ap, sym, ◌∙◌, arith, append_assoc}
+use Rattle.std.proofs.Common.{◌≡◌, ℕ, ◌<◌, List, [], ◌∷◌, ◌++◌, ◌+◌, Option, map, take, length, get_or, refl, ap, sym}
+use Rattle.std.proofs.Common.{◌∙◌, arith, append_assoc}
 use Rattle.std.proofs.lemmas.List.{map-append}
 use Rattle.term_core.proofs.Items.{taken_next}
 use Rattle.clause_core.specs.declared.answers.Child.{Child}
@@ -45,7 +46,8 @@ pub record AddsChildren (old new : Building) (parent : ℕ) (children : List Chi
   pub sides : new.sides ≡ old.sides
 
 -- the next child of a step
-module _ (children : List Child) (i : ℕ) (child : Child) (lt : i < length children) (is : child ≡ get_or children i child) where
+module _ (children : List Child) (i : ℕ) (child : Child) (lt : i < length children)
+    (is : child ≡ get_or children i child) where
   next : take (i + 1) children ≡ take i children ++ child ∷ []
   next = taken_next children i child lt is
 

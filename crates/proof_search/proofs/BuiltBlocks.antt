@@ -1,5 +1,6 @@
 -- What the building of a block keeps from step to step, and what it says at its ends.
-use Rattle.std.proofs.Common.{◌≡◌, ℕ, zero, suc, ◌+◌, ◌<◌, ◌≤◌, List, [], ◌∷◌, ◌++◌, Some, None, Ok, map, refl, ap, sym, ◌∙◌, subst, arith, length, length-append}
+use Rattle.std.proofs.Common.{◌≡◌, ℕ, zero, suc, ◌+◌, ◌<◌, ◌≤◌, List, [], ◌∷◌, ◌++◌, Some, None, Ok, map, refl, ap}
+use Rattle.std.proofs.Common.{sym, ◌∙◌, subst, arith, length, length-append}
 use Rattle.std.specs.Prelude.{Option, slice_get, Contains}
 use Rattle.std.proofs.lemmas.List.{length-map, map-append}
 use Rattle.std.proofs.lemmas.Option.{none-some, same_Some}
@@ -33,9 +34,11 @@ use Rattle.proof_search.specs.declared.building.Building.{Building}
 use Rattle.proof_search.specs.Building.{nodes_in, IsWhole, Begins, Takes, child_nodes}
 use Rattle.proof_search.specs.declared.starting.Built.TheVariants.{Block, Not}
 use Rattle.proof_search.specs.Starting.{IsNext, AreLonger, BeginsWith, IsBlock}
-use Rattle.proof_search.proofs.Along.{OneChosen, BegunAt, Along, along_first, along_long, along_end, along_none, along_more}
+use Rattle.proof_search.proofs.Along.{OneChosen, BegunAt, Along, along_first, along_long, along_end, along_none}
+use Rattle.proof_search.proofs.Along.{along_more}
 use Rattle.proof_search.proofs.AddedNodes.{child_clauses}
-use Rattle.proof_search.proofs.BuiltNodes.{there, length_one, nodes_clauses, nodes_length, begins_whole, begins_nodes, takes_whole, takes_nodes}
+use Rattle.proof_search.proofs.BuiltNodes.{there, length_one, nodes_clauses, nodes_length, begins_whole, begins_nodes}
+use Rattle.proof_search.proofs.BuiltNodes.{takes_whole, takes_nodes}
 
 -- the clauses of children that can be nodes
 nodes_made :

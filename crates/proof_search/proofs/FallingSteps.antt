@@ -1,6 +1,7 @@
 -- The steps that rewrite a term by a clause, by the sides of its only conclusion. A side that the
 -- other one is above rewrites nothing to what is less.
-use Rattle.std.proofs.Common.{◌≡◌, zero, suc, List, [], ◌∷◌, ◌++◌, Bool, true, false, not, cond, Option, Some, None, inl, inr, ◌⊎◌, refl, ap, sym, ◌∙◌, subst, map, length}
+use Rattle.std.proofs.Common.{◌≡◌, zero, suc, List, [], ◌∷◌, ◌++◌, Bool, true, false, not, cond, Option, Some, None}
+use Rattle.std.proofs.Common.{inl, inr, ◌⊎◌, refl, ap, sym, ◌∙◌, subst, map, length}
 use Rattle.std.specs.Prelude.{slice_get, filter, is_some}
 use Rattle.std.proofs.lemmas.List.{append-nil}
 use Rattle.term_core.specs.Tree.{Tree, trees_of, instance}
@@ -29,7 +30,8 @@ use Rattle.proof_search.specs.declared.at.At.{At}
 use Rattle.proof_search.specs.declared.falling_sides.FallingSides.{FallingSides}
 use Rattle.proof_search.specs.Falling.{IsReferred, NeverRises}
 use Rattle.proof_search.specs.FallingSides.{MayFall, AreFalling, marked}
-use Rattle.proof_search.specs.Referring.{Target, rewriting_by, rewritings, rewritings_at, falling_rewriting, falling_rewritings}
+use Rattle.proof_search.specs.Referring.{Target, rewriting_by, rewritings, rewritings_at, falling_rewriting}
+use Rattle.proof_search.specs.Referring.{falling_rewritings}
 use Rattle.proof_search.specs.Taking.{IsAt, SaysAt}
 use Rattle.proof_search.proofs.LessSteps.{falling, sides_fall}
 

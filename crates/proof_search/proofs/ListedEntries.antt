@@ -13,14 +13,18 @@ use Rattle.clause_places.specs.Spots.{Spot, spots}
 use Rattle.routine_proof.specs.declared.moves.Move.{Move}
 use Rattle.routine_proof.specs.Blocks.{clauses}
 use Rattle.routine_proof.specs.Candidates.{Candidate, Gives, each}
-use Rattle.routine_proof.specs.Entries.{lemma_goals, clause_at, trivials, matches, absurds, premise_decompositions, clashes, solutions, rule_uses, conclusion_decompositions, subsumptions, lemma_instances, hypothesis_uses, lemma_uses, case_splits, demanded_covers, entries}
+use Rattle.routine_proof.specs.Entries.{lemma_goals, clause_at, trivials, matches, absurds, premise_decompositions}
+use Rattle.routine_proof.specs.Entries.{clashes, solutions, rule_uses, conclusion_decompositions, subsumptions}
+use Rattle.routine_proof.specs.Entries.{lemma_instances, hypothesis_uses, lemma_uses, case_splits, demanded_covers}
+use Rattle.routine_proof.specs.Entries.{entries}
 use Rattle.routine_proof.specs.First.{IsFirst}
 use Rattle.routine_proof.specs.Routine.{makes}
 use Rattle.routine_proof.specs.Ways.{Node, ancestors}
 use Rattle.routine_proof.proofs.Built.{clauses_at}
 use Rattle.proof_search.specs.declared.at.At.{At}
 use Rattle.proof_search.specs.Building.{nodes_in}
-use Rattle.proof_search.specs.Chosen.{ancestors_at, clause_of, subsumptions_by, lemma_instances_by, lemma_uses_by, candidates_of, all_entries}
+use Rattle.proof_search.specs.Chosen.{ancestors_at, clause_of, subsumptions_by, lemma_instances_by, lemma_uses_by}
+use Rattle.proof_search.specs.Chosen.{candidates_of, all_entries}
 use Rattle.proof_search.specs.Referring.{node, goal, closings, rewritings, rewritings_at}
 use Rattle.proof_search.specs.Settings.{named, lemma_goal}
 use Rattle.proof_search.specs.Starting.{IsListed}

@@ -1,6 +1,7 @@
 -- By a lemma that is an equation which permutes, what a step from the right side makes, one from
 -- the left side makes, too: by the instances of the terms that swap the sides.
-use Rattle.std.proofs.Common.{◌≡◌, ℕ, zero, suc, ◌<◌, List, [], ◌∷◌, ◌++◌, Bool, true, false, cond, Option, Some, None, Ok, inl, inr, refl, ap, sym, ◌∙◌, subst, arith, map, length, get_or}
+use Rattle.std.proofs.Common.{◌≡◌, ℕ, zero, suc, ◌<◌, List, [], ◌∷◌, ◌++◌, Bool, true, false, cond, Option, Some, None}
+use Rattle.std.proofs.Common.{Ok, inl, inr, refl, ap, sym, ◌∙◌, subst, arith, map, length, get_or}
 use Rattle.std.specs.Prelude.{slice_get}
 use Rattle.std.proofs.lemmas.List.{length-map}
 use Rattle.std.proofs.lemmas.Option.{get_or_from_slice_get, slice_get_within}
@@ -39,7 +40,8 @@ use Rattle.proof_search.specs.declared.at.At.{At}
 use Rattle.proof_search.specs.declared.falling_sides.FallingSides.{FallingSides}
 use Rattle.proof_search.specs.Falling.{IsReferred, IsGoalClause, NeverRises, AreSides}
 use Rattle.proof_search.specs.FallingSides.{KeepsLeft, Permutes, marked}
-use Rattle.proof_search.specs.Referring.{Target, node, goal, rewriting_by, rewriting_step, rewritings_at, falling_rewritings}
+use Rattle.proof_search.specs.Referring.{Target, node, goal, rewriting_by, rewriting_step, rewritings_at}
+use Rattle.proof_search.specs.Referring.{falling_rewritings}
 use Rattle.proof_search.specs.Taking.{IsAt, SaysAt}
 use Rattle.proof_search.proofs.FallingSteps.{by_sides, falling_variables, first_at_spot, instance_sorted}
 use Rattle.proof_search.proofs.LessSteps.{named_clause, never}

@@ -1,6 +1,7 @@
 -- The numbers of a function's rules stand for all rules if a rule of another function has no
 -- result.
-use Rattle.std.proofs.Common.{◌≡◌, ℕ, suc, ◌+◌, List, [], ◌∷◌, ◌++◌, Bool, true, false, cond, Some, None, Option, inl, inr, refl, subst, arith, length}
+use Rattle.std.proofs.Common.{◌≡◌, ℕ, suc, ◌+◌, List, [], ◌∷◌, ◌++◌, Bool, true, false, cond, Some, None, Option, inl}
+use Rattle.std.proofs.Common.{inr, refl, subst, arith, length}
 use Rattle.std.specs.Prelude.{slice_get}
 use Rattle.std.specs.List.{flat_map, range_with_len}
 use Rattle.spec_core.specs.declared.records.Rule.{Rule}

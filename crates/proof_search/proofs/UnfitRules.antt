@@ -1,6 +1,7 @@
 -- Rules whose left side becomes no term: none becomes a variable, and only those of a function
 -- become its call.
-use Rattle.std.proofs.Common.{◌≡◌, ℕ, suc, ◌+◌, ◌<◌, ◌≤◌, ◌⊎◌, List, true, false, Option, Some, None, inl, inr, ap, sym, ◌∙◌, subst, arith, length, get_or}
+use Rattle.std.proofs.Common.{◌≡◌, ℕ, suc, ◌+◌, ◌<◌, ◌≤◌, ◌⊎◌, List, true, false, Option, Some, None, inl, inr, ap}
+use Rattle.std.proofs.Common.{sym, ◌∙◌, subst, arith, length, get_or}
 use Rattle.std.specs.Prelude.{MatchOption, is_some, slice_get}
 use Rattle.std.proofs.lemmas.Option.{slice_get_within, get_or_from_slice_get}
 use Rattle.term_core.specs.Tree.{Tree, Trees, var, app}

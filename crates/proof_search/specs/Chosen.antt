@@ -3,11 +3,16 @@ use Rattle.std.specs.Prelude.{ℕ, List, [], ◌∷◌, option_to_list, slice_ge
 use Rattle.clause_core.specs.declared.clauses.Clause.{Clause}
 use Rattle.inference_rules.specs.Answers.{clauses_of}
 use Rattle.routine_proof.specs.Candidates.{Candidate, each}
-use Rattle.routine_proof.specs.Entries.{trivials, matches, absurds, premise_decompositions, clashes, solutions, rule_uses, conclusion_decompositions, case_splits, demanded_covers}
+use Rattle.routine_proof.specs.Entries.{trivials, matches, absurds, premise_decompositions, clashes, solutions}
+use Rattle.routine_proof.specs.Entries.{rule_uses, conclusion_decompositions, case_splits, demanded_covers}
 use Rattle.routine_proof.specs.Ways.{Node, ancestors}
 use Rattle.proof_search.specs.declared.at.At.{At}
 use Rattle.proof_search.specs.declared.choosing.Entry.{Entry}
-use Rattle.proof_search.specs.declared.choosing.Entry.TheVariants.{Trivials, Matches, Absurds, PremiseDecompositions, Clashes, Solutions, RuleUses, ConclusionDecompositions, Subsumptions, LemmaInstances, HypothesisUses, LemmaUses, CaseSplits, DemandedCovers}
+use Rattle.proof_search.specs.declared.choosing.Entry.TheVariants.{Trivials, Matches, Absurds, PremiseDecompositions}
+use Rattle.proof_search.specs.declared.choosing.Entry.TheVariants.{Clashes, Solutions, RuleUses}
+use Rattle.proof_search.specs.declared.choosing.Entry.TheVariants.{ConclusionDecompositions, Subsumptions}
+use Rattle.proof_search.specs.declared.choosing.Entry.TheVariants.{LemmaInstances, HypothesisUses, LemmaUses}
+use Rattle.proof_search.specs.declared.choosing.Entry.TheVariants.{CaseSplits, DemandedCovers}
 use Rattle.proof_search.specs.declared.setting.LemmaGoal.{LemmaGoal}
 use Rattle.proof_search.specs.Building.{nodes_in}
 use Rattle.proof_search.specs.Referring.{node, goal, closings, rewritings}

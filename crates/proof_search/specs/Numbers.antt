@@ -4,10 +4,13 @@ use Rattle.std.specs.List.{range_with_len}
 use Rattle.spec_core.specs.declared.records.Equation.{Equation}
 use Rattle.clause_core.specs.declared.clauses.Clause.{Clause}
 use Rattle.clause_core.specs.declared.steps.Step.{Step}
-use Rattle.clause_core.specs.declared.steps.Step.TheVariants.{Trivial as trivial, Match as match_by, Absurd as absurd_premise, Decompose as decompose, Clash as clash, Solve as solve}
+use Rattle.clause_core.specs.declared.steps.Step.TheVariants.{Trivial as trivial, Match as match_by}
+use Rattle.clause_core.specs.declared.steps.Step.TheVariants.{Absurd as absurd_premise, Decompose as decompose}
+use Rattle.clause_core.specs.declared.steps.Step.TheVariants.{Clash as clash, Solve as solve}
 use Rattle.routine_proof.specs.Candidates.{Candidate, certain, each}
 use Rattle.proof_search.specs.declared.numbered.Numbered.{Numbered}
-use Rattle.proof_search.specs.declared.numbered.Numbered.TheVariants.{Trivial, Match, Absurd, DecomposePremise, Clash, Solve, DecomposeConclusion}
+use Rattle.proof_search.specs.declared.numbered.Numbered.TheVariants.{Trivial, Match, Absurd, DecomposePremise, Clash}
+use Rattle.proof_search.specs.declared.numbered.Numbered.TheVariants.{Solve, DecomposeConclusion}
 
 abbrev pub step_of : Numbered → ℕ → Step
 step_of Trivial k = trivial k

@@ -91,8 +91,8 @@ impl<'a> At<'a> {
         }
     }
 
-    /// Whether an equation at this place of another clause may become one of the node's of its kind,
-    /// as written or swapped, by their spines.
+    /// Whether an equation at this place of another clause may become one of the node's of its
+    /// kind, as written or swapped, by their spines.
     pub(crate) fn may_close(&self, place: &Option<LeadingPlace>) -> bool
         requires { IsAt self.now }
         ensures { IsTrue result ↔ MayClose self.now.here.now place.now }

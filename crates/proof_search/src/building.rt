@@ -1,7 +1,8 @@
 //! A block that is being built, and the ancestors of a node.
 
 ghost use Rattle.std.specs.Prelude.{◌≡◌, ◌<◌, ◌^◌, Some, IfOk, OnOk, length, slice_get};
-ghost use Rattle.routine_proof.specs.Ways.{Node as WayNode, ancestors as ancestors_of, is_cover as is_cover_of};
+ghost use Rattle.routine_proof.specs.Ways.{Node as WayNode, ancestors as ancestors_of};
+ghost use Rattle.routine_proof.specs.Ways.{is_cover as is_cover_of};
 ghost use Rattle.proof_search.specs.Building.{IsWhole, nodes_in, Begins, Takes};
 ghost use Rattle.proof_search.specs.FallingSides.{AreFalling};
 

@@ -4,7 +4,8 @@ ghost use Rattle.std.specs.Prelude.{◌≡◌, ◌↔◌, IsTrue, [], ◌∷◌,
 ghost use Rattle.spec_core.specs.declared.records.Equation.{Equation as EquationOf};
 ghost use Rattle.fitting_lists.specs.Answering.{AreVariables};
 ghost use Rattle.fitting_lists.specs.Fitting.{both_sides};
-ghost use Rattle.proof_search.specs.FallingSides.{AreFalling, AreLemmaSides, HasSorts, MayFall, Permutes, marked};
+ghost use Rattle.proof_search.specs.FallingSides.{AreFalling, AreLemmaSides, HasSorts, MayFall};
+ghost use Rattle.proof_search.specs.FallingSides.{Permutes, marked};
 
 use clause_core::Clause;
 use fitting_lists::{Matcher, has_all_variables};

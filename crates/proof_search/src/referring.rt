@@ -8,7 +8,8 @@ ghost use Rattle.routine_proof.specs.Candidates.{each};
 ghost use Rattle.proof_search.specs.Chosen.{ancestors_at, subsumptions_by, lemma_instances_by};
 ghost use Rattle.proof_search.specs.Leading.{IsLeading};
 ghost use Rattle.proof_search.specs.Taking.{IsAt, IsFound, asks_of};
-ghost use Rattle.proof_search.specs.Referring.{target_of, closing_step, closing_asks, rewriting_step, closings, closing, closing_pair};
+ghost use Rattle.proof_search.specs.Referring.{target_of, closing_step, closing_asks};
+ghost use Rattle.proof_search.specs.Referring.{rewriting_step, closings, closing, closing_pair};
 ghost use Rattle.proof_search.specs.SideSpines.{spines_of, side_spines};
 
 use crate::at::{Asked, At, taken};

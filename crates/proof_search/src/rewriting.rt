@@ -8,8 +8,10 @@ ghost use Rattle.fitting_lists.specs.Spines.{spine_of, missing_in};
 ghost use Rattle.routine_proof.specs.Candidates.{all_less, each};
 ghost use Rattle.proof_search.specs.Chosen.{clause_of, lemma_uses_by};
 ghost use Rattle.proof_search.specs.FallingSides.{KeepsSides, marked};
-ghost use Rattle.proof_search.specs.Taking.{IsAt, IsThere, IsTaken, IsFound, SaysAt, place_of, term_of};
-ghost use Rattle.proof_search.specs.Referring.{node, target_of, rewritings, falling_rewriting, falling_rewritings, rewriting_step as step_by};
+ghost use Rattle.proof_search.specs.Taking.{IsAt, IsThere, IsTaken, IsFound, SaysAt, place_of};
+ghost use Rattle.proof_search.specs.Taking.{term_of};
+ghost use Rattle.proof_search.specs.Referring.{node, target_of, rewritings, falling_rewriting};
+ghost use Rattle.proof_search.specs.Referring.{falling_rewritings, rewriting_step as step_by};
 ghost use Rattle.proof_search.specs.Falling.{IsReferred, CanRewrite, AreSides, SideFits};
 ghost use Rattle.proof_search.specs.SideSpines.{side_spines};
 

@@ -15,7 +15,7 @@ use clause_core::{Place, Step};
 use clause_places::places_are_there;
 use routine_proof::Move;
 use std::alloc::Global;
-use term_core::{TermNode, OutOfMemory, Term};
+use term_core::{OutOfMemory, Term, TermNode};
 use term_order::TermOrder;
 
 /// The entries of the list that rewrite the term at a place by rules.

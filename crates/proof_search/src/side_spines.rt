@@ -1,7 +1,8 @@
 //! The spines of an equation's sides, and whether they may become others.
 
 ghost use Rattle.std.specs.Prelude.{◌≡◌, ◌↔◌, IsTrue, IfOk};
-ghost use Rattle.proof_search.specs.SideSpines.{side_spines, listed_spines, SidesMayBecome, MayBecomeEither};
+ghost use Rattle.proof_search.specs.SideSpines.{side_spines, listed_spines, SidesMayBecome};
+ghost use Rattle.proof_search.specs.SideSpines.{MayBecomeEither};
 ghost use Rattle.proof_search.specs.Leading.{kept_spines};
 
 use fitting_lists::{LeadingPlace, Spine};

@@ -1,5 +1,6 @@
 -- A block that is taken is whole, and is shown as the block that its steps make.
-use Rattle.std.proofs.Common.{◌≡◌, ◌<◌, ◌+◌, ℕ, zero, suc, List, [], ◌∷◌, Option, Some, None, refl, sym, ◌∙◌, ap, subst, arith}
+use Rattle.std.proofs.Common.{◌≡◌, ◌<◌, ◌+◌, ℕ, zero, suc, List, [], ◌∷◌, Option, Some, None, refl, sym, ◌∙◌, ap}
+use Rattle.std.proofs.Common.{subst, arith}
 use Rattle.std.proofs.Common.{add-one, length, map, take}
 use Rattle.std.specs.Prelude.{◌||◌, nat_lt, option_map, slice_get}
 use Rattle.std.proofs.lemmas.List.{length-map}

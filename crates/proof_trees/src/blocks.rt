@@ -5,8 +5,10 @@ ghost use Rattle.acceptance.specs.Strict.{first_child as first_child_of};
 ghost use Rattle.page_core.specs.Pages.{after};
 ghost use Rattle.proof_trees.specs.Blocks.{IsWhole, block_of};
 ghost use Rattle.proof_trees.specs.Nodes.{heading_events, names_at as names_of_node};
-ghost use Rattle.proof_trees.specs.Nodes.{node_events, outline, pattern_names as names_of_pattern, premise_count as count_premises};
-ghost use Rattle.proof_trees.specs.Nodes.{referred_names as names_referred_to, shown_case, shown_clause, shown_step, step_mark};
+ghost use Rattle.proof_trees.specs.Nodes.{node_events, outline, pattern_names as names_of_pattern};
+ghost use Rattle.proof_trees.specs.Nodes.{premise_count as count_premises};
+ghost use Rattle.proof_trees.specs.Nodes.{referred_names as names_referred_to, shown_case};
+ghost use Rattle.proof_trees.specs.Nodes.{shown_clause, shown_step, step_mark};
 
 use clause_core::{Children, Step};
 use inference_rules::Node;

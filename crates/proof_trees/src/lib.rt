@@ -5,9 +5,9 @@
 //! the root down, and `specs/Nodes.antt` what is written of each node and over each case.
 //!
 //! Proved: `draw_proof`, for every order: what it draws is the block that the steps make by the
-//! table from the goal's clause, down from its first node: the clause of each node with the place of
-//! its step marked, by names that tell its variables apart, the words of its step, and then all its
-//! children, with cases around all that follows from them (`specs/Shown.antt`).
+//! table from the goal's clause, down from its first node: the clause of each node with the place
+//! of its step marked, by names that tell its variables apart, the words of its step, and then all
+//! its children, with cases around all that follows from them (`specs/Shown.antt`).
 //!
 //! Tested: That each node of a block is drawn once (`tests/page`).
 #![tactic(auto, using(page_core::proofs::Pages::drawing))]

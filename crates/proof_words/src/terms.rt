@@ -9,7 +9,7 @@ ghost use Rattle.proof_words.specs.TermEvents.{style_of as style_with, term_even
 
 use crate::naming::{Naming, draw_variable, symbol_name};
 use page_core::{Page, Style};
-use term_core::{TermNode, OutOfMemory, Term, front};
+use term_core::{OutOfMemory, Term, TermNode, front};
 
 /// What is written for a term that isn't shown: `…`.
 const OMITTED: &[u8] = b"\xe2\x80\xa6";

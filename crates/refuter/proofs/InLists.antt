@@ -1,5 +1,6 @@
 -- What is in a list that is made of other lists.
-use Rattle.std.proofs.Common.{◌≡◌, List, [], ◌∷◌, ◌++◌, Bool, true, false, cond, Some, None, ◌⊎◌, inl, inr, refl, ap, sym, ◌∙◌, subst}
+use Rattle.std.proofs.Common.{◌≡◌, List, [], ◌∷◌, ◌++◌, Bool, true, false, cond, Some, None, ◌⊎◌, inl, inr, refl, ap}
+use Rattle.std.proofs.Common.{sym, ◌∙◌, subst}
 use Rattle.std.specs.Prelude.{filter, map, slice_get}
 use Rattle.std.specs.List.{flat_map}
 use Rattle.std.proofs.lemmas.List.Elements.{Contains-append_left, Contains-append_right, Contains-append_cases}
@@ -43,7 +44,8 @@ in_filter p [] x a e = a
 in_filter p (y ∷ xs) x (inl k) e = kept (p y) y x (filter p xs) (ap p (sym k) ∙ e) (inl k)
 in_filter p (y ∷ xs) x (inr a) e = kept_later (p y) y x (filter p xs) (in_filter p xs x a e)
 
-kept_cases : {X : Type 0} (b : Bool) (y x : X) (xs : List X) → In x (cond b (y ∷ xs) xs) → ((b ≡ true) × (x ≡ y)) ⊎ In x xs
+kept_cases : {X : Type 0} (b : Bool) (y x : X) (xs : List X) → In x (cond b (y ∷ xs) xs) →
+    ((b ≡ true) × (x ≡ y)) ⊎ In x xs
 kept_cases true y x xs (inl e) = inl (refl, e)
 kept_cases true y x xs (inr a) = inr a
 kept_cases false y x xs a = inr a
@@ -70,12 +72,14 @@ map_parts f (x ∷ xs) y (inr a) =
     let w = map_parts f xs y a in
     (w.0, inr w.1, w.2)
 
-pub in_flat_map : {X Y : Type 0} (f : X → List Y) (xs : List X) (x : X) (y : Y) → In x xs → In y (f x) → In y (flat_map f xs)
+pub in_flat_map : {X Y : Type 0} (f : X → List Y) (xs : List X) (x : X) (y : Y) → In x xs → In y (f x) →
+    In y (flat_map f xs)
 in_flat_map f [] x y a b = absurd a
 in_flat_map f (z ∷ xs) x y (inl e) b = in_left (f z) (flat_map f xs) y (subst (λ k. In y (f k)) e b)
 in_flat_map f (z ∷ xs) x y (inr a) b = in_right (f z) (flat_map f xs) y (in_flat_map f xs x y a b)
 
-pub flat_map_parts : {X Y : Type 0} (f : X → List Y) (xs : List X) (y : Y) → In y (flat_map f xs) → (x : X) × In x xs × In y (f x)
+pub flat_map_parts : {X Y : Type 0} (f : X → List Y) (xs : List X) (y : Y) → In y (flat_map f xs) →
+    (x : X) × In x xs × In y (f x)
 flat_map_parts f [] y a = absurd a
 flat_map_parts f (x ∷ xs) y a = elim (in_either (f x) (flat_map f xs) y a) [
   | inl b ↦ (x, inl refl, b)
@@ -85,7 +89,8 @@ flat_map_parts f (x ∷ xs) y a = elim (in_either (f x) (flat_map f xs) y a) [
 ]
 
 -- a row that begins with a term is one of the rows that begin with that term
-pub begun_parts : (f : Tree → List (List Tree)) (ts : List Tree) (t : Tree) (r : List Tree) → In (t ∷ r) (flat_map (λ u. map (λ x. u ∷ x) (f u)) ts) → In t ts × In r (f t)
+pub begun_parts : (f : Tree → List (List Tree)) (ts : List Tree) (t : Tree) (r : List Tree) →
+    In (t ∷ r) (flat_map (λ u. map (λ x. u ∷ x) (f u)) ts) → In t ts × In r (f t)
 begun_parts f ts t r a =
     let w = flat_map_parts (λ u. map (λ x. u ∷ x) (f u)) ts (t ∷ r) a in
     let v = map_parts (λ x. w.0 ∷ x) (f w.0) (t ∷ r) w.2 in
@@ -94,13 +99,16 @@ begun_parts f ts t r a =
     let k : v.0 ≡ r = cc in
     (subst (λ x. In x ts) e w.1, subst (λ x. In r (f x)) e (subst (λ x. In x (f w.0)) k v.1))
 
-pub in_begun : (f : Tree → List (List Tree)) (ts : List Tree) (t : Tree) (r : List Tree) → In t ts → In r (f t) → In (t ∷ r) (flat_map (λ u. map (λ x. u ∷ x) (f u)) ts)
+pub in_begun : (f : Tree → List (List Tree)) (ts : List Tree) (t : Tree) (r : List Tree) → In t ts →
+    In r (f t) → In (t ∷ r) (flat_map (λ u. map (λ x. u ∷ x) (f u)) ts)
 in_begun f ts t r a b = in_flat_map (λ u. map (λ x. u ∷ x) (f u)) ts t (t ∷ r) a (in_map (λ x. t ∷ x) (f t) r b)
 
 -- rows of members of larger lists
-pub product_more : (V W : SortId → List Tree) → ((s : SortId) (t : Tree) → In t (V s) → In t (W s)) → (ss : List SortId) (r : List Tree) → In r (product (map V ss)) → In r (product (map W ss))
+pub product_more : (V W : SortId → List Tree) → ((s : SortId) (t : Tree) → In t (V s) → In t (W s)) →
+    (ss : List SortId) (r : List Tree) → In r (product (map V ss)) → In r (product (map W ss))
 product_more V W h [] r a = a
 product_more V W h (s ∷ ss) r a =
     let w = flat_map_parts (λ u. map (λ x. u ∷ x) (product (map V ss))) (V s) r a in
     let v = map_parts (λ x. w.0 ∷ x) (product (map V ss)) r w.2 in
-    subst (λ x. In x (product (map W (s ∷ ss)))) v.2 (in_begun (λ u. product (map W ss)) (W s) w.0 v.0 (h s w.0 w.1) (product_more V W h ss v.0 v.1))
+    subst (λ x. In x (product (map W (s ∷ ss)))) v.2
+    (in_begun (λ u. product (map W ss)) (W s) w.0 v.0 (h s w.0 w.1) (product_more V W h ss v.0 v.1))

@@ -1,5 +1,6 @@
 -- Sums of the first numbers of a sequence, and what a cap leaves of them.
-use Rattle.std.proofs.Common.{◌≡◌, ◌≢◌, ℕ, zero, suc, ◌+◌, ◌*◌, ◌<◌, ◌≤◌, min, eqb, true, false, inl, inr, refl, ap, sym, ◌∙◌, arith}
+use Rattle.std.proofs.Common.{◌≡◌, ◌≢◌, ℕ, zero, suc, ◌+◌, ◌*◌, ◌<◌, ◌≤◌, min, eqb, true, false, inl, inr, refl, ap}
+use Rattle.std.proofs.Common.{sym, ◌∙◌, arith}
 use Rattle.std.specs.Prelude.{if◌then◌else◌, ◌==◌}
 use Rattle.std.proofs.Math.Nat.{mul-zero, zero-mul, add-mul, one-mul, mul-one, mul_comm}
 use Rattle.std.proofs.lemmas.Nat.{mul-le}
@@ -38,7 +39,8 @@ module _ (f g : ℕ → ℕ) where
   sums_add (suc m) = omega (arith, sums_add m)
 
   -- sums are the same up to a cap if their summands are
-  pub sums_capped : (cap m : ℕ) → ((i : ℕ) → i < m → min (f i) cap ≡ min (g i) cap) → min (sum_below m f) cap ≡ min (sum_below m g) cap
+  pub sums_capped : (cap m : ℕ) → ((i : ℕ) → i < m → min (f i) cap ≡ min (g i) cap) →
+      min (sum_below m f) cap ≡ min (sum_below m g) cap
   unfolding sum_below
   sums_capped cap zero h = refl
   sums_capped cap (suc m) h = omega (arith, sums_capped cap m (λ i l. h i (omega arith)), h m (omega arith))
@@ -50,7 +52,8 @@ sum_zero f (suc m) h = omega (arith, sum_zero f m (λ i l. h i (omega arith)), h
 
 -- of the products with 1 at one place one is left, or none if the place isn't among the first
 pub sum_without : (h : ℕ → ℕ) (k m : ℕ) → m ≤ k → sum_below m (λ i. one_at k i * h i) ≡ 0
-sum_without h k m l = sum_zero (λ i. one_at k i * h i) m (λ i b. ap (λ n. n * h i) (at_other k i (λ q. omega arith)) ∙ zero-mul (h i))
+sum_without h k m l = sum_zero (λ i. one_at k i * h i) m
+    (λ i b. ap (λ n. n * h i) (at_other k i (λ q. omega arith)) ∙ zero-mul (h i))
 
 pub sum_one : (h : ℕ → ℕ) (k m : ℕ) → k < m → sum_below m (λ i. one_at k i * h i) ≡ h k
 unfolding sum_below
@@ -66,8 +69,10 @@ sum_one h k (suc m) l =
           omega (arith, sum_one h k m (omega arith), a)
     ]
 
-pub sums_more : (f g h : ℕ → ℕ) (m : ℕ) → sum_below m (λ i. (f i + g i) * h i) ≡ sum_below m (λ i. f i * h i) + sum_below m (λ i. g i * h i)
-sums_more f g h m = sums_same (λ i. (f i + g i) * h i) (λ i. f i * h i + g i * h i) m (λ i l. add-mul (f i) (g i) (h i)) ∙ sums_add (λ i. f i * h i) (λ i. g i * h i) m
+pub sums_more : (f g h : ℕ → ℕ) (m : ℕ) → sum_below m (λ i. (f i + g i) * h i) ≡ sum_below m (λ i. f i * h i) +
+    sum_below m (λ i. g i * h i)
+sums_more f g h m = sums_same (λ i. (f i + g i) * h i) (λ i. f i * h i + g i * h i) m
+    (λ i l. add-mul (f i) (g i) (h i)) ∙ sums_add (λ i. f i * h i) (λ i. g i * h i) m
 
 -- a product with a number of which the cap says all
 product_capped_left : (a b cap : ℕ) → min (min a cap * b) cap ≡ min (a * b) cap
@@ -86,7 +91,8 @@ product_capped_left a (suc b) cap =
 
 pub product_capped : (a b cap : ℕ) → min (min a cap * min b cap) cap ≡ min (a * b) cap
 product_capped a b cap =
-    product_capped_left a (min b cap) cap ∙ ap (λ n. min n cap) (mul_comm a (min b cap)) ∙ product_capped_left b a cap ∙ ap (λ n. min n cap) (mul_comm b a)
+    product_capped_left a (min b cap) cap ∙ ap (λ n. min n cap) (mul_comm a (min b cap))
+    ∙ product_capped_left b a cap ∙ ap (λ n. min n cap) (mul_comm b a)
 
 pub sum_more : (f : ℕ → ℕ) (m : ℕ) → sum_below (m + 1) f ≡ sum_below m f + f m
 unfolding sum_below

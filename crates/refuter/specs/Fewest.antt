@@ -1,5 +1,6 @@
 -- The fewest symbols of a value of a sort with at most a depth.
-use Rattle.std.specs.Prelude.{◌≡◌, ℕ, zero, suc, ◌+◌, ◌-◌, ◌<◌, min, nat_le, if◌then◌else◌, List, [], ◌∷◌, Some, length, slice_get, slice_index}
+use Rattle.std.specs.Prelude.{◌≡◌, ℕ, zero, suc, ◌+◌, ◌-◌, ◌<◌, min, nat_le, if◌then◌else◌, List, [], ◌∷◌, Some}
+use Rattle.std.specs.Prelude.{length, slice_get, slice_index}
 use Rattle.term_core.specs.declared.ids.SortId.{SortId}
 use Rattle.spec_core.specs.Sig.{Sig, IsSort}
 use Rattle.spec_core.specs.Order.{constructors_of}

@@ -1,10 +1,12 @@
 //! `count`: how many values a sort has.
 
-ghost use Rattle.std.specs.Prelude.{◌≡◌, ◌<◌, ◌≤◌, ◌+◌, ◌-◌, ◌*◌, ◌^◌, ℕ, [], ◌∷◌, IfOk, min, length, slice_index};
+ghost use Rattle.std.specs.Prelude.{◌≡◌, ◌<◌, ◌≤◌, ◌+◌, ◌-◌, ◌*◌, ◌^◌, ℕ, [], ◌∷◌, IfOk, min};
+ghost use Rattle.std.specs.Prelude.{length, slice_index};
 ghost use Rattle.std.specs.List.{AllByRecursion};
 ghost use Rattle.spec_core.specs.Sig.{IsSort, SortsAreInRange};
 ghost use Rattle.spec_core.specs.Order.{values};
-ghost use Rattle.refuter.specs.Counts.{IsCapped, counted, rows_of_size, value_rows_of_size, values_of_size};
+ghost use Rattle.refuter.specs.Counts.{IsCapped, counted, rows_of_size, value_rows_of_size};
+ghost use Rattle.refuter.specs.Counts.{values_of_size};
 ghost use Rattle.refuter.specs.Sequences.{convolution};
 
 use crate::fewest::MOST_SYMBOLS;

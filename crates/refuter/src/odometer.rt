@@ -1,6 +1,7 @@
 //! From a row of values to the next, by their places.
 
-ghost use Rattle.std.specs.Prelude.{◌≡◌, ◌+◌, ◌<◌, ◌≤◌, IfOk, OnOk, List, length, slice_get, take, drop};
+ghost use Rattle.std.specs.Prelude.{◌≡◌, ◌+◌, ◌<◌, ◌≤◌, IfOk, OnOk, List, length, slice_get, take};
+ghost use Rattle.std.specs.Prelude.{drop};
 ghost use Rattle.std.specs.List.{AllByRecursion, Contains};
 ghost use Rattle.term_core.specs.Tree.{Tree, trees_of};
 ghost use Rattle.spec_core.specs.Sig.{IsSort, SortsAreInRange};

@@ -1,6 +1,7 @@
 //! A bank that keeps the numbers of symbols of its values.
 
-ghost use Rattle.std.specs.Prelude.{◌≡◌, ◌+◌, ◌<◌, ◌≤◌, min, ℕ, List, [], Some, IfOk, OnOk, length, map, slice_get};
+ghost use Rattle.std.specs.Prelude.{◌≡◌, ◌+◌, ◌<◌, ◌≤◌, min, ℕ, List, [], Some, IfOk, OnOk, length};
+ghost use Rattle.std.specs.Prelude.{map, slice_get};
 ghost use Rattle.std.specs.List.{AllByRecursion};
 ghost use Rattle.term_core.specs.Tree.{Tree, tree_size, sizes, trees_of};
 ghost use Rattle.spec_core.specs.WellSorted.{IsWellSorted};

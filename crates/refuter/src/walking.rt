@@ -1,6 +1,7 @@
 //! The walk over substitutions that begin alike.
 
-ghost use Rattle.std.specs.Prelude.{◌≡◌, ◌+◌, ◌*◌, ◌^◌, ◌<◌, ◌≤◌, ◌++◌, max, List, Some, None, IfOk, OnOk, IfSome, length, slice_get};
+ghost use Rattle.std.specs.Prelude.{◌≡◌, ◌+◌, ◌*◌, ◌^◌, ◌<◌, ◌≤◌, ◌++◌, max, List, Some, None};
+ghost use Rattle.std.specs.Prelude.{IfOk, OnOk, IfSome, length, slice_get};
 ghost use Rattle.term_core.specs.Tree.{Tree, trees_of};
 ghost use Rattle.term_core.specs.declared.ids.SortId.{SortId as SortIdOf};
 ghost use Rattle.spec_core.specs.WellSorted.{sorts_of};
@@ -16,7 +17,8 @@ ghost use Rattle.refuter.specs.Looks.{IsAnswerOf, IsTally};
 ghost use Rattle.refuter.specs.Sizes.{CanRead};
 ghost use Rattle.refuter.specs.Tables.{AreRightTables};
 ghost use Rattle.refuter.specs.Memory.{most_cells, HasAtMost, LeavesFew};
-ghost use Rattle.refuter.specs.Walk.{spec_of, goal_of, IsWalk, AreKept, HasBegun, HasRows, HaveVerdict, Knows, LooksAt, StandsAgain};
+ghost use Rattle.refuter.specs.Walk.{spec_of, goal_of, IsWalk, AreKept, HasBegun, HasRows};
+ghost use Rattle.refuter.specs.Walk.{HaveVerdict, Knows, LooksAt, StandsAgain};
 
 use crate::answers::Search;
 use crate::odometer::Odometer;

@@ -10,9 +10,9 @@ use clause_core::Step;
 use inference_rules::Node;
 use std::alloc::Global;
 
-/// Lets the clauses go that no step after this one needs: that of its node, and that of the node that
-/// it refers to. A clause without sides is left in their place. The step is taken, and for each node
-/// the last step that refers to it is given.
+/// Lets the clauses go that no step after this one needs: that of its node, and that of the node
+/// that it refers to. A clause without sides is left in their place. The step is taken, and for
+/// each node the last step that refers to it is given.
 pub(crate) fn let_go(
     taken: &mut TakenSteps,
     alloc: Global,

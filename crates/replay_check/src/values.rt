@@ -19,7 +19,7 @@ use ground_eval::{Verdict, one_verdict, verdict};
 use spec_admit::Admitted;
 use spec_core::{Goal, Signature, Spec, VarInfo};
 use std::alloc::Global;
-use term_core::{Name, TermNode, OutOfMemory, SortId, Term};
+use term_core::{Name, OutOfMemory, SortId, Term, TermNode};
 use term_order::TermOrder;
 
 /// Tests whether the goal fails under the values, within this many steps for each side. The first
@@ -54,8 +54,8 @@ pub(crate) fn check_values<O: TermOrder>(
     Ok(())
 }
 
-/// Whether there is a value for each variable of the goal, by its name and of its sort, in the order
-/// of the goal.
+/// Whether there is a value for each variable of the goal, by its name and of its sort, in the
+/// order of the goal.
 fn are_named_values(spec: &Spec, goal: &Goal, values: &[(Name, Term)]) -> bool
     ensures { IsTrue result ↔ AreNamedValues spec.now goal.now values.now }
 {

@@ -2,12 +2,14 @@
 use Rattle.std.specs.Prelude.{ℕ, List, ◌++◌, Bool, true, false, codes, count_by}
 use Rattle.std.specs.Fmt.{decimal}
 use Rattle.clause_core.specs.declared.answers.Why.{Why}
-use Rattle.clause_core.specs.declared.answers.Why.TheVariants.{NoSuchNode, NoSuchPlace, NoSuchRule, DoesNotFit, NotProvedBefore, Sort, NotCovering, Limit}
+use Rattle.clause_core.specs.declared.answers.Why.TheVariants.{NoSuchNode, NoSuchPlace, NoSuchRule, DoesNotFit}
+use Rattle.clause_core.specs.declared.answers.Why.TheVariants.{NotProvedBefore, Sort, NotCovering, Limit}
 use Rattle.clause_core.specs.declared.reports.Claim.{Claim}
 use Rattle.clause_core.specs.declared.reports.Outcome.{Outcome}
 use Rattle.clause_core.specs.declared.reports.Outcome.TheVariants.{Proved, Refuted, Open}
 use Rattle.clause_core.specs.declared.reports.ReplayWhy.{ReplayWhy}
-use Rattle.clause_core.specs.declared.reports.ReplayWhy.TheVariants.{UnknownGoal, GoalTwice, Step, Pending, NotSmaller, Variables, NotFalse}
+use Rattle.clause_core.specs.declared.reports.ReplayWhy.TheVariants.{UnknownGoal, GoalTwice, Step, Pending, NotSmaller}
+use Rattle.clause_core.specs.declared.reports.ReplayWhy.TheVariants.{Variables, NotFalse}
 
 abbrev pub is_proved : Outcome → Bool
 is_proved (Proved block) = true

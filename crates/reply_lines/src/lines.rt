@@ -3,7 +3,8 @@
 ghost use Rattle.std.specs.Prelude.{◌≡◌, ◌++◌, IfOk, OnOk, codes};
 ghost use Rattle.std.specs.Fmt.{decimal};
 ghost use Rattle.reply_lines.specs.Lines as lines_of;
-ghost use Rattle.reply_lines.specs.Lines.{claim_count, is_open, is_proved, is_refuted, step_text, why_text};
+ghost use Rattle.reply_lines.specs.Lines.{claim_count, is_open, is_proved, is_refuted, step_text};
+ghost use Rattle.reply_lines.specs.Lines.{why_text};
 
 use clause_core::{Claim, Outcome, ReplayWhy, Why};
 use std::alloc::Global;

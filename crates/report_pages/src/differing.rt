@@ -6,7 +6,7 @@ ghost use Rattle.report_pages.specs.Differences.{difference as difference_of, di
 ghost use Rattle.report_pages.specs.Differences.{HasFewBelow, HaveFewBelow, IsPushed};
 
 use std::alloc::Global;
-use term_core::{TermNode, OutOfMemory, Term, front};
+use term_core::{OutOfMemory, Term, TermNode, front};
 
 /// The path to the first place at which the terms have different symbols.
 pub(crate) fn difference(

@@ -1,8 +1,8 @@
 //! The page of an accepted report.
 //!
 //! Uses proof_trees for proofs, ground_eval for what sides give under values, claimed_goals for the
-//! goals that a later claim may use, and proof_words and page_core, which draw. `specs/` says what is
-//! on the page: a list of the goals (`ReportPages.antt`), and a section for each claim
+//! goals that a later claim may use, and proof_words and page_core, which draw. `specs/` says what
+//! is on the page: a list of the goals (`ReportPages.antt`), and a section for each claim
 //! (`Claims.antt`).
 //!
 //! Proved: `report_page`: the text is that of a page with the title, a line for each goal that is

@@ -44,17 +44,55 @@ module _ (sig : Sig) (d : NamesDiffer sig) where
   value_plain : (v : List ℕ × Tree) → ValueStands sig v → IsPlainLine sig (value_line v)
   value_plain v h =
       let name = name_plain v.0 h.name in
-      record { head = name.run; some = λ e. cons_nil (sym name.is ∙ e); words = (runs_all (codes "=") refl, (h.stands, tt)) }
+      record {
+        head = name.run;
+        some = λ e. cons_nil (sym name.is ∙ e);
+        words = (
+          runs_all (codes "=") refl,
+          (h.stands, tt),
+        );
+      }
 
   first_plain : (first : FirstLine) → FirstStands first → IsPlainLine sig (line_of first)
-  first_plain (Proved goal n) h = record { head = runs_all (codes "proved") refl; some = λ e. cons_nil e; words = (h.0, (runs_all (codes "nodes") refl, (short_by 10000 n h.1 (omega arith), tt))) }
-  first_plain (Refuted goal index n) h = record { head = runs_all (codes "refuted") refl; some = λ e. cons_nil e; words = (h.0, (runs_all (codes "index") refl, (h.1, (runs_all (codes "with") refl, (short_by 16 n h.2 (omega arith), tt))))) }
-  first_plain (Open goal b) h = record { head = runs_all (codes "open") refl; some = λ e. cons_nil e; words = first_sound sig d goal (outcomes.Open b) (record { goal = h.0; outcome = h.1 }) }
+  first_plain (Proved goal n) h = record {
+    head = runs_all (codes "proved") refl;
+    some = λ e. cons_nil e;
+    words = (h.0, (runs_all (codes "nodes") refl, (short_by 10000 n h.1 (omega arith), tt)));
+  }
+  first_plain (Refuted goal index n) h = record {
+    head = runs_all (codes "refuted") refl;
+    some = λ e. cons_nil
+        e;
+    words = (
+      h.0,
+      (
+        runs_all (codes "index") refl,
+        (h.1, (runs_all (codes "with") refl, (short_by 16 n h.2 (omega arith), tt))),
+      ),
+    );
+  }
+  first_plain (Open goal b) h = record {
+    head = runs_all (codes "open") refl;
+    some = λ e. cons_nil e;
+    words = first_sound sig d goal (outcomes.Open b) (record { goal = h.0; outcome = h.1 });
+  }
 
   pub plain_line : (stage : Stage) (line : Line) → MayFollow sig stage line → IsPlainLine sig line
-  plain_line start line e = subst (IsPlainLine sig) (sym e) (record { head = runs_all (codes "spike-report") refl; some = λ q. cons_nil q; words = (runs_all (codes "1") refl, tt) })
-  plain_line titled line (n, b, e) = subst (IsPlainLine sig) (sym e) (record { head = runs_all (codes "steps") refl; some = λ q. cons_nil q; words = (short_by 100000 n b.1 (omega arith), tt) })
-  plain_line (between report) line (inl e) = subst (IsPlainLine sig) (sym e) (record { head = runs_all (codes "done") refl; some = λ q. cons_nil q; words = tt })
+  plain_line start line e = subst (IsPlainLine sig) (sym e)
+      (record {
+        head = runs_all (codes "spike-report") refl;
+        some = λ q. cons_nil q;
+        words = (runs_all (codes "1") refl, tt);
+      })
+  plain_line titled line (n, b, e) = subst (IsPlainLine sig) (sym e)
+      (record {
+        head = runs_all (codes "steps") refl;
+        some = λ q. cons_nil q;
+        words = (short_by 100000 n b.1 (omega arith), tt);
+      })
+  plain_line (between report) line (inl e) = subst (IsPlainLine sig) (sym e)
+      (record { head = runs_all (codes "done") refl; some = λ q. cons_nil q; words = tt })
   plain_line (between report) line (inr (first, h, e)) = subst (IsPlainLine sig) (sym e) (first_plain first h)
   plain_line (proving report goal n ts) line (step, h, e) = subst (IsPlainLine sig) (sym e) (step_plain step h)
-  plain_line (refuting report goal index n vs) line (value, h, e) = subst (IsPlainLine sig) (sym e) (value_plain value h)
+  plain_line (refuting report goal index n vs) line (value, h, e) = subst (IsPlainLine sig) (sym e)
+      (value_plain value h)

@@ -25,21 +25,35 @@ module _ (sig : Sig) (line word rest : List ℕ) (split : IsFirstWord line word 
   from_value value = codes " = " ++ (term_text sig [] value ++ [])
 
   -- the first word is the name
-  pub named_value : (name : List ℕ) (value : Tree) → IsValueLine sig line name value → Same word name rest (from_value value)
-  named_value name value h = run_one Run word name rest (from_value value) split.run (name_plain name h.stands.name).run split.stops (ends_stop (from_value value) refl) (sym split.is ∙ bare_is sig line (value_line (name, value)) h.is)
+  pub named_value : (name : List ℕ) (value : Tree) → IsValueLine sig line name value →
+      Same word name rest (from_value value)
+  named_value name value h = run_one Run word name rest (from_value value) split.run
+      (name_plain name h.stands.name).run split.stops (ends_stop (from_value value) refl) (sym split.is
+      ∙ bare_is sig line (value_line (name, value)) h.is)
 
   module _ (behind : List ℕ) (e : rest ≡ codes " =" ++ behind) where
-    pub value_word : (name : List ℕ) (value : Tree) → IsValueLine sig line name value → IsWordAt sig behind (term value) []
-    value_word name value h = record { stands = h.stands.stands; is = append_cancel_left (codes " =") behind (32 ∷ (term_text sig [] value ++ [])) (sym e ∙ (named_value name value h).rest); ends = tt }
+    pub value_word : (name : List ℕ) (value : Tree) → IsValueLine sig line name value →
+        IsWordAt sig behind (term value) []
+    value_word name value h = record {
+      stands = h.stands.stands;
+      is = append_cancel_left (codes " =") behind
+          (32 ∷ (term_text sig [] value ++ [])) (sym e ∙ (named_value name value h).rest);
+      ends = tt;
+    }
 
     -- a value that was read is the one that is there
-    pub one_value : NamesDiffer sig → (found : Tree) (last : List ℕ) → IsWordAt sig behind (term found) last → (name : List ℕ) (value : Tree) → IsValueLine sig line name value → (term found ≡ term value) × (last ≡ [])
+    pub one_value : NamesDiffer sig → (found : Tree) (last : List ℕ) → IsWordAt sig behind (term found) last →
+        (name : List ℕ) (value : Tree) → IsValueLine sig line name value → (term found ≡ term value) × (last ≡ [])
     one_value d found last w name value h =
         let k = value_word name value h in
-        word_reads sig d (term found) (term value) last [] refl w.stands k.stands w.ends tt (same_tail (sym w.is ∙ k.is))
+        word_reads sig d (term found) (term value) last [] refl w.stands k.stands w.ends tt
+        (same_tail (sym w.is ∙ k.is))
 
-    pub value_found : (value : Tree) (last : List ℕ) → IsReportName word → IsWordAt sig behind (term value) last → last ≡ [] → IsClosed sig value → IsValueLine sig line word value
+    pub value_found : (value : Tree) (last : List ℕ) → IsReportName word →
+        IsWordAt sig behind (term value) last → last ≡ [] → IsClosed sig value → IsValueLine sig line word value
     value_found value last name w l closed = record {
       stands = record { name = name; stands = w.stands; closed = closed };
-      is = line_is sig line (value_line (word, value)) (split.is ∙ ap (λ z. word ++ z) (e ∙ ap (λ z. codes " =" ++ z) (w.is ∙ ap (λ z. 32 ∷ (term_text sig [] value ++ z)) l)));
+      is = line_is sig line (value_line (word, value)) (split.is
+          ∙ ap (λ z. word ++ z)
+          (e ∙ ap (λ z. codes " =" ++ z) (w.is ∙ ap (λ z. 32 ∷ (term_text sig [] value ++ z)) l)));
     }

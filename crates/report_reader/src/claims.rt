@@ -6,7 +6,8 @@ ghost use Rattle.clause_core.specs.declared.reports.Report.{Report as AnyReport}
 ghost use Rattle.report_reader.specs.Answers.{TellsFault};
 ghost use Rattle.report_reader.specs.Behind.{IsBehind, HasNoClaimLine};
 ghost use Rattle.report_reader.specs.Lines.{IsNext};
-ghost use Rattle.report_reader.specs.Stages.{behind_first, between, proving, refuting, report_size, with_claim};
+ghost use Rattle.report_reader.specs.Stages.{behind_first, between, proving, refuting, report_size};
+ghost use Rattle.report_reader.specs.Stages.{with_claim};
 
 use crate::errors::ReportError;
 use crate::first_lines::FirstLine;

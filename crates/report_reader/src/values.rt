@@ -9,7 +9,7 @@ ghost use Rattle.report_reader.specs.ValueLines.{IsValueLine};
 use proof_script::{after, is_report_name, next_term, split_word};
 use spec_core::Signature;
 use std::alloc::Global;
-use term_core::{Name, TermNode, OutOfMemory, Term};
+use term_core::{Name, OutOfMemory, Term, TermNode};
 
 /// The name and the value that the line `NAME = VALUE` says, if they may appear in a report. The
 /// line comes without its newline.

@@ -7,7 +7,9 @@ use Rattle.clause_core.specs.declared.answers.Children.{Children}
 use Rattle.clause_core.specs.declared.answers.Why.TheVariants.{NotProvedBefore}
 use Rattle.clause_core.specs.declared.clauses.Clause.{Clause}
 use Rattle.clause_core.specs.declared.steps.Step.{Step}
-use Rattle.clause_core.specs.declared.steps.Step.TheVariants.{Trivial, Match, Absurd, Subsume, ByLemma, Rule, Case, Decompose, Clash, Drop, Solve, Cover, Generalize, Context, Hyp, Lemma}
+use Rattle.clause_core.specs.declared.steps.Step.TheVariants.{Trivial, Match, Absurd, Subsume, ByLemma, Rule, Case}
+use Rattle.clause_core.specs.declared.steps.Step.TheVariants.{Decompose, Clash, Drop, Solve, Cover, Generalize}
+use Rattle.clause_core.specs.declared.steps.Step.TheVariants.{Context, Hyp, Lemma}
 use Rattle.clause_core.specs.Referred.{UsableGoal}
 use Rattle.clause_core.specs.Says.{Says}
 use Rattle.clause_core.specs.Steps.{row_of}

@@ -1,6 +1,7 @@
 -- Sorted terms may appear in a report if the names of the symbols may, and so may test sets and
 -- paths.
-use Rattle.std.proofs.Common.{◌≡◌, ℕ, zero, suc, ◌+◌, ◌<◌, ◌≤◌, List, [], ◌∷◌, Some, None, map, length, refl, ap, sym, ◌∙◌, subst, arith}
+use Rattle.std.proofs.Common.{◌≡◌, ℕ, zero, suc, ◌+◌, ◌<◌, ◌≤◌, List, [], ◌∷◌, Some, None, map, length, refl, ap, sym}
+use Rattle.std.proofs.Common.{◌∙◌, subst, arith}
 use Rattle.std.specs.Prelude.{slice_get, option_map}
 use Rattle.std.specs.List.{AllByRecursion, range_with_len, AllZip}
 use Rattle.std.proofs.lemmas.List.FromFn.{length-range_with_len}
@@ -19,7 +20,8 @@ use Rattle.spec_core.proofs.Constructors.{info_parts}
 use Rattle.clause_core.specs.Instances.{variables}
 use Rattle.clause_core.specs.Patterns.{IsPatternOf}
 use Rattle.proof_script.specs.Names.{IsReportName}
-use Rattle.proof_script.specs.Standing.{IsShort, Between, SymbolStands, SymbolsStand, AllSymbolsStand, TermStands, PatternStands}
+use Rattle.proof_script.specs.Standing.{IsShort, Between, SymbolStands, SymbolsStand, AllSymbolsStand, TermStands}
+use Rattle.proof_script.specs.Standing.{PatternStands}
 use Rattle.test_sets.specs.TestSets.{applied, test_set_of}
 use Rattle.test_sets.proofs.SortConstructors.{IsOneOf, each_of_sort, test_set_patterns}
 

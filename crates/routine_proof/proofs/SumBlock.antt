@@ -1,12 +1,14 @@
 -- The routine block of plus(succ(zero), zero) = succ(zero), and that it is the first proof.
-use Rattle.std.proofs.Common.{◌≡◌, ◌≢◌, ℕ, zero, suc, ◌+◌, ◌≤◌, List, [], ◌∷◌, true, Some, None, inl, inr, length, refl, ap, sym, ◌∙◌, subst, lit<, lit≤, arith}
+use Rattle.std.proofs.Common.{◌≡◌, ◌≢◌, ℕ, zero, suc, ◌+◌, ◌≤◌, List, [], ◌∷◌, true, Some, None, inl, inr, length}
+use Rattle.std.proofs.Common.{refl, ap, sym, ◌∙◌, subst, lit<, lit≤, arith}
 use Rattle.std.specs.Prelude.{slice_get}
 use Rattle.std.proofs.lemmas.Fmt.{decimal_digit}
 use Rattle.term_core.specs.Tree.{Tree, Trees, var, app, none, some, instance}
 use Rattle.term_core.specs.Contexts.{Context, hole, under, plug}
 use Rattle.spec_core.specs.declared.records.Equation.{Equation}
 use Rattle.spec_core.specs.declared.records.Rule.{Rule}
-use Rattle.spec_core.specs.Naturals.{naturals, naturals_sig, zero_term, succ_term, plus_term, plus_zero_rule, plus_succ_rule}
+use Rattle.spec_core.specs.Naturals.{naturals, naturals_sig, zero_term, succ_term, plus_term, plus_zero_rule}
+use Rattle.spec_core.specs.Naturals.{plus_succ_rule}
 use Rattle.spec_core.specs.WellSorted.{IsWellSorted}
 use Rattle.sample_specs.specs.SumOrder.{AboveInSums}
 use Rattle.clause_core.specs.declared.answers.Children.{Children}

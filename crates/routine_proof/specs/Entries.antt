@@ -1,6 +1,7 @@
 -- The list by which the step of a node is chosen: the candidates, entry by entry in their order.
 -- Within an entry the least number or the first place goes first, then the least second number.
-use Rattle.std.specs.Prelude.{ℕ, ◌==◌, Bool, true, false, List, [], ◌∷◌, ◌++◌, map, filter, length, slice_get, option_to_list}
+use Rattle.std.specs.Prelude.{ℕ, ◌==◌, Bool, true, false, List, [], ◌∷◌, ◌++◌, map, filter, length, slice_get}
+use Rattle.std.specs.Prelude.{option_to_list}
 use Rattle.std.specs.List.{range_with_len, list_any}
 use Rattle.term_core.specs.Tree.{Tree}
 use Rattle.spec_core.specs.declared.records.Goal.{Goal}
@@ -8,7 +9,8 @@ use Rattle.spec_core.specs.declared.records.Spec.{Spec}
 use Rattle.clause_core.specs.declared.clauses.Clause.{Clause}
 use Rattle.clause_core.specs.declared.steps.Place.{Place}
 use Rattle.clause_core.specs.declared.steps.Step.{Step}
-use Rattle.clause_core.specs.declared.steps.Step.TheVariants.{Trivial, Match, Absurd, Decompose, Clash, Solve, Rule, Subsume, ByLemma, Hyp, Lemma, Case, Cover}
+use Rattle.clause_core.specs.declared.steps.Step.TheVariants.{Trivial, Match, Absurd, Decompose, Clash, Solve, Rule}
+use Rattle.clause_core.specs.declared.steps.Step.TheVariants.{Subsume, ByLemma, Hyp, Lemma, Case, Cover}
 use Rattle.clause_core.specs.Tidied.{goal_clause}
 use Rattle.test_sets.specs.TestSets.{test_set_of}
 use Rattle.clause_places.specs.Spots.{Spot, spots, places}

@@ -6,7 +6,8 @@ use Rattle.spec_core.specs.declared.records.Spec.{Spec}
 use Rattle.spec_core.specs.Naturals.{naturals, zero_term, succ_term, plus_term}
 use Rattle.sample_specs.specs.SumOrder.{AboveInSums}
 use Rattle.clause_core.specs.declared.steps.Step.{Step}
-use Rattle.clause_core.specs.declared.steps.Step.TheVariants.{Trivial, Match, Absurd, Decompose, Clash, Solve, Rule, Subsume, ByLemma, Hyp, Lemma, Case, Cover}
+use Rattle.clause_core.specs.declared.steps.Step.TheVariants.{Trivial, Match, Absurd, Decompose, Clash, Solve, Rule}
+use Rattle.clause_core.specs.declared.steps.Step.TheVariants.{Subsume, ByLemma, Hyp, Lemma, Case, Cover}
 use Rattle.clause_core.specs.ClauseExamples.{equals, claims}
 use Rattle.clause_core.specs.ExampleClauses.{one, unit_clause, conclusion_side}
 use Rattle.clause_core.specs.TableExamples.{zero_or_succ}

@@ -3,7 +3,8 @@ use Rattle.std.proofs.Common.{◌≡◌, ℕ, List, [], ◌∷◌, ◌++◌, ref
 use Rattle.term_core.specs.Tree.{Tree, trees_of}
 use Rattle.value_bank.specs.Cells.{Cell, AreTerms}
 
-pub joined : (cells : List Cell) (ps qs : List ℕ) (us vs : List Tree) → AreTerms cells ps (trees_of us) → AreTerms cells qs (trees_of vs) → AreTerms cells (ps ++ qs) (trees_of (us ++ vs))
+pub joined : (cells : List Cell) (ps qs : List ℕ) (us vs : List Tree) → AreTerms cells ps (trees_of us) →
+    AreTerms cells qs (trees_of vs) → AreTerms cells (ps ++ qs) (trees_of (us ++ vs))
 joined cells [] qs [] vs h k = k
 joined cells [] qs (u ∷ us) vs h k = absurd h
 joined cells (p ∷ ps) qs [] vs h k = absurd h

@@ -1,5 +1,6 @@
 -- What a list has at a place after an item is written or added.
-use Rattle.std.proofs.Common.{◌≡◌, ◌≢◌, ℕ, zero, suc, ◌<◌, List, [], ◌∷◌, ◌++◌, Some, None, ◌⊎◌, inl, inr, refl, ap, arith, length, set}
+use Rattle.std.proofs.Common.{◌≡◌, ◌≢◌, ℕ, zero, suc, ◌<◌, List, [], ◌∷◌, ◌++◌, Some, None, ◌⊎◌, inl, inr, refl, ap}
+use Rattle.std.proofs.Common.{arith, length, set}
 use Rattle.std.specs.Prelude.{slice_get}
 
 pub set_same : {X : Type 0} (xs : List X) (f : ℕ) (x : X) → f < length xs → slice_get (set xs f x) f ≡ Some x
@@ -14,7 +15,8 @@ set_other (y ∷ ys) zero (suc g) x h = refl
 set_other (y ∷ ys) (suc f) zero x h = refl
 set_other (y ∷ ys) (suc f) (suc g) x h = set_other ys f g x (λ e. h (ap suc e))
 
-pub at_end : {X : Type 0} (xs : List X) (x y : X) (f : ℕ) → slice_get (xs ++ x ∷ []) f ≡ Some y → (slice_get xs f ≡ Some y) ⊎ (x ≡ y)
+pub at_end : {X : Type 0} (xs : List X) (x y : X) (f : ℕ) → slice_get (xs ++ x ∷ []) f ≡ Some y →
+    (slice_get xs f ≡ Some y) ⊎ (x ≡ y)
 at_end [] x y zero e = inr (let q : Some x ≡ Some y = e in cc)
 at_end [] x y (suc f) e = absurd (let q : None ≡ Some y = e in cc)
 at_end (z ∷ xs) x y zero e = inl e

@@ -1,5 +1,6 @@
 -- Slots keep their values when further ones are added.
-use Rattle.std.proofs.Common.{◌≡◌, ℕ, ◌<◌, ◌≤◌, List, [], ◌∷◌, ◌++◌, refl, sym, ◌∙◌, subst, arith, get_or, length, length-append}
+use Rattle.std.proofs.Common.{◌≡◌, ℕ, ◌<◌, ◌≤◌, List, [], ◌∷◌, ◌++◌, refl, sym, ◌∙◌, subst, arith, get_or, length}
+use Rattle.std.proofs.Common.{length-append}
 use Rattle.std.specs.List.{AllByRecursion}
 use Rattle.std.proofs.lemmas.List.{get_or_append_left}
 use Rattle.term_core.specs.Tree.{Tree, var, instance}
@@ -32,7 +33,8 @@ pub slots_less : (n m : ℕ) (ss : List ℕ) → n ≤ m → AreSlots n ss → A
 slots_less n m [] le h = tt
 slots_less n m (s ∷ ss) le h = (omega (arith, le, h.0), slots_less n m ss le h.1)
 
-pub holds_kept : (sig : Sig) (homes : List ℕ) (env more xs : List Tree) → Holds sig homes env xs → Holds sig homes (env ++ more) xs
+pub holds_kept : (sig : Sig) (homes : List ℕ) (env more xs : List Tree) → Holds sig homes env xs →
+    Holds sig homes (env ++ more) xs
 holds_kept sig homes env more xs h n s at =
     let k = h n s at in
     let e = slot_kept env more s k.0 in

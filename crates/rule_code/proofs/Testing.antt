@@ -1,5 +1,7 @@
 -- Tests of places are tests of their terms.
-use Rattle.std.proofs.Common.{◌≡◌, ◌≢◌, ◌⊎◌, ◌↔◌, inl, inr, ℕ, zero, suc, ◌+◌, ◌<◌, ◌≤◌, List, [], ◌∷◌, ◌++◌, Some, None, Bool, true, false, refl, ap, sym, ◌∙◌, subst, arith, length, length-append, append_assoc, take, drop, get_or}
+use Rattle.std.proofs.Common.{◌≡◌, ◌≢◌, ◌⊎◌, ◌↔◌, inl, inr, ℕ, zero, suc, ◌+◌, ◌<◌, ◌≤◌, List, [], ◌∷◌, ◌++◌, Some}
+use Rattle.std.proofs.Common.{None, Bool, true, false, refl, ap, sym, ◌∙◌, subst, arith, length, length-append}
+use Rattle.std.proofs.Common.{append_assoc, take, drop, get_or}
 use Rattle.std.specs.Prelude.{slice_get, IsTrue}
 use Rattle.std.proofs.lemmas.List.{append-nil, drop-append-le}
 use Rattle.std.proofs.lemmas.Option.{slice_get_within, slice_get-get_or}
@@ -21,14 +23,16 @@ pub trees_list : (ts : Trees) → trees_of (list_of ts) ≡ ts
 trees_list none = refl
 trees_list (some t ts) = ap (λ z. some t z) (trees_list ts)
 
-pub terms_count : (cells : List Cell) (ps : List ℕ) (ts : List Tree) → AreTerms cells ps (trees_of ts) → length ts ≡ length ps
+pub terms_count : (cells : List Cell) (ps : List ℕ) (ts : List Tree) → AreTerms cells ps (trees_of ts) →
+    length ts ≡ length ps
 terms_count cells [] [] h = refl
 terms_count cells [] (t ∷ ts) h = absurd h
 terms_count cells (p ∷ ps) [] h = absurd h
 terms_count cells (p ∷ ps) (t ∷ ts) h = ap suc (terms_count cells ps ts h.1)
 
 -- the place of a term among places of terms
-pub place_of_term : (cells : List Cell) (ps : List ℕ) (ts : List Tree) (k : ℕ) (v : Tree) → AreTerms cells ps (trees_of ts) → slice_get ts k ≡ Some v → (p : ℕ) × (slice_get ps k ≡ Some p) × IsTerm cells p v
+pub place_of_term : (cells : List Cell) (ps : List ℕ) (ts : List Tree) (k : ℕ) (v : Tree) →
+    AreTerms cells ps (trees_of ts) → slice_get ts k ≡ Some v → (p : ℕ) × (slice_get ps k ≡ Some p) × IsTerm cells p v
 place_of_term cells ps [] k v h e = absurd (let q : None ≡ Some v = e in cc)
 place_of_term cells [] (t ∷ ts) k v h e = absurd h
 place_of_term cells (p ∷ ps) (t ∷ ts) zero v h e =
@@ -57,17 +61,21 @@ pub record SlotPlace (cells : List Cell) (places : List ℕ) (base k : ℕ) (v :
   pub at : slice_get places (base + k) ≡ Some place
   pub is : IsTerm cells place v
 
-pub slot_place : (cells : List Cell) (places : List ℕ) (base k : ℕ) (ts : List Tree) (v : Tree) → AreTerms cells (drop base places) (trees_of ts) → slice_get ts k ≡ Some v → SlotPlace cells places base k v
+pub slot_place : (cells : List Cell) (places : List ℕ) (base k : ℕ) (ts : List Tree) (v : Tree) →
+    AreTerms cells (drop base places) (trees_of ts) → slice_get ts k ≡ Some v → SlotPlace cells places base k v
 slot_place cells places base k ts v h at =
     let p = place_of_term cells (drop base places) ts k v h at in
     record { place = p.0; at = get_dropped places base k p.0 p.1; is = p.2 }
 
-pub slot_within : {cells : List Cell} {places : List ℕ} {base k : ℕ} {v : Tree} → SlotPlace cells places base k v → base + k < length places
+pub slot_within : {cells : List Cell} {places : List ℕ} {base k : ℕ} {v : Tree} →
+    SlotPlace cells places base k v → base + k < length places
 slot_within {places} {base} {k} s = slice_get_within places (base + k) s.place s.at
 
 -- what is read at the slot's place
-pub slot_read : {cells : List Cell} {places : List ℕ} {base k : ℕ} {v : Tree} → SlotPlace cells places base k v → (p : ℕ) → p ≡ get_or places (base + k) p → IsTerm cells p v
-slot_read {cells} {places} {base} {k} {v} s p e = subst (λ z. IsTerm cells z v) (sym (e ∙ read_is places (base + k) s.place p s.at)) s.is
+pub slot_read : {cells : List Cell} {places : List ℕ} {base k : ℕ} {v : Tree} →
+    SlotPlace cells places base k v → (p : ℕ) → p ≡ get_or places (base + k) p → IsTerm cells p v
+slot_read {cells} {places} {base} {k} {v} s p e = subst (λ z. IsTerm cells z v)
+    (sym (e ∙ read_is places (base + k) s.place p s.at)) s.is
 
 -- the next test opens a pattern
 record Opened (now : List Tree) (rest : List Test) (all : List Tree) (t : Test) : Type 0 where
@@ -78,17 +86,27 @@ record Opened (now : List Tree) (rest : List Test) (all : List Tree) (t : Test) 
   there : slice_get now at ≡ Some (app sym (trees_of args))
   goes : Opens (now ++ args) (suc at) rest all
 
-next_test : {now all : List Tree} {k : ℕ} {tests : List Test} (t : Test) (rest : List Test) → Opens now k tests all → tests ≡ t ∷ rest → Opened now rest all t
+next_test : {now all : List Tree} {k : ℕ} {tests : List Test} (t : Test) (rest : List Test) →
+    Opens now k tests all → tests ≡ t ∷ rest → Opened now rest all t
 next_test t rest (opened h) e = absurd (let q : [] ≡ t ∷ rest = e in cc)
 next_test t rest (passed n at o) e = next_test t rest o e
 next_test t rest (opens {pats} {all} {k} {tests} f us at o) e =
     let q : (test k f (length us) ∷ tests) ≡ (t ∷ rest) = e in
     let a : test k f (length us) ≡ t = cc in
     let b : tests ≡ rest = cc in
-    record { at = k; sym = f; args = us; is = sym a; there = at; goes = subst (λ z. Opens (pats ++ us) (suc k) z all) b o }
+    record {
+      at = k;
+      sym = f;
+      args = us;
+      is = sym a;
+      there = at;
+      goes = subst
+          (λ z. Opens (pats ++ us) (suc k) z all) b o;
+    }
 
 -- how far the tests have come: what the rest says from here it says from the start
-pub record IsPassing (cells : List Cell) (base : ℕ) (places : List ℕ) (env : List Tree) (tests rest : List Test) (all : List Tree) : Type 0 where
+pub record IsPassing (cells : List Cell) (base : ℕ) (places : List ℕ) (env : List Tree) (tests rest : List Test)
+    (all : List Tree) : Type 0 where
   pub now : List Tree
   pub grown : List Tree
   pub at : ℕ
@@ -100,15 +118,34 @@ pub record IsPassing (cells : List Cell) (base : ℕ) (places : List ℕ) (env :
 
 -- the same of all terms that may be there, if the first i tests have passed
 abbrev pub ArePassing : List Cell → ℕ → List ℕ → List ℕ → List Test → ℕ → Type 0
-ArePassing cells base start places tests i = (env pats all : List Tree) → Opens pats 0 tests all → AreTerms cells (drop base start) (trees_of env) → length env ≡ length pats → IsPassing cells base places env tests (drop i tests) all
+ArePassing cells base start places tests i = (env pats all : List Tree) → Opens pats 0 tests all →
+    AreTerms cells (drop base start) (trees_of env) → length env ≡ length pats →
+    IsPassing cells base places env tests (drop i tests) all
 
-pub passing_here : (cells : List Cell) (base : ℕ) (start places : List ℕ) (tests : List Test) (i : ℕ) (d : Test) → ArePassing cells base start places tests i → i < length tests → (env pats all : List Tree) → Opens pats 0 tests all → AreTerms cells (drop base start) (trees_of env) → length env ≡ length pats → IsPassing cells base places env tests (get_or tests i d ∷ drop (i + 1) tests) all
-passing_here cells base start places tests i d h lt env pats all o t n = subst (λ z. IsPassing cells base places env tests z all) (drop_here tests i (get_or tests i d) (slice_get-get_or tests i d lt)) (h env pats all o t n)
+pub passing_here : (cells : List Cell) (base : ℕ) (start places : List ℕ) (tests : List Test) (i : ℕ)
+    (d : Test) → ArePassing cells base start places tests i → i < length tests → (env pats all : List Tree) →
+    Opens pats 0 tests all → AreTerms cells (drop base start) (trees_of env) → length env ≡ length pats →
+    IsPassing cells base places env tests (get_or tests i d ∷ drop (i + 1) tests) all
+passing_here cells base start places tests i d h lt env pats all o t n = subst
+    (λ z. IsPassing cells base places env tests z all)
+    (drop_here tests i (get_or tests i d) (slice_get-get_or tests i d lt)) (h env pats all o t n)
 
-pub passing_begins : (cells : List Cell) (base : ℕ) (places : List ℕ) (env pats all : List Tree) (tests : List Test) → Opens pats 0 tests all → AreTerms cells (drop base places) (trees_of env) → length env ≡ length pats → IsPassing cells base places env tests tests all
-passing_begins cells base places env pats all tests o h n = record { now = pats; grown = env; at = 0; terms = h; count = n; opens = o; passes = λ g u. u; fails = λ f. f }
+pub passing_begins : (cells : List Cell) (base : ℕ) (places : List ℕ) (env pats all : List Tree)
+    (tests : List Test) → Opens pats 0 tests all → AreTerms cells (drop base places) (trees_of env) →
+    length env ≡ length pats → IsPassing cells base places env tests tests all
+passing_begins cells base places env pats all tests o h n = record {
+  now = pats;
+  grown = env;
+  at = 0;
+  terms = h;
+  count = n;
+  opens = o;
+  passes = λ g u. u;
+  fails = λ f. f;
+}
 
-module _ (cells : List Cell) (base : ℕ) (places : List ℕ) (env : List Tree) (tests : List Test) (t : Test) (rest : List Test) (all : List Tree) (h : IsPassing cells base places env tests (t ∷ rest) all) where
+module _ (cells : List Cell) (base : ℕ) (places : List ℕ) (env : List Tree) (tests : List Test) (t : Test)
+    (rest : List Test) (all : List Tree) (h : IsPassing cells base places env tests (t ∷ rest) all) where
   o : Opened h.now rest all t
   o = next_test t rest h.opens refl
 
@@ -119,12 +156,14 @@ module _ (cells : List Cell) (base : ℕ) (places : List ℕ) (env : List Tree) 
   value = instance h.grown (var t.slot)
 
   value_there : slice_get h.grown t.slot ≡ Some (instance h.grown (var t.slot))
-  value_there = some_slot h.grown t.slot (omega (arith, slot_at, h.count, slice_get_within h.now o.at (app o.sym (trees_of o.args)) o.there))
+  value_there = some_slot h.grown t.slot
+      (omega (arith, slot_at, h.count, slice_get_within h.now o.at (app o.sym (trees_of o.args)) o.there))
 
   pub tested_place : SlotPlace cells places base t.slot (instance h.grown (var t.slot))
   tested_place = slot_place cells places base t.slot h.grown (instance h.grown (var t.slot)) h.terms value_there
 
-  module _ (p f : ℕ) (args : List ℕ) (read : p ≡ get_or places (base + t.slot) p) (at : slice_get cells p ≡ Some (cell f args)) where
+  module _ (p f : ℕ) (args : List ℕ) (read : p ≡ get_or places (base + t.slot) p)
+      (at : slice_get cells p ≡ Some (cell f args)) where
     -- the value of the tested slot
     record Value : Type 0 where
       terms : List Tree
@@ -144,18 +183,30 @@ module _ (cells : List Cell) (base : ℕ) (places : List ℕ) (env : List Tree) 
               are = subst (λ z. AreTerms cells args z) (sym (trees_list ts)) (subst (λ z. AreTerms cells z ts) s.1 k);
             }
 
-    pub test_passed : f ≡ t.sym → length args ≡ t.count → (more : List ℕ) → more ≡ places ++ args → base ≤ length places → IsPassing cells base more env tests rest all
+    pub test_passed : f ≡ t.sym → length args ≡ t.count → (more : List ℕ) → more ≡ places ++ args →
+        base ≤ length places → IsPassing cells base more env tests rest all
     test_passed e n more is le =
         let v = the_value in
         let count : length v.terms ≡ t.count = terms_count cells args v.terms v.are ∙ n in
         let passes : Passes h.grown t v.terms = (v.is ∙ ap (λ z. app z (trees_of v.terms)) e, count) in
-        let terms : AreTerms cells (drop base more) (trees_of (h.grown ++ v.terms)) = subst (λ z. AreTerms cells (drop base z) (trees_of (h.grown ++ v.terms))) (sym is) (subst (λ z. AreTerms cells z (trees_of (h.grown ++ v.terms))) (sym (drop-append-le base places args le)) (joined cells (drop base places) args h.grown v.terms h.terms v.are)) in
+        let terms : AreTerms cells (drop base more) (trees_of (h.grown ++ v.terms)) = subst
+        (λ z. AreTerms cells (drop base z) (trees_of (h.grown ++ v.terms))) (sym is)
+        (subst (λ z. AreTerms cells z (trees_of (h.grown ++ v.terms)))
+        (sym (drop-append-le base places args le))
+        (joined cells (drop base places) args h.grown v.terms h.terms v.are)) in
         record {
           now = h.now ++ o.args;
           grown = h.grown ++ v.terms;
           at = suc o.at;
           terms = terms;
-          count = omega (arith, length-append h.grown v.terms, length-append h.now o.args, h.count, count, ap (λ (z : Test). z.count) o.is);
+          count = omega (
+            arith,
+            length-append h.grown v.terms,
+            length-append h.now o.args,
+            h.count,
+            count,
+            ap (λ (z : Test). z.count) o.is,
+          );
           opens = o.goes;
           passes = λ g u. h.passes g (v.terms, passes, u);
           fails = λ x. h.fails (inr (v.terms, passes, x));
@@ -170,7 +221,8 @@ module _ (cells : List Cell) (base : ℕ) (places : List ℕ) (env : List Tree) 
             let e : app f (trees_of v.terms) ≡ app t.sym (trees_of us) = sym v.is ∙ p.0 in
             let s : f ≡ t.sym = cc in
             let same : trees_of v.terms ≡ trees_of us = cc in
-            let n : length args ≡ t.count = sym (terms_count cells args v.terms v.are) ∙ lengths v.terms us same ∙ p.1 in
+            let n : length args ≡ t.count = sym (terms_count cells args v.terms v.are) ∙ lengths v.terms us same
+            ∙ p.1 in
             elim d [ inl x ↦ x s | inr x ↦ x n ]
           where
             lengths : (xs ys : List Tree) → trees_of xs ≡ trees_of ys → length xs ≡ length ys
@@ -183,8 +235,13 @@ module _ (cells : List Cell) (base : ℕ) (places : List ℕ) (env : List Tree) 
                 ap suc (lengths xs ys r)
 
 -- all tests have passed
-pub passing_ends : (cells : List Cell) (base : ℕ) (places : List ℕ) (env : List Tree) (tests rest : List Test) (all : List Tree) → rest ≡ [] → IsPassing cells base places env tests rest all → (grown : List Tree) × Grows cells base env tests places grown
-passing_ends cells base places env tests rest all e h = (h.grown, (h.terms, h.passes h.grown (subst (λ z. Unpacks h.grown z h.grown) (sym e) refl)))
+pub passing_ends : (cells : List Cell) (base : ℕ) (places : List ℕ) (env : List Tree) (tests rest : List Test)
+    (all : List Tree) → rest ≡ [] → IsPassing cells base places env tests rest all →
+    (grown : List Tree) × Grows cells base env tests places grown
+passing_ends cells base places env tests rest all e h = (
+  h.grown,
+  (h.terms, h.passes h.grown (subst (λ z. Unpacks h.grown z h.grown) (sym e) refl)),
+)
 
 pub extends_more : (old mid new args : List ℕ) → Extends old mid → new ≡ mid ++ args → Extends old new
 extends_more old mid new args x e = (x.0 ++ args, e ∙ ap (λ z. z ++ args) x.1 ∙ append_assoc old x.0 args)
@@ -196,56 +253,81 @@ pub extends_length : (old new : List ℕ) → Extends old new → length old ≤
 extends_length old new x = omega (arith, ap length x.1, length-append old x.0)
 
 -- what is read at a slot's place, if it is a number
-pub slot_term : {cells : List Cell} {places : List ℕ} {base k : ℕ} {v : Tree} → SlotPlace cells places base k v → IsTerm cells (get_or places (base + k) 0) v
-slot_term {cells} {places} {base} {k} {v} s = subst (λ z. IsTerm cells z v) (sym (read_is places (base + k) s.place 0 s.at)) s.is
+pub slot_term : {cells : List Cell} {places : List ℕ} {base k : ℕ} {v : Tree} →
+    SlotPlace cells places base k v → IsTerm cells (get_or places (base + k) 0) v
+slot_term {cells} {places} {base} {k} {v} s = subst (λ z. IsTerm cells z v)
+    (sym (read_is places (base + k) s.place 0 s.at)) s.is
 
 -- the slots of a repeat
-module _ (cells : List Cell) (base : ℕ) (places : List ℕ) (grown : List Tree) (terms : AreTerms cells (drop base places) (trees_of grown)) where
+module _ (cells : List Cell) (base : ℕ) (places : List ℕ) (grown : List Tree)
+    (terms : AreTerms cells (drop base places) (trees_of grown)) where
   pub slot_there : (k : ℕ) → k < length grown → SlotPlace cells places base k (instance grown (var k))
   slot_there k lt = slot_place cells places base k grown (instance grown (var k)) terms (some_slot grown k lt)
 
   -- as many slots as other terms that are there have
-  pub same_count : (other : List Tree) → AreTerms cells (drop base places) (trees_of other) → length grown ≡ length other
-  same_count other h = terms_count cells (drop base places) grown terms ∙ sym (terms_count cells (drop base places) other h)
+  pub same_count : (other : List Tree) → AreTerms cells (drop base places) (trees_of other) →
+      length grown ≡ length other
+  same_count other h = terms_count cells (drop base places) grown terms
+      ∙ sym (terms_count cells (drop base places) other h)
 
-module _ (rule : Rule) (left : LeftSide) (side : IsLeftSide rule left) (env grown : List Tree) (count : length env ≡ length side.patterns) (unpacks : Unpacks env left.tests.items grown) where
+module _ (rule : Rule) (left : LeftSide) (side : IsLeftSide rule left) (env grown : List Tree)
+    (count : length env ≡ length side.patterns) (unpacks : Unpacks env left.tests.items grown) where
   -- the slots of repeats are there
-  pub repeats_there : (k : ℕ) (r : Repeat) → slice_get left.repeats.items k ≡ Some r → (r.first < length grown) × (r.again < length grown)
+  pub repeats_there : (k : ℕ) (r : Repeat) → slice_get left.repeats.items k ≡ Some r → (r.first < length grown)
+      × (r.again < length grown)
   repeats_there k r at =
       let q = side.repeats.right k r at in
-      let n = unpacked_count env grown side.opens count unpacks in
-      (omega (arith, slice_get_within side.all r.first (var q.0) q.1, n), omega (arith, slice_get_within side.all r.again (var q.0) q.2, n))
+      let n = unpacked_count env grown side.opens count unpacks in (
+        omega (arith, slice_get_within side.all r.first (var q.0) q.1, n),
+        omega (arith, slice_get_within side.all r.again (var q.0) q.2, n),
+      )
 
   -- if they have one value, each variable has one
   pub have_homes : AreSame grown left.repeats.items → HaveHomes side.all left.homes.items grown
   have_homes same s n at =
       let lt : n < length left.homes.items = omega (arith, side.variables s n at, side.homes.counted) in
       let h = get_or left.homes.items n 0 in
-      let home : slice_get left.homes.items n ≡ Some (get_or left.homes.items n 0) = slice_get-get_or left.homes.items n 0 lt in
+      let home : slice_get left.homes.items n ≡ Some (get_or left.homes.items n 0) = slice_get-get_or
+      left.homes.items n 0 lt in
       (h, home, by h (side.repeats.each s n h at home))
     where
-      by : (h : ℕ) → (h ≡ s) ⊎ ((k : ℕ) × (slice_get left.repeats.items k ≡ Some (repeat h s))) → instance grown (var h) ≡ instance grown (var s)
+      by : (h : ℕ) → (h ≡ s) ⊎ ((k : ℕ) × (slice_get left.repeats.items k ≡ Some (repeat h s))) →
+          instance grown (var h) ≡ instance grown (var s)
       by h (inl e) = ap (λ z. instance grown (var z)) e
       by h (inr p) = same p.0 (repeat h s) p.1
 
   -- if the left side is the call under some entries, they have
-  pub match_same : (xs : List Tree) → instance xs rule.left ≡ app side.function (trees_of env) → AreSame grown left.repeats.items
+  pub match_same : (xs : List Tree) → instance xs rule.left ≡ app side.function (trees_of env) →
+      AreSame grown left.repeats.items
   match_same xs is k r at =
       let q = side.repeats.right k r at in
-      repeats_decide side.function side.patterns side.all env grown xs left.tests.items r.first r.again q.0 side.opens unpacks q.1 q.2 (ap (λ t. instance xs t) (sym side.is) ∙ is)
+      repeats_decide side.function side.patterns side.all env grown xs left.tests.items r.first r.again q.0
+      side.opens unpacks q.1 q.2 (ap (λ t. instance xs t) (sym side.is) ∙ is)
 
-pub match_not : (rule : Rule) (left : LeftSide) (side : IsLeftSide rule left) (env xs : List Tree) → Fails env left.tests.items → instance xs rule.left ≡ app side.function (trees_of env) → ⊥
-match_not rule left side env xs fails is = tests_decide side.function side.patterns side.all env xs left.tests.items side.opens fails (ap (λ t. instance xs t) (sym side.is) ∙ is)
+pub match_not : (rule : Rule) (left : LeftSide) (side : IsLeftSide rule left) (env xs : List Tree) →
+    Fails env left.tests.items → instance xs rule.left ≡ app side.function (trees_of env) → ⊥
+match_not rule left side env xs fails is = tests_decide side.function side.patterns side.all env xs
+    left.tests.items side.opens fails (ap (λ t. instance xs t) (sym side.is) ∙ is)
 
 -- the tests have passed, and whether each repeat has one value decides
-pub repeats_fit : (cells : List Cell) (left : LeftSide) (base : ℕ) (new : List ℕ) (rule : Rule) (side : IsLeftSide rule left) (env : List Tree) (yes : Bool) → length env ≡ length side.patterns → (p : (grown : List Tree) × Grows cells base env left.tests.items new grown) → IsTrue yes ↔ AreSame p.0 left.repeats.items → MatchBy cells left base new rule side env yes
-repeats_fit cells left base new rule side env true n (grown, (terms, unpacks)) same = (grown, (terms, unpacks), have_homes rule left side env grown n unpacks (same.0 refl))
-repeats_fit cells left base new rule side env false n (grown, (terms, unpacks)) same = λ xs is. let t : IsTrue false = same.1 (match_same rule left side env grown n unpacks xs is) in absurd (let q : false ≡ true = t in cc)
+pub repeats_fit : (cells : List Cell) (left : LeftSide) (base : ℕ) (new : List ℕ) (rule : Rule)
+    (side : IsLeftSide rule left) (env : List Tree) (yes : Bool) → length env ≡ length side.patterns →
+    (p : (grown : List Tree) × Grows cells base env left.tests.items new grown) →
+    IsTrue yes ↔ AreSame p.0 left.repeats.items → MatchBy cells left base new rule side env yes
+repeats_fit cells left base new rule side env true n (grown, (terms, unpacks)) same = (
+  grown,
+  (terms, unpacks),
+  have_homes rule left side env grown n unpacks (same.0 refl),
+)
+repeats_fit cells left base new rule side env false n (grown, (terms, unpacks)) same = λ xs is. let t : IsTrue
+    false = same.1 (match_same rule left side env grown n unpacks xs is) in absurd (let q : false ≡ true = t in cc)
 
 -- what was added is taken away if the left side doesn't match
-pub not_fits : (cells : List Cell) (left : LeftSide) (base : ℕ) (old new cut : List ℕ) (fit : Bool) → Fits cells left base old new fit → fit ≡ false → cut ≡ take (length old) new → Tells cells left base old cut fit
+pub not_fits : (cells : List Cell) (left : LeftSide) (base : ℕ) (old new cut : List ℕ) (fit : Bool) →
+    Fits cells left base old new fit → fit ≡ false → cut ≡ take (length old) new → Tells cells left base old cut fit
 not_fits cells left base old new cut fit h fails e =
     let f : Fits cells left base old new false = subst (λ b. Fits cells left base old new b) fails h in
     let same : cut ≡ old = e ∙ ap (λ z. take (length old) z) f.extends.1 ∙ take_whole old f.extends.0 in
-    let tells : Tells cells left base old cut false = record { fits = record { extends = ([], same ∙ sym (append-nil old)); by = f.by }; stays = same } in
+    let tells : Tells cells left base old cut
+    false = record { fits = record { extends = ([], same ∙ sym (append-nil old)); by = f.by }; stays = same } in
     subst (λ b. Tells cells left base old cut b) (sym fails) tells

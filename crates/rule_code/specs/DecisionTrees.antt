@@ -1,5 +1,6 @@
 -- Decision trees: a node leaves out the rules whose left sides can't match, and keeps their order.
-use Rattle.std.specs.Prelude.{◌≡◌, ℕ, ◌-◌, ◌<◌, List, Option, Some, None, if◌then◌else◌, nat_lt, length, slice_get, slice_index_or}
+use Rattle.std.specs.Prelude.{◌≡◌, ℕ, ◌-◌, ◌<◌, List, Option, Some, None, if◌then◌else◌, nat_lt, length, slice_get}
+use Rattle.std.specs.Prelude.{slice_index_or}
 use Rattle.term_core.specs.Tree.{Tree, app, instance, trees_of}
 use Rattle.spec_core.specs.declared.records.Rule.{Rule}
 use Rattle.spec_core.specs.declared.records.Spec.{Spec}

@@ -15,7 +15,7 @@ use crate::instructions::Kind;
 use crate::left_sides::LeftSide;
 use spec_core::{Rule, Signature};
 use std::alloc::Global;
-use term_core::{TermNode, OutOfMemory, Term};
+use term_core::{OutOfMemory, Term, TermNode};
 
 /// Adds the code of a rule, a block for each guard and one for the right side, and gives the places
 /// where the blocks begin. Each begins with the slots of the left side alone.

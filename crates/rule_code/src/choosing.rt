@@ -3,7 +3,7 @@
 use crate::symbols::Path;
 use spec_core::Rule;
 use std::alloc::Global;
-use term_core::{TermNode, OutOfMemory, Term, front};
+use term_core::{OutOfMemory, Term, TermNode, front};
 
 /// The first of the places at which the most rules have a symbol, among those of the first rule at
 /// which not all have the same one.

@@ -1,6 +1,7 @@
 //! Instructions in one list.
 
-ghost use Rattle.std.specs.Prelude.{◌≡◌, ◌<◌, ◌+◌, ◌^◌, ◌∷◌, ◌++◌, [], Some, OnOk, OnErr, length, slice_get};
+ghost use Rattle.std.specs.Prelude.{◌≡◌, ◌<◌, ◌+◌, ◌^◌, ◌∷◌, ◌++◌, [], Some, OnOk, OnErr, length};
+ghost use Rattle.std.specs.Prelude.{slice_get};
 ghost use Rattle.rule_code.specs.Instructions.{instruction};
 
 use crate::instructions::{Kind, Op};

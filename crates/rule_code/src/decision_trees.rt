@@ -9,8 +9,8 @@ ghost use Rattle.rule_code.specs.DecisionTrees.{next_of, IsTree, AreLeft};
 use crate::symbols::Path;
 use value_bank::Bank;
 
-/// A decision tree of a function's rules (Maranget, 2008). The first node is the root, and each node
-/// comes before those that follow it.
+/// A decision tree of a function's rules (Maranget, 2008). The first node is the root, and each
+/// node comes before those that follow it.
 #[derive(Drop)]
 pub struct DecisionTree {
     pub(crate) nodes: Vec<TreeNode>,
@@ -23,8 +23,8 @@ pub(crate) struct TreeNode {
     pub(crate) split: Option<Split>,
 }
 
-/// Where a call is looked at, and the nodes that follow: those of the symbols from `low` on, and the
-/// one of all other symbols.
+/// Where a call is looked at, and the nodes that follow: those of the symbols from `low` on, and
+/// the one of all other symbols.
 #[derive(Drop)]
 pub(crate) struct Split {
     pub(crate) path: Path,

@@ -10,7 +10,7 @@ use crate::code::Code;
 use crate::instructions::Kind;
 use spec_core::Signature;
 use std::alloc::Global;
-use term_core::{TermNode, OutOfMemory, Term, front};
+use term_core::{OutOfMemory, Term, TermNode, front};
 
 /// Adds the steps that put the term into a slot, where the slots below `next` are taken, and gives
 /// that slot, and the number of slots that are taken then. Variables are in the slots `homes`.

@@ -1,4 +1,5 @@
-ghost use Rattle.rule_code.specs.Laws.{CodeIsRight, CodeIsWhole, TestsMatch, TestsDecide, RepeatsDecide};
+ghost use Rattle.rule_code.specs.Laws.{CodeIsRight, CodeIsWhole, TestsMatch, TestsDecide};
+ghost use Rattle.rule_code.specs.Laws.{RepeatsDecide};
 
 /// What the code of a term gives, the term gives.
 pub fn code_is_right()

@@ -10,10 +10,10 @@ use crate::patterns::Patterns;
 use crate::tests::{Repeat, Test};
 use spec_core::{Rule, Signature};
 use std::alloc::Global;
-use term_core::{TermNode, OutOfMemory, Term};
+use term_core::{OutOfMemory, Term, TermNode};
 
-/// A left side: the tests of a call's arguments and of the slots that they open, the slots that hold
-/// one variable, the slot of each variable, and the number of all slots.
+/// A left side: the tests of a call's arguments and of the slots that they open, the slots that
+/// hold one variable, the slot of each variable, and the number of all slots.
 #[derive(Drop)]
 pub struct LeftSide {
     pub(crate) tests: Vec<Test>,

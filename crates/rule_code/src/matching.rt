@@ -1,6 +1,7 @@
 //! Left sides against slots.
 
-ghost use Rattle.std.specs.Prelude.{◌≡◌, ◌<◌, ◌≤◌, ◌↔◌, ℕ, List, Some, IfOk, IsTrue, drop, length, slice_get};
+ghost use Rattle.std.specs.Prelude.{◌≡◌, ◌<◌, ◌≤◌, ◌↔◌, ℕ, List, Some, IfOk, IsTrue, drop, length};
+ghost use Rattle.std.specs.Prelude.{slice_get};
 ghost use Rattle.term_core.specs.Tree.{Tree, trees_of};
 ghost use Rattle.spec_core.specs.declared.records.Rule.{Rule};
 ghost use Rattle.value_bank.specs.Cells.{AreTerms};

@@ -6,7 +6,7 @@ ghost use Rattle.rule_code.specs.Matching.{Opens};
 use crate::patterns::Patterns;
 use crate::tests::Test;
 use std::alloc::Global;
-use term_core::{TermNode, OutOfMemory, Term};
+use term_core::{OutOfMemory, Term, TermNode};
 
 /// The tests of a left side's arguments, and the pattern of each slot.
 pub(crate) fn open<'a>(

@@ -7,7 +7,7 @@ ghost use Rattle.value_bank.specs.Cells.{AreTerms};
 ghost use Rattle.rule_code.specs.Symbols.{symbol_at, symbol_in};
 
 use spec_core::Rule;
-use term_core::{TermNode, Term, front};
+use term_core::{Term, TermNode, front};
 use value_bank::Bank;
 
 /// The way to a part of a call: the number of an argument, and the numbers of arguments below it.

@@ -15,7 +15,11 @@ module _ (above : Tree → Tree → Type 0) (spec : Spec) (usable : ℕ → Type
   -- what descends from a node comes later
   pub descends_later : (i j : ℕ) → Descends made i j → i < j
   descends_later i j (child r h) = child_later above spec usable start steps made makes i j r h
-  descends_later i j (further k r d h) = omega (arith, descends_later i k d, child_later above spec usable start steps made makes k j r h)
+  descends_later i j (further k r d h) = omega (
+    arith,
+    descends_later i k d,
+    child_later above spec usable start steps made makes k j r h,
+  )
 
   -- and after the first child
   pub descends_from : (i j : ℕ) → Descends made i j → first_child made i ≤ j

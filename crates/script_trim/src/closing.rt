@@ -1,6 +1,7 @@
 //! Whether a step is a closing step.
 
-ghost use Rattle.std.specs.Prelude.{◌≡◌, ◌↔◌, ◌≤◌, ℕ, Some, IsTrue, IfOk, Contains, length, slice_get};
+ghost use Rattle.std.specs.Prelude.{◌≡◌, ◌↔◌, ◌≤◌, ℕ, Some, IsTrue, IfOk, Contains, length};
+ghost use Rattle.std.specs.Prelude.{slice_get};
 ghost use Rattle.term_core.specs.Tree.{var as variable};
 ghost use Rattle.spec_core.specs.declared.records.Goal.{Goal as GoalOf};
 ghost use Rattle.spec_core.specs.WellSorted.{IsWellSorted};
@@ -14,7 +15,7 @@ use clause_core::{Clause, Step, of_goal};
 use inference_rules::Node;
 use spec_core::Spec;
 use std::alloc::Global;
-use term_core::{Name, TermNode as Root, OutOfMemory, Seq, Term, VarId};
+use term_core::{Name, OutOfMemory, Seq, Term, TermNode as Root, VarId};
 
 /// Whether the step is one of the closing steps at a node with this clause.
 pub(crate) fn is_closing(

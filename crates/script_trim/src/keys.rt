@@ -2,12 +2,13 @@
 
 ghost use Rattle.std.specs.Prelude.{◌≡◌, ◌↔◌, IsTrue, IfOk, Contains, map};
 ghost use Rattle.term_core.specs.Tree.{trees_of};
-ghost use Rattle.script_trim.specs.Keys.{stirred, hashed, hashed_all, both_hashed, equation_key as key_of_equation, key_of, MayClose};
+ghost use Rattle.script_trim.specs.Keys.{stirred, hashed, hashed_all, both_hashed};
+ghost use Rattle.script_trim.specs.Keys.{equation_key as key_of_equation, key_of, MayClose};
 
 use clause_core::Clause;
 use spec_core::Equation;
 use std::alloc::Global;
-use term_core::{TermNode, OutOfMemory, Term};
+use term_core::{OutOfMemory, Term, TermNode};
 
 /// The odd number next to 2^64 divided by the golden ratio (Knuth, 1973): bits of a product with it
 /// depend on all lower ones of the other factor, so the upper half is the key.

@@ -17,7 +17,8 @@ use value_bank::{Bank, ValueId};
 /// Whether the case comes out as it is written. It is one of these, where the values are those of
 /// the goal's variables in their order, and of a part those of its first variables alone:
 ///
-/// - `case run GOAL BUDGET VALUE .. -> VALUE COST`, of the left side of the goal's first conclusion,
+/// - `case run GOAL BUDGET VALUE .. -> VALUE COST`, of the left side of the goal's first
+///   conclusion,
 ///   or `-> spent`
 /// - `case verdict GOAL BUDGET VALUE .. -> VERDICT`
 /// - `case part GOAL BUDGET VALUE .. -> VERDICT`, or `-> looks NUMBER`

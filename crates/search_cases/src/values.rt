@@ -6,7 +6,7 @@ ghost use Rattle.spec_core.specs.Truth.{AreValuesOf};
 ghost use Rattle.spec_core.specs.WellSorted.{sorts_of};
 
 use spec_core::{Signature, Spec, VarInfo};
-use term_core::{TermNode, SortId, Term, front};
+use term_core::{SortId, Term, TermNode, front};
 
 /// Whether the terms are values of the variables, one for each.
 pub fn are_values(spec: &Spec, vars: &[VarInfo], terms: &[Term]) -> bool

@@ -15,7 +15,9 @@ use Rattle.refuter.proofs.InLists.{filter_parts, map_parts, flat_map_parts}
 use Rattle.refuter.proofs.Progress.{row_small}
 
 -- the values of a row from lists of values of at most this depth
-rows_shallow : (V : SortId → List Tree) (depth : ℕ) → ((s : SortId) (t : Tree) → In t (V s) → tree_depth t ≤ depth) → (ss : List SortId) (row : List Tree) → In row (product (map V ss)) → AllByRecursion (λ t. tree_depth t ≤ depth) row
+rows_shallow : (V : SortId → List Tree) (depth : ℕ) →
+    ((s : SortId) (t : Tree) → In t (V s) → tree_depth t ≤ depth) → (ss : List SortId) (row : List Tree) →
+    In row (product (map V ss)) → AllByRecursion (λ t. tree_depth t ≤ depth) row
 rows_shallow V depth h [] row (inl e) = subst (λ r. AllByRecursion (λ t. tree_depth t ≤ depth) r) (sym e) tt
 rows_shallow V depth h [] row (inr a) = absurd a
 rows_shallow V depth h (s ∷ ss) row a =
@@ -23,7 +25,8 @@ rows_shallow V depth h (s ∷ ss) row a =
     let v = map_parts (λ x. w.0 ∷ x) (product (map V ss)) row w.2 in
     subst (λ r. AllByRecursion (λ t. tree_depth t ≤ depth) r) v.2 (h s w.0 w.1, rows_shallow V depth h ss v.0 v.1)
 
-depths_within : (depth : ℕ) (row : List Tree) → AllByRecursion (λ t. tree_depth t ≤ depth) row → depths (trees_of row) ≤ depth
+depths_within : (depth : ℕ) (row : List Tree) → AllByRecursion (λ t. tree_depth t ≤ depth) row →
+    depths (trees_of row) ≤ depth
 depths_within depth [] a = omega arith
 depths_within depth (t ∷ row) a = omega (arith, a.0, depths_within depth row a.1)
 
@@ -41,10 +44,16 @@ module _ (sig : Sig) where
 
 module _ (spec : Spec) (goal : Goal) (depth index : ℕ) (row : List Tree) where
   listed : slice_get (substitutions spec goal depth) index ≡ Some row → In row (substitutions spec goal depth)
-  listed at = in_contained (substitutions spec goal depth) row (index, slice_get_within (substitutions spec goal depth) index row at, get_or_from_slice_get (substitutions spec goal depth) index row row at)
+  listed at = in_contained (substitutions spec goal depth) row (
+    index,
+    slice_get_within (substitutions spec goal depth) index row at,
+    get_or_from_slice_get (substitutions spec goal depth) index row row at,
+  )
 
-  pub row_shallow : slice_get (substitutions spec goal depth) index ≡ Some row → AllByRecursion (λ t. tree_depth t ≤ depth) row
-  row_shallow at = rows_shallow (λ s. values spec.sig depth s) depth (λ s t a. values_shallow spec.sig depth s t a) (sorts_of goal.vars) row (listed at)
+  pub row_shallow : slice_get (substitutions spec goal depth) index ≡ Some row →
+      AllByRecursion (λ t. tree_depth t ≤ depth) row
+  row_shallow at = rows_shallow (λ s. values spec.sig depth s) depth
+      (λ s t a. values_shallow spec.sig depth s t a) (sorts_of goal.vars) row (listed at)
 
   pub row_few : slice_get (substitutions spec goal depth) index ≡ Some row → AllByRecursion (λ t. tree_size t ≤ 255) row
   row_few at = row_small spec.sig depth (sorts_of goal.vars) row (listed at)

@@ -22,14 +22,16 @@ named_few (v ∷ vars) (t ∷ values) = omega (arith, named_few vars values)
 
 module _ (spec : Spec) where
   -- the names are those of the variables
-  pub names_named : (vars : List VarInfo) (values : List Tree) → AreValuesOf spec (sorts_of vars) values → map (λ v. v.0) (named vars values) ≡ variable_names vars
+  pub names_named : (vars : List VarInfo) (values : List Tree) → AreValuesOf spec (sorts_of vars) values →
+      map (λ v. v.0) (named vars values) ≡ variable_names vars
   names_named [] [] h = refl
   names_named [] (t ∷ values) h = absurd h
   names_named (v ∷ vars) [] h = absurd h
   names_named (v ∷ vars) (t ∷ values) h = ap (λ ns. v.name ∷ ns) (names_named vars values h.1)
 
   -- and the values stay
-  pub values_named : (vars : List VarInfo) (values : List Tree) → AreValuesOf spec (sorts_of vars) values → map (λ v. v.1) (named vars values) ≡ values
+  pub values_named : (vars : List VarInfo) (values : List Tree) → AreValuesOf spec (sorts_of vars) values →
+      map (λ v. v.1) (named vars values) ≡ values
   values_named [] [] h = refl
   values_named [] (t ∷ values) h = absurd h
   values_named (v ∷ vars) [] h = absurd h

@@ -18,7 +18,10 @@ use Rattle.proof_script.specs.Standing.{SymbolsStand, AllSymbolsStand}
 use Rattle.search_claims.specs.Claims.{named}
 
 -- a declared symbol with its name
-entry_at : (table : List (List ℕ × SymInfo)) (f : ℕ) (i : SymInfo) → AllByRecursion IsReportName (map (λ (e : List ℕ × SymInfo). e.0) table) → option_map (λ (e : List ℕ × SymInfo). e.1) (slice_get table f) ≡ Some i → (name : List ℕ) × (slice_get table f ≡ Some (name, i)) × IsReportName name
+entry_at : (table : List (List ℕ × SymInfo)) (f : ℕ) (i : SymInfo) →
+    AllByRecursion IsReportName (map (λ (e : List ℕ × SymInfo). e.0) table) →
+    option_map (λ (e : List ℕ × SymInfo). e.1) (slice_get table f) ≡ Some i →
+    (name : List ℕ) × (slice_get table f ≡ Some (name, i)) × IsReportName name
 entry_at [] f i a e = absurd (let q : None ≡ Some i = e in cc)
 entry_at (x ∷ table) zero i a e =
     let q : Some x.1 ≡ Some i = e in
@@ -55,7 +58,8 @@ module _ (sig : Sig) (names : AllByRecursion IsReportName (names_of sig)) where
     all_are_closed (some t ts) p = (is_closed t p.0, all_are_closed ts p.1)
 
   -- a value with the name of its variable
-  pub value_stands : (name : List ℕ) (t : Tree) (s : SortId) → IsReportName name → IsValue sig s t → tree_depth t ≤ 100 → ValueStands sig (name, t)
+  pub value_stands : (name : List ℕ) (t : Tree) (s : SortId) → IsReportName name → IsValue sig s t →
+      tree_depth t ≤ 100 → ValueStands sig (name, t)
   value_stands name t s n v d = record {
     name = n;
     stands = record { symbols = symbols_stand t s v.0; depth = d };
@@ -63,7 +67,10 @@ module _ (sig : Sig) (names : AllByRecursion IsReportName (names_of sig)) where
   }
 
 -- values with the names of their variables
-pub values_stand : (spec : Spec) → AllByRecursion IsReportName (names_of spec.sig) → (vars : List VarInfo) (values : List Tree) → AllByRecursion IsReportName (variable_names vars) → AreValuesOf spec (sorts_of vars) values → AllByRecursion (λ t. tree_depth t ≤ 100) values → AllByRecursion (ValueStands spec.sig) (named vars values)
+pub values_stand : (spec : Spec) → AllByRecursion IsReportName (names_of spec.sig) →
+    (vars : List VarInfo) (values : List Tree) → AllByRecursion IsReportName (variable_names vars) →
+    AreValuesOf spec (sorts_of vars) values → AllByRecursion (λ t. tree_depth t ≤ 100) values →
+    AllByRecursion (ValueStands spec.sig) (named vars values)
 values_stand spec names [] values n v d = tt
 values_stand spec names (x ∷ vars) [] n v d = tt
 values_stand spec names (x ∷ vars) (t ∷ values) n v d =

@@ -28,7 +28,8 @@ pub(crate) fn push_command(commands: &mut Vec<Command>, command: Command) -> Res
 
 /// Drops the last command.
 pub(crate) fn drop_command(commands: &mut Vec<Command>)
-    ensures { (front : List CommandOf) (last : CommandOf) → commands.old.items ≡ front ++ last ∷ [] →
+    ensures { (front : List CommandOf) (last : CommandOf) →
+        commands.old.items ≡ front ++ last ∷ [] →
         commands.new.items ≡ front }
 {
     commands.pop();

@@ -71,8 +71,8 @@ impl Error for UndoError {}
 /// Why bytes aren't read as commands.
 #[derive(Clone, Copy, Debug, PartialEq, Eq)]
 pub enum CommandError {
-    /// The number of the first line that isn't a command or isn't ended, from 1, or of the line after
-    /// the last one that is allowed.
+    /// The number of the first line that isn't a command or isn't ended, from 1, or of the line
+    /// after the last one that is allowed.
     Line { line: u32 },
     OutOfMemory,
 }

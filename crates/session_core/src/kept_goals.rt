@@ -1,6 +1,7 @@
 //! What is kept of each goal, and how the last step is taken back.
 
-ghost use Rattle.std.specs.Prelude.{◌≡◌, ◌↔◌, ◌++◌, ◌∷◌, ◌-◌, List, [], Contains, IfOk, IsTrue, MatchOption, OnErr, OnOk, length, map};
+ghost use Rattle.std.specs.Prelude.{◌≡◌, ◌↔◌, ◌++◌, ◌∷◌, ◌-◌, List, [], Contains, IfOk, IsTrue};
+ghost use Rattle.std.specs.Prelude.{MatchOption, OnErr, OnOk, length, map};
 ghost use Rattle.session_core.specs.Kept.{Kept};
 ghost use Rattle.session_core.specs.Taking.{HasOpenLast, IsOpenAt};
 ghost use Rattle.session_core.specs.Value.{LastStep, kept_of, number_of, without_last};

@@ -1,5 +1,6 @@
 ghost use Rattle.session_core.specs.Examples.{WorkedExamples};
-ghost use Rattle.session_core.specs.Laws.{KeepsBothWays, LastTest, OneAnswer, OneReading, OneState, OneText, ReportsStand, StatesAreSound};
+ghost use Rattle.session_core.specs.Laws.{KeepsBothWays, LastTest, OneAnswer, OneReading, OneState};
+ghost use Rattle.session_core.specs.Laws.{OneText, ReportsStand, StatesAreSound};
 
 use term_order::TermOrder;
 
@@ -17,8 +18,8 @@ pub fn one_answer<O: TermOrder>(order: &O)
     clause_core::one_relation(order);
 }
 
-/// The claims of each state make an accepted report, and a step that leaves nothing pending makes its
-/// goal the last of them.
+/// The claims of each state make an accepted report, and a step that leaves nothing pending makes
+/// its goal the last of them.
 pub fn states_are_sound<O: TermOrder>(order: &O)
     ensures { StatesAreSound (O.above order.now) }
 {}
@@ -30,7 +31,8 @@ pub fn worked_examples()
     spec_core::worked_examples();
 }
 
-/// At a step that leaves nothing pending, the test of what isn't smaller is that of the whole block.
+/// At a step that leaves nothing pending, the test of what isn't smaller is that of the whole
+/// block.
 pub fn last_test<O: TermOrder>(order: &O)
     ensures { LastTest (O.above order.now) }
 {}

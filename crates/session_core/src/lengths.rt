@@ -21,8 +21,8 @@ const NAMELESS_LINE: usize = 16;
 /// The bytes of the first line of a claim beside the name and the number of nodes.
 const OTHER_BYTES: usize = 15;
 
-/// How many bytes the lines of the steps have of which these are the lengths, with the line of one step
-/// more. A number past 64 bits counts as want of memory.
+/// How many bytes the lines of the steps have of which these are the lengths, with the line of one
+/// step more. A number past 64 bits counts as want of memory.
 pub(crate) fn length_with(
     alloc: Global,
     sig: &Signature,

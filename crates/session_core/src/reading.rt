@@ -15,8 +15,8 @@ use term_core::Name;
 /// The most lines that a text of commands may have.
 pub const MOST_COMMANDS: u32 = 100_000;
 
-/// The commands of a text, one for each line, or its first line that isn't a command, isn't ended or
-/// is one too many.
+/// The commands of a text, one for each line, or its first line that isn't a command, isn't ended
+/// or is one too many.
 pub fn read_commands(
     alloc: Global,
     sig: &Signature,

@@ -38,7 +38,12 @@ impl Model for Session {
 
     ghost Value = { SessionValue };
 
-    ghost coded = { Prim.hlevel (codes, command_contract.the_row.coded, clause_contract.the_row.coded, children_contract.the_row.coded) };
+    ghost coded = { Prim.hlevel (
+      codes,
+      command_contract.the_row.coded,
+      clause_contract.the_row.coded,
+      children_contract.the_row.coded,
+    ) };
 
     ghost view = { λ s. record { commands = s.commands.items; goals = map kept_of s.goals.items } };
 }
@@ -80,7 +85,8 @@ impl Session {
         }
     }
 
-    /// The report of the proved claims. `steps` is how many rule uses the evaluation of a side may cost.
+    /// The report of the proved claims. `steps` is how many rule uses the evaluation of a side may
+    /// cost.
     pub fn report<O: TermOrder>(
         &self,
         alloc: Global,

@@ -1,6 +1,7 @@
 //! A step taken at the first node without one.
 
-ghost use Rattle.std.specs.Prelude.{◌≡◌, ◌⊎◌, ◌<◌, ◌≤◌, ◌+◌, ◌↔◌, ◌++◌, ◌∷◌, ℕ, [], List, Ok, Err, Contains, IsTrue, MatchResult, OnErr, OnOk, length};
+ghost use Rattle.std.specs.Prelude.{◌≡◌, ◌⊎◌, ◌<◌, ◌≤◌, ◌+◌, ◌↔◌, ◌++◌, ◌∷◌, ℕ, [], List, Ok, Err};
+ghost use Rattle.std.specs.Prelude.{Contains, IsTrue, MatchResult, OnErr, OnOk, length};
 ghost use Rattle.std.specs.Prelude.{Result as AnyResult};
 ghost use Rattle.clause_core.specs.declared.reports.Claim.{Claim as ClaimOf};
 ghost use Rattle.acceptance.specs.AllowedAnswers.{IsWholeBlock};
@@ -10,7 +11,8 @@ ghost use Rattle.inference_rules.specs.Answers.{clauses_of};
 ghost use Rattle.inference_rules.specs.Nodes.{AreNodes};
 ghost use Rattle.session_core.specs.Accepting.{HasNeitherChild, HasNeitherReference, IsNeither};
 ghost use Rattle.session_core.specs.States.{Work as WorkOf};
-ghost use Rattle.session_core.specs.Taking.{IsOpenGoal, MakesRelated, TakesKept, TestsAllowed, TestsLast};
+ghost use Rattle.session_core.specs.Taking.{IsOpenGoal, MakesRelated, TakesKept, TestsAllowed};
+ghost use Rattle.session_core.specs.Taking.{TestsLast};
 ghost use Rattle.session_core.specs.Value.{kept_of};
 
 use crate::errors::SessionError;

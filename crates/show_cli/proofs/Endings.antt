@@ -24,7 +24,8 @@ use Rattle.file_replies.proofs.Endings.{line_ends, line_told, status_of_reply}
 use Rattle.file_replies.proofs.Pieces.{part_of}
 use Rattle.show_words.specs.Words.{Task, Asks}
 use Rattle.show_cli.specs.Pages.{IsPage}
-use Rattle.show_cli.specs.Runs.{MayWriteFor, refusal, on_spec, Ended, RefusedBytes, ReadsFile, MayWrite, for_file, Means}
+use Rattle.show_cli.specs.Runs.{MayWriteFor, refusal, on_spec, Ended, RefusedBytes, ReadsFile, MayWrite, for_file}
+use Rattle.show_cli.specs.Runs.{Means}
 use Rattle.show_cli.specs.Stops.{MeansFor}
 
 module _

@@ -2,7 +2,8 @@
 use Rattle.std.specs.Prelude.{◌≡◌, ℕ, List, Option}
 use Rattle.io_core.specs.Count.{Rose}
 use Rattle.file_replies.specs.declared.statuses.Status.{Status}
-use Rattle.file_replies.specs.declared.statuses.Status.TheVariants.{Done, Refused, No, ReadFault, WriteFault, OutOfMemory}
+use Rattle.file_replies.specs.declared.statuses.Status.TheVariants.{Done, Refused, No, ReadFault, WriteFault}
+use Rattle.file_replies.specs.declared.statuses.Status.TheVariants.{OutOfMemory}
 use Rattle.file_replies.specs.Parts.{AppendsPartOf}
 use Rattle.show_cli.specs.Runs.{Ended, RefusedBytes, MayWriteFor}
 use Rattle.show_words.specs.Words.{Task}

@@ -6,8 +6,8 @@
 //! Uses show_words for the words, file_replies for replies to reports, and report_pages for pages.
 //!
 //! Proved: `run`, for every store and sink: what was appended, by the status; which count of faults
-//! rose; and which files were asked for (`specs/Runs.antt`). Done: the page of an accepted report, or
-//! help.
+//! rose; and which files were asked for (`specs/Runs.antt`). Done: the page of an accepted report,
+//! or help.
 #![tactic(auto)]
 
 mod pages;

@@ -15,8 +15,8 @@ use show_words::{Command, Request, help_text, request_of, usage_line};
 use spec_grammar::MAX_FILE_BYTES;
 use std::alloc::Global;
 
-/// Does all that the program does: reads the file and the report that the words ask for from `files`,
-/// and appends the page, or the line that says why there is none, to `out`.
+/// Does all that the program does: reads the file and the report that the words ask for from
+/// `files`, and appends the page, or the line that says why there is none, to `out`.
 pub fn run<F: Files, S: Sink>(alloc: Global, words: &[String], files: &mut F, out: &mut S) -> Status
     ensures means { Means (map string_bytes words.now) (F.held files.old)
         (F.faults files.old) (F.faults files.new) (S.written out.old) (S.written out.new)

@@ -1,5 +1,6 @@
 -- What a raw specification, and a ground term, is answered.
-use Rattle.std.proofs.Common.{◌≡◌, ℕ, zero, suc, List, [], ◌∷◌, ◌++◌, Option, Some, None, Ok, Err, inl, inr, refl, ap, sym, ◌∙◌, subst, map}
+use Rattle.std.proofs.Common.{◌≡◌, ℕ, zero, suc, List, [], ◌∷◌, ◌++◌, Option, Some, None, Ok, Err, inl, inr, refl, ap}
+use Rattle.std.proofs.Common.{sym, ◌∙◌, subst, map}
 use Rattle.std.specs.List.{AllZip}
 use Rattle.std.specs.Prelude.{slice_get, Result, IfOk, option_map}
 use Rattle.std.proofs.lemmas.List.{map-append}
@@ -23,7 +24,8 @@ use Rattle.spec_grammar.specs.declared.raw.RawSpec.{RawSpec}
 use Rattle.sort_check.specs.Answers.{Answers, IsUnlessNoMemory}
 use Rattle.sort_check.specs.GoalTests.{goal_tests, own_sort}
 use Rattle.sort_check.specs.Goals.{GoalStands}
-use Rattle.sort_check.specs.Words.{symbol_named, info_at, after_word, entries_after, entries_after_all, other_tests, word_tests, terms_tests, term_tests}
+use Rattle.sort_check.specs.Words.{symbol_named, info_at, after_word, entries_after, entries_after_all, other_tests}
+use Rattle.sort_check.specs.Words.{word_tests, terms_tests, term_tests}
 use Rattle.sort_check.specs.DeclarationTests.{declarations_tests, sig_of}
 use Rattle.sort_check.specs.Limits.{most_rules_of_one}
 use Rattle.sort_check.specs.Orders.{OrderStands}
@@ -72,20 +74,30 @@ module _ {T : Type 0} (s : Search SortFault) (P : T → Type 0) (r : Result T So
       by (Err OutOfMemory) b e = inr e
 
 -- names of goals
-names_after : (sig : Sig) (before gs : List RawGoal) → Clean (each_after (goal_tests sig) before gs) → AreNewNames (map (λ (g : RawGoal). g.head.name) before) (map (λ (g : RawGoal). g.head.name) gs)
+names_after : (sig : Sig) (before gs : List RawGoal) → Clean (each_after (goal_tests sig) before gs) →
+    AreNewNames (map (λ (g : RawGoal). g.head.name) before) (map (λ (g : RawGoal). g.head.name) gs)
 names_after sig before [] c = tt
-names_after sig before (g ∷ gs) c =
-    (new_indeed g.head.name (map (λ (d : RawGoal). d.head.name) before) c.0.0, subst (λ ns. AreNewNames ns (map (λ (d : RawGoal). d.head.name) gs)) (map-append (λ (d : RawGoal). d.head.name) before (g ∷ [])) (names_after sig (before ++ g ∷ []) gs c.1))
+names_after sig before (g ∷ gs) c = (
+  new_indeed g.head.name (map (λ (d : RawGoal). d.head.name) before) c.0.0,
+  subst (λ ns. AreNewNames ns (map (λ (d : RawGoal). d.head.name) gs))
+      (map-append (λ (d : RawGoal). d.head.name) before (g ∷ [])) (names_after sig (before ++ g ∷ []) gs c.1),
+)
 
-name_at : (sig : Sig) (raws : List RawGoal) (goals : List Goal) → AllZip (GoalStands sig) raws goals → (k : ℕ) (g : Goal) → slice_get goals k ≡ Some g → slice_get (map (λ (r : RawGoal). r.head.name) raws) k ≡ Some g.name
+name_at : (sig : Sig) (raws : List RawGoal) (goals : List Goal) → AllZip (GoalStands sig) raws goals →
+    (k : ℕ) (g : Goal) → slice_get goals k ≡ Some g →
+    slice_get (map (λ (r : RawGoal). r.head.name) raws) k ≡ Some g.name
 name_at sig [] [] p k g e = absurd (let z : None ≡ Some g = e in cc)
 name_at sig (r ∷ rs) [] p k g e = absurd p
 name_at sig [] (h ∷ hs) p k g e = absurd p
-name_at sig (r ∷ rs) (h ∷ hs) p zero g e = let z : Some h ≡ Some g = e in let q : h ≡ g = cc in ap (λ n. Some n) (sym p.0.name ∙ ap (λ (x : Goal). x.name) q)
+name_at sig (r ∷ rs) (h ∷ hs) p zero g e = let z : Some h ≡ Some g = e in let q : h ≡ g = cc in
+    ap (λ n. Some n) (sym p.0.name ∙ ap (λ (x : Goal). x.name) q)
 name_at sig (r ∷ rs) (h ∷ hs) p (suc k) g e = name_at sig rs hs p.1 k g e
 
-pub goal_names_distinct : (sig : Sig) (raws : List RawGoal) (goals : List Goal) → Clean (each_after (goal_tests sig) [] raws) → AllZip (GoalStands sig) raws goals → GoalNamesAreDistinct goals
-goal_names_distinct sig raws goals c p j k g h a b same = one_place [] (map (λ (r : RawGoal). r.head.name) raws) j k h.name (names_after sig [] raws c) (name_at sig raws goals p j g a ∙ ap (λ n. Some n) same) (name_at sig raws goals p k h b)
+pub goal_names_distinct : (sig : Sig) (raws : List RawGoal) (goals : List Goal) →
+    Clean (each_after (goal_tests sig) [] raws) → AllZip (GoalStands sig) raws goals → GoalNamesAreDistinct goals
+goal_names_distinct sig raws goals c p j k g h a b same = one_place [] (map (λ (r : RawGoal). r.head.name) raws)
+    j k h.name (names_after sig [] raws c) (name_at sig raws goals p j g a ∙ ap (λ n. Some n) same)
+    (name_at sig raws goals p k h b)
 
 -- the specification that the parts make
 pub spec_made : (raw : RawSpec) (sig : Sig) (order : OrderInfo) (most : ℕ) → most ≡ most_rules_of_one raw.version →
@@ -97,11 +109,13 @@ pub spec_made : (raw : RawSpec) (sig : Sig) (order : OrderInfo) (most : ℕ) →
     Clean (each_after (goal_tests sig) [] ys) × AllZip (GoalStands sig) ys goals →
     Clean (spec_tests raw) × IsNumbered raw (record { sig = sig; order = order; rules = rules; goals = goals })
 spec_made raw sig order most is xs ys rules goals x y a o b c =
-    let r : Clean (each_after (rule_tests sig (most_rules_of_one raw.version)) [] raw.rules) × AllZip (RuleStands sig) raw.rules rules =
+    let r : Clean (each_after (rule_tests sig (most_rules_of_one raw.version)) [] raw.rules)
+    × AllZip (RuleStands sig) raw.rules rules =
     subst (λ m. Clean (each_after (rule_tests sig m) [] raw.rules) × AllZip (RuleStands sig) raw.rules rules) is
     (subst (λ us. Clean (each_after (rule_tests sig most) [] us) × AllZip (RuleStands sig) us rules) x b)
     in
-    let g : Clean (each_after (goal_tests sig) [] raw.goals) × AllZip (GoalStands sig) raw.goals goals = subst (λ us. Clean (each_after (goal_tests sig) [] us) × AllZip (GoalStands sig) us goals) y c in (
+    let g : Clean (each_after (goal_tests sig) [] raw.goals) × AllZip (GoalStands sig) raw.goals goals = subst
+    (λ us. Clean (each_after (goal_tests sig) [] us) × AllZip (GoalStands sig) us goals) y c in (
       (
         a.0,
         (
@@ -129,55 +143,83 @@ module _ (raw : RawSpec) where
   stands_where (Err e) a = tt
 
   -- what it stands for is made
-  pub made_where : (r : Result Spec SortFault) → Answers (spec_tests raw) (IsNumbered raw) r → (spec : Spec) → StandsFor raw spec → IsUnlessNoMemory r (Ok spec)
-  made_where r a spec stands = answer_made (spec_tests raw) (IsNumbered raw) r a spec stands.clean (λ made is. one_numbering raw made spec is stands.numbered)
+  pub made_where : (r : Result Spec SortFault) → Answers (spec_tests raw) (IsNumbered raw) r → (spec : Spec) →
+      StandsFor raw spec → IsUnlessNoMemory r (Ok spec)
+  made_where r a spec stands = answer_made (spec_tests raw) (IsNumbered raw) r a spec stands.clean
+      (λ made is. one_numbering raw made spec is stands.numbered)
 
   -- what is made is well sorted
-  pub well_sorted_where : (r : Result Spec SortFault) → Answers (spec_tests raw) (IsNumbered raw) r → IfOk r (λ spec. KeepsLimits raw → IsWellSorted spec)
+  pub well_sorted_where : (r : Result Spec SortFault) → Answers (spec_tests raw) (IsNumbered raw) r →
+      IfOk r (λ spec. KeepsLimits raw → IsWellSorted spec)
   well_sorted_where (Ok spec) a = λ limits. stands_well_sorted raw spec limits (record { clean = a.0; numbered = a.1 })
   well_sorted_where (Err e) a = tt
 
 -- a ground term has no variables
 module _ (sig : Sig) where
-  ground_word : (wrong : SortKind) (name : List ℕ) (at : ℕ) (args : RawTrees) (place : Option SortId) → Clean (other_tests Ground [] wrong name at args place) → ⊥
+  ground_word : (wrong : SortKind) (name : List ℕ) (at : ℕ) (args : RawTrees) (place : Option SortId) →
+      Clean (other_tests Ground [] wrong name at args place) → ⊥
   ground_word wrong name at no_raws place c = c tt
   ground_word wrong name at (more_raws r rs) place c = c tt
 
   mutual
-    ground_same : (wrong : SortKind) (r : RawTree) (place : Option SortId) → Clean (term_tests sig Ground [] wrong r place) → entries_after sig [] r place ≡ []
-    ground_same wrong (word name at args) place c = by (symbol_named sig name) c (λ f d. grounds_same args (info_at sig f).args d)
+    ground_same : (wrong : SortKind) (r : RawTree) (place : Option SortId) →
+        Clean (term_tests sig Ground [] wrong r place) → entries_after sig [] r place ≡ []
+    ground_same wrong (word name at args) place c = by (symbol_named sig name) c
+        (λ f d. grounds_same args (info_at sig f).args d)
       where
-        by : (o : Option ℕ) → Clean (word_tests sig Ground [] wrong name at args place (λ f. terms_tests sig Ground [] args (info_at sig f).args) o) → ((f : ℕ) → Clean (terms_tests sig Ground [] args (info_at sig f).args) → entries_after_all sig [] args (info_at sig f).args ≡ []) → after_word sig [] name at place (λ f. entries_after_all sig [] args (info_at sig f).args) o ≡ []
+        by : (o : Option ℕ) →
+            Clean (word_tests sig Ground [] wrong name at args place
+            (λ f. terms_tests sig Ground [] args (info_at sig f).args) o) →
+            ((f : ℕ) → Clean (terms_tests sig Ground [] args (info_at sig f).args) →
+            entries_after_all sig [] args (info_at sig f).args ≡ []) →
+            after_word sig [] name at place (λ f. entries_after_all sig [] args (info_at sig f).args) o ≡ []
         by (Some f) d h = h f d.1
         by None d h = absurd (ground_word wrong name at args place d)
 
-    grounds_same : (rs : RawTrees) (ss : List SortId) → Clean (terms_tests sig Ground [] rs ss) → entries_after_all sig [] rs ss ≡ []
+    grounds_same : (rs : RawTrees) (ss : List SortId) → Clean (terms_tests sig Ground [] rs ss) →
+        entries_after_all sig [] rs ss ≡ []
     grounds_same no_raws ss c = refl
     grounds_same (more_raws r rs) [] c = refl
     grounds_same (more_raws r rs) (s ∷ ss) c =
         let e = ground_same WrongSort r (Some s) c.0 in
-        ap (λ es. entries_after_all sig es rs ss) e ∙ grounds_same rs ss (subst (λ es. Clean (terms_tests sig Ground es rs ss)) e c.1)
+        ap (λ es. entries_after_all sig es rs ss) e
+        ∙ grounds_same rs ss (subst (λ es. Clean (terms_tests sig Ground es rs ss)) e c.1)
 
   ground_own : (raw : RawTree) → Clean (ground_tests sig raw) → (s : SortId) × (own_sort sig raw ≡ Some s)
   ground_own (word name at args) c = by (symbol_named sig name) c
     where
-      by : (o : Option ℕ) → Clean (word_tests sig Ground [] WrongSort name at args None (λ f. terms_tests sig Ground [] args (info_at sig f).args) o) → (s : SortId) × (option_map (λ f. (info_at sig f).result) o ≡ Some s)
+      by : (o : Option ℕ) →
+          Clean (word_tests sig Ground [] WrongSort name at args None
+          (λ f. terms_tests sig Ground [] args (info_at sig f).args) o) →
+          (s : SortId) × (option_map (λ f. (info_at sig f).result) o ≡ Some s)
       by (Some f) d = ((info_at sig f).result, refl)
       by None d = absurd (ground_word WrongSort name at args None d)
 
-  pub ground_sorted : (raw : RawTree) (es : List Entry) (t : Tree) → Clean (ground_tests sig raw) → es ≡ entries_after sig [] raw None → IsOver sig es raw t → TermStands sig [] raw t × ((s : SortId) × Sorted sig [] t s)
+  pub ground_sorted : (raw : RawTree) (es : List Entry) (t : Tree) → Clean (ground_tests sig raw) →
+      es ≡ entries_after sig [] raw None → IsOver sig es raw t → TermStands sig [] raw t
+      × ((s : SortId) × Sorted sig [] t s)
   ground_sorted raw es t c e o =
       let none = ground_same WrongSort raw None c in
       let over : IsOver sig [] raw t = subst (λ us. IsOver sig us raw t) (e ∙ none) o in
       let has : HasSorts [] [] = λ n s k. absurd (let z : None ≡ Some s = k in cc) in
-      let f = facts sig Ground [] [] has [] WrongSort raw None t c (subst (λ us. KeepsNames us []) (sym none) (extends_self [])) (subst (λ us. Keeps us []) (sym none) (λ n s k. k)) over in
+      let f = facts sig Ground [] [] has [] WrongSort raw None t c
+      (subst (λ us. KeepsNames us []) (sym none) (extends_self []))
+      (subst (λ us. Keeps us []) (sym none) (λ n s k. k)) over in
       let s = ground_own raw c in
       (over_stands sig [] raw t over, (s.0, f.own s.0 s.1))
 
-  pub ground_answers : (raw : RawTree) (v0 v1 : List Entry) (r : Result Tree SortFault) → v0 ≡ [] → Answers (term_tests sig Ground v0 WrongSort raw None) (λ t. (v1 ≡ entries_after sig v0 raw None) × IsOver sig v1 raw t) r → Answers (ground_tests sig raw) (λ t. TermStands sig [] raw t × ((s : SortId) × Sorted sig [] t s)) r
-  ground_answers raw v0 v1 r e a = by r (subst (λ us. Answers (term_tests sig Ground us WrongSort raw None) (λ t. (v1 ≡ entries_after sig us raw None) × IsOver sig v1 raw t) r) e a)
+  pub ground_answers : (raw : RawTree) (v0 v1 : List Entry) (r : Result Tree SortFault) → v0 ≡ [] →
+      Answers (term_tests sig Ground v0 WrongSort raw None) (λ t. (v1 ≡ entries_after sig v0 raw None)
+      × IsOver sig v1 raw t) r →
+      Answers (ground_tests sig raw) (λ t. TermStands sig [] raw t × ((s : SortId) × Sorted sig [] t s)) r
+  ground_answers raw v0 v1 r e a = by r
+      (subst (λ us. Answers (term_tests sig Ground us WrongSort raw None)
+      (λ t. (v1 ≡ entries_after sig us raw None) × IsOver sig v1 raw t) r) e a)
     where
-      by : (q : Result Tree SortFault) → Answers (term_tests sig Ground [] WrongSort raw None) (λ t. (v1 ≡ entries_after sig [] raw None) × IsOver sig v1 raw t) q → Answers (ground_tests sig raw) (λ t. TermStands sig [] raw t × ((s : SortId) × Sorted sig [] t s)) q
+      by : (q : Result Tree SortFault) →
+          Answers (term_tests sig Ground [] WrongSort raw None) (λ t. (v1 ≡ entries_after sig [] raw None)
+          × IsOver sig v1 raw t) q →
+          Answers (ground_tests sig raw) (λ t. TermStands sig [] raw t × ((s : SortId) × Sorted sig [] t s)) q
       by (Ok t) b = (b.0, ground_sorted raw v1 t b.0 b.1.0 b.1.1)
       by (Err fault) b = b
 
@@ -187,10 +229,14 @@ module _ (sig : Sig) where
 
   module _ (raw : RawTree) where
     -- the raw term stands for what is made
-    pub term_stands_where : (r : Result Tree SortFault) → Answers (ground_tests sig raw) (IsGround raw) r → IfOk r (TermStandsFor sig raw)
+    pub term_stands_where : (r : Result Tree SortFault) → Answers (ground_tests sig raw) (IsGround raw) r →
+        IfOk r (TermStandsFor sig raw)
     term_stands_where (Ok t) a = record { clean = a.0; numbered = a.1.0 }
     term_stands_where (Err e) a = tt
 
     -- what it stands for is made
-    pub term_made_where : IsDeclared sig → (r : Result Tree SortFault) → Answers (ground_tests sig raw) (IsGround raw) r → (t : Tree) → TermStandsFor sig raw t → IsUnlessNoMemory r (Ok t)
-    term_made_where declared r a t stands = answer_made (ground_tests sig raw) (IsGround raw) r a t stands.clean (λ made is. one_term sig (symbols_distinct sig declared) [] tt raw made t is.0 stands.numbered)
+    pub term_made_where : IsDeclared sig → (r : Result Tree SortFault) →
+        Answers (ground_tests sig raw) (IsGround raw) r → (t : Tree) → TermStandsFor sig raw t →
+        IsUnlessNoMemory r (Ok t)
+    term_made_where declared r a t stands = answer_made (ground_tests sig raw) (IsGround raw) r a t stands.clean
+        (λ made is. one_term sig (symbols_distinct sig declared) [] tt raw made t is.0 stands.numbered)

@@ -1,5 +1,6 @@
 -- The first faults of a few raw specifications whose lines for an order have some.
-use Rattle.std.proofs.Common.{rules, ◌≡◌, ◌≢◌, ℕ, true, false, List, [], ◌∷◌, Option, Some, None, inl, inr, refl, ap, arith, get_or}
+use Rattle.std.proofs.Common.{rules, ◌≡◌, ◌≢◌, ℕ, true, false, List, [], ◌∷◌, Option, Some, None, inl, inr, refl, ap}
+use Rattle.std.proofs.Common.{arith, get_or}
 use Rattle.std.specs.Prelude.{codes}
 use Rattle.term_core.specs.Tree.{app, none}
 use Rattle.spec_core.specs.Small.{HasSmallValue, sort_of_number}
@@ -13,10 +14,14 @@ use Rattle.spec_grammar.specs.declared.raw.RawSpec.{RawSpec}
 use Rattle.sort_check.specs.DeclarationTests.{declarations_tests, values_sig, sig_of}
 use Rattle.sort_check.specs.OrderTests.{path_tests, line_tests, weight_tests}
 use Rattle.sort_check.specs.FirstFault.{HasFirstFault, HasNoFault}
-use Rattle.sort_check.specs.Examples.{equal, status, weight, order, weights, naturals_by, ordered_with, weighed_with, weighed_naturals, plus_at, times_at, double_at, half_at, name_at, loose_rule}
+use Rattle.sort_check.specs.Examples.{equal, status, weight, order, weights, naturals_by, ordered_with, weighed_with}
+use Rattle.sort_check.specs.Examples.{weighed_naturals, plus_at, times_at, double_at, half_at, name_at, loose_rule}
 use Rattle.sort_check.specs.declared.faults.SortFault.TheVariants.{Sort}
 use Rattle.sort_check.specs.declared.faults.SortKind.{SortKind}
-use Rattle.sort_check.specs.declared.faults.SortKind.TheVariants.{UnknownName, RepeatedName, WrongNumberOfArguments, NotAFunction, EqualTwice, StatusTwice, NoOrderOfArguments, EqualOrStatusWithKbo, WrongWeight}
+use Rattle.sort_check.specs.declared.faults.SortKind.TheVariants.{UnknownName, RepeatedName, WrongNumberOfArguments}
+use Rattle.sort_check.specs.declared.faults.SortKind.TheVariants.{NotAFunction, EqualTwice, StatusTwice}
+use Rattle.sort_check.specs.declared.faults.SortKind.TheVariants.{NoOrderOfArguments, EqualOrStatusWithKbo}
+use Rattle.sort_check.specs.declared.faults.SortKind.TheVariants.{WrongWeight}
 
 same : {A : Type 0} {x : A} → x ≢ x → ⊥
 same h = h refl

@@ -12,4 +12,15 @@ few_declarations raw k =
     let constructors = few_constructors raw.version in
     let functions = few_functions raw.version in
     let rules = few_rules raw.version in
-    omega (arith, length-flat_map (λ (s : RawSort). s.constructors) raw.sorts, k.few_sorts, k.few_constructors, constructors, k.few_functions, functions, k.few_rules, rules, k.few_goals)
+    omega (
+      arith,
+      length-flat_map (λ (s : RawSort). s.constructors) raw.sorts,
+      k.few_sorts,
+      k.few_constructors,
+      constructors,
+      k.few_functions,
+      functions,
+      k.few_rules,
+      rules,
+      k.few_goals,
+    )

@@ -1,5 +1,6 @@
 -- The goal that the parts make, if nothing is found.
-use Rattle.std.proofs.Common.{◌≡◌, ◌≤◌, ℕ, List, [], ◌∷◌, ◌++◌, Option, Some, None, inl, inr, refl, ap, sym, ◌∙◌, subst, arith, length, map}
+use Rattle.std.proofs.Common.{◌≡◌, ◌≤◌, ℕ, List, [], ◌∷◌, ◌++◌, Option, Some, None, inl, inr, refl, ap, sym, ◌∙◌}
+use Rattle.std.proofs.Common.{subst, arith, length, map}
 use Rattle.std.specs.List.{AllByRecursion, AllZip}
 use Rattle.std.specs.Prelude.{slice_get, unwrap_or, option_map}
 use Rattle.std.specs.Str.{bytes_eq}
@@ -22,9 +23,12 @@ use Rattle.spec_grammar.specs.declared.raw.RawGoal.{RawGoal}
 use Rattle.sort_check.specs.Entries.{entry_names, known_sorts, sort_at, sort_so_far}
 use Rattle.sort_check.specs.Words.{info_at}
 use Rattle.sort_check.specs.Terms.{EquationStands}
-use Rattle.sort_check.specs.GoalTests.{bound as bound_entry, bind_names, number_of, own_sort, in_turn, left_by, sides_tests, after_sides, opposed_by, inferred, rounds, pairs_in, sorts_tests, binds_tests, equations_of, clause_tests}
+use Rattle.sort_check.specs.GoalTests.{bound as bound_entry, bind_names, number_of, own_sort, in_turn, left_by}
+use Rattle.sort_check.specs.GoalTests.{sides_tests, after_sides, opposed_by, inferred, rounds, pairs_in, sorts_tests}
+use Rattle.sort_check.specs.GoalTests.{binds_tests, equations_of, clause_tests}
 use Rattle.sort_check.specs.Goals.{goal_names, GoalStands}
-use Rattle.sort_check.specs.Inference.{IsTaken, IsAnyTaken, IsBareVariable, Gets, bound, left_argument, right_argument, left_side, right_side, as_right, as_left}
+use Rattle.sort_check.specs.Inference.{IsTaken, IsAnyTaken, IsBareVariable, Gets, bound, left_argument, right_argument}
+use Rattle.sort_check.specs.Inference.{left_side, right_side, as_right, as_left}
 use Rattle.sort_check.specs.Over.{IsOver, IsEquationOver, variables_of}
 use Rattle.sort_check.specs.Parts.{root_name, AreFound}
 use Rattle.sort_check.specs.declared.entries.Entry.{Entry}
@@ -39,30 +43,41 @@ use Rattle.sort_check.proofs.RoundLaws.{rounds_keep, rounds_known}
 use Rattle.sort_check.proofs.PairFacts.{opposed_extends, opposed_keeps, found_more, pairs_within, pair_from}
 use Rattle.sort_check.proofs.GoalSorts.{HasOneSort, all_found, all_keep, equations_sorted, known_long, all_known}
 use Rattle.sort_check.proofs.GoalGets.{Holds, Got, binds_hold, sides_hold, opposites_hold, all_get}
-use Rattle.sort_check.proofs.GoalNames.{bind_entry_names, walked_names, opposed_names, fresh_sides, binds_fresh, bound_first}
+use Rattle.sort_check.proofs.GoalNames.{bind_entry_names, walked_names, opposed_names, fresh_sides, binds_fresh}
+use Rattle.sort_check.proofs.GoalNames.{bound_first}
 use Rattle.term_core.proofs.Items.{all_at}
 use Rattle.term_core.proofs.Members.{In, contained_in}
 
 -- pairs of two lists, one after the other, taken apart
-pairs_split : {X Y : Type 0} (R : X → Y → Type 0) (xs us : List X) (ys vs : List Y) → length ys ≡ length xs → AllZip R (xs ++ us) (ys ++ vs) → AllZip R xs ys × AllZip R us vs
+pairs_split : {X Y : Type 0} (R : X → Y → Type 0) (xs us : List X) (ys vs : List Y) → length ys ≡ length xs →
+    AllZip R (xs ++ us) (ys ++ vs) → AllZip R xs ys × AllZip R us vs
 pairs_split R [] us [] vs l p = (tt, p)
 pairs_split R (x ∷ xs) us [] vs l p = absurd (omega arith)
 pairs_split R [] us (y ∷ ys) vs l p = absurd (omega arith)
 pairs_split R (x ∷ xs) us (y ∷ ys) vs l p = let r = pairs_split R xs us ys vs (omega arith) p.1 in ((p.0, r.0), r.1)
 
-all_split : {X : Type 0} (P : X → Type 0) (xs ys : List X) → AllByRecursion P (xs ++ ys) → AllByRecursion P xs × AllByRecursion P ys
+all_split : {X : Type 0} (P : X → Type 0) (xs ys : List X) → AllByRecursion P (xs ++ ys) →
+    AllByRecursion P xs × AllByRecursion P ys
 all_split P [] ys a = (tt, a)
 all_split P (x ∷ xs) ys a = let r = all_split P xs ys a.1 in ((a.0, r.0), r.1)
 
-all_map : {X : Type 0} (P Q : X → Type 0) → ((x : X) → P x → Q x) → (xs : List X) → AllByRecursion P xs → AllByRecursion Q xs
+all_map : {X : Type 0} (P Q : X → Type 0) → ((x : X) → P x → Q x) → (xs : List X) → AllByRecursion P xs →
+    AllByRecursion Q xs
 all_map P Q f [] a = tt
 all_map P Q f (x ∷ xs) a = (f x a.0, all_map P Q f xs a.1)
 
-equations_stand : (sig : Sig) (es : List Entry) (raws : List RawEq) (ts : List Equation) → AllZip (IsEquationOver sig es) raws ts → AllZip (EquationStands sig (entry_names es)) raws ts
+equations_stand : (sig : Sig) (es : List Entry) (raws : List RawEq) (ts : List Equation) →
+    AllZip (IsEquationOver sig es) raws ts → AllZip (EquationStands sig (entry_names es)) raws ts
 equations_stand sig es [] [] p = tt
 equations_stand sig es (r ∷ rs) [] p = absurd p
 equations_stand sig es [] (t ∷ ts) p = absurd p
-equations_stand sig es (r ∷ rs) (t ∷ ts) p = ((over_stands sig es r.left t.left p.0.0, over_stands sig es r.right t.right p.0.1), equations_stand sig es rs ts p.1)
+equations_stand sig es (r ∷ rs) (t ∷ ts) p = (
+  (
+    over_stands sig es r.left t.left p.0.0,
+    over_stands sig es r.right t.right p.0.1,
+  ),
+  equations_stand sig es rs ts p.1,
+)
 
 module _ (sig : Sig) (declared : IsDeclared sig) where
   in_range : SortsAreInRange sig
@@ -72,7 +87,8 @@ module _ (sig : Sig) (declared : IsDeclared sig) where
     taken_in_range : (x : List ℕ) (s : SortId) (r : RawTree) → IsTaken sig x s r → IsSort sig s
     taken_in_range x s (word name at args) t = any_in_range x s args t.0.args (in_range t.1.0 t.0 t.1.2).1 t.2
 
-    any_in_range : (x : List ℕ) (s : SortId) (rs : RawTrees) (us : List SortId) → AllByRecursion (IsSort sig) us → IsAnyTaken sig x s rs us → IsSort sig s
+    any_in_range : (x : List ℕ) (s : SortId) (rs : RawTrees) (us : List SortId) →
+        AllByRecursion (IsSort sig) us → IsAnyTaken sig x s rs us → IsSort sig s
     any_in_range x s no_raws us all t = absurd t
     any_in_range x s (more_raws r rs) [] all t = absurd t
     any_in_range x s (more_raws r rs) (u ∷ us) all (inl h) = subst (λ v. IsSort sig v) h.1 all.0
@@ -107,7 +123,10 @@ module _ (sig : Sig) (declared : IsDeclared sig) where
     abbrev known : List (Option SortId)
     known = inferred sig opposed eqs
 
-    module _ (ps cs : List Equation) (bound_clean : Clean (binds_tests sig raw.binds)) (sides : Clean (in_turn (sides_tests sig) (after_sides sig) binds eqs)) (over : AllZip (IsEquationOver sig walked) eqs (ps ++ cs)) (long : length ps ≡ length raw.premises) (sorts : Clean (sorts_tests sig walked eqs)) (few : length walked ≤ 16) where
+    module _ (ps cs : List Equation) (bound_clean : Clean (binds_tests sig raw.binds))
+        (sides : Clean (in_turn (sides_tests sig) (after_sides sig) binds eqs))
+        (over : AllZip (IsEquationOver sig walked) eqs (ps ++ cs)) (long : length ps ≡ length raw.premises)
+        (sorts : Clean (sorts_tests sig walked eqs)) (few : length walked ≤ 16) where
       found_walked : AllByRecursion (AreFound sig walked) eqs
       found_walked = all_found sig walked eqs (ps ++ cs) over
 
@@ -121,7 +140,8 @@ module _ (sig : Sig) (declared : IsDeclared sig) where
       same_names = opposed_names sig walked eqs found_walked
 
       names : entry_names opposed ≡ goal_names sig raw
-      names = same_names ∙ walked_names sig binds eqs sides ∙ ap (λ ns. Rattle.sort_check.specs.Occurrence.names_after_sides sig ns eqs) (bind_entry_names sig raw.binds)
+      names = same_names ∙ walked_names sig binds eqs sides
+          ∙ ap (λ ns. Rattle.sort_check.specs.Occurrence.names_after_sides sig ns eqs) (bind_entry_names sig raw.binds)
 
       abbrev vars : List VarInfo
       vars = variables_of opposed known
@@ -133,26 +153,37 @@ module _ (sig : Sig) (declared : IsDeclared sig) where
       vars_names = names_are opposed known same_long
 
       opposed_long : length opposed ≡ length walked
-      opposed_long = sym (length-map opposed (λ (e : Entry). e.name)) ∙ ap (λ ns. length ns) same_names ∙ length-map walked (λ (e : Entry). e.name)
+      opposed_long = sym (length-map opposed (λ (e : Entry). e.name)) ∙ ap (λ ns. length ns) same_names
+          ∙ length-map walked (λ (e : Entry). e.name)
 
       -- each sort that is known at the end is one that its variable gets
       holds : Holds (Got sig raw) opposed
-      holds = opposites_hold sig raw walked eqs (contained_in eqs) sorts.0 (sides_hold sig raw binds eqs (contained_in eqs) sides (binds_hold sig raw raw.binds (contained_in raw.binds)))
+      holds = opposites_hold sig raw walked eqs (contained_in eqs) sorts.0
+          (sides_hold sig raw binds eqs (contained_in eqs) sides
+          (binds_hold sig raw raw.binds (contained_in raw.binds)))
 
       -- a side that is a variable has its name at its number
       abbrev IsAtItsNumber : RawTree → Type 0
-      IsAtItsNumber r = own_sort sig r ≡ None → IsBareVariable sig (root_name r) r × (slice_get (entry_names opposed) (number_of opposed r) ≡ Some (root_name r))
+      IsAtItsNumber r = own_sort sig r ≡ None → IsBareVariable sig (root_name r) r
+          × (slice_get (entry_names opposed) (number_of opposed r) ≡ Some (root_name r))
 
       side_named : (r : RawTree) (t : Tree) → IsOver sig opposed r t → IsAtItsNumber r
       side_named (word name at args) (var m) h o =
-          let at_number : slice_get (entry_names opposed) m ≡ Some name = place_is name (entry_names opposed) m (position-map (bytes_eq name) (λ (e : Entry). e.name) opposed ∙ h.2) in
-          ((refl, h.0, no_place name (names_of sig) h.1), ap (λ q. slice_get (entry_names opposed) (unwrap_or q 0)) h.2 ∙ at_number)
-      side_named (word name at args) (app f ts) h o = absurd (let z : Some (info_at sig f).result ≡ None = ap (λ x. option_map (λ g. (info_at sig g).result) x) (sym h.0) ∙ o in cc)
+          let at_number : slice_get (entry_names opposed) m ≡ Some name = place_is name (entry_names opposed) m
+          (position-map (bytes_eq name) (λ (e : Entry). e.name) opposed ∙ h.2) in (
+            (refl, h.0, no_place name (names_of sig) h.1),
+            ap (λ q. slice_get (entry_names opposed) (unwrap_or q 0)) h.2 ∙ at_number,
+          )
+      side_named (word name at args) (app f ts) h o = absurd
+          (let z : Some (info_at sig f).result ≡ None = ap (λ x. option_map (λ g. (info_at sig g).result) x)
+          (sym h.0) ∙ o in cc)
 
-      sides_named : (ds : List RawEq) (ts : List Equation) → AllZip (IsEquationOver sig opposed) ds ts → (e : RawEq) → In e ds → IsAtItsNumber e.left × IsAtItsNumber e.right
+      sides_named : (ds : List RawEq) (ts : List Equation) → AllZip (IsEquationOver sig opposed) ds ts →
+          (e : RawEq) → In e ds → IsAtItsNumber e.left × IsAtItsNumber e.right
       sides_named [] ts p e i = absurd i
       sides_named (d ∷ ds) [] p e i = absurd p
-      sides_named (d ∷ ds) (t ∷ ts) p e (inl is) = subst (λ (x : RawEq). IsAtItsNumber x.left × IsAtItsNumber x.right) (sym is) (side_named d.left t.left p.0.0, side_named d.right t.right p.0.1)
+      sides_named (d ∷ ds) (t ∷ ts) p e (inl is) = subst (λ (x : RawEq). IsAtItsNumber x.left
+          × IsAtItsNumber x.right) (sym is) (side_named d.left t.left p.0.0, side_named d.right t.right p.0.1)
       sides_named (d ∷ ds) (t ∷ ts) p e (inr i) = sides_named ds ts p.1 e i
 
       abbrev Known : ℕ → SortId → Type 0
@@ -164,9 +195,12 @@ module _ (sig : Sig) (declared : IsDeclared sig) where
           let n = sides_named eqs (ps ++ cs) over_opposed d.0 d.1 in
           let l = n.0 d.2 in
           let r = n.1 d.3 in
-          let z : Some (root_name d.0.right) ≡ Some x = sym r.1 ∙ ap (λ m. slice_get (entry_names opposed) m) (sym d.5) ∙ k in
+          let z : Some (root_name d.0.right) ≡ Some x = sym r.1 ∙ ap (λ m. slice_get (entry_names opposed) m)
+          (sym d.5) ∙ k in
           let q : root_name d.0.right ≡ x = cc in
-          subst (λ y. Gets sig raw y s) q (as_left d.0 (contained_in eqs d.0 d.1) l.0 r.0 (h (root_name d.0.left) (ap (λ m. slice_get (entry_names opposed) m) d.4 ∙ l.1)))
+          subst (λ y. Gets sig raw y s) q
+          (as_left d.0 (contained_in eqs d.0 d.1) l.0 r.0
+          (h (root_name d.0.left) (ap (λ m. slice_get (entry_names opposed) m) d.4 ∙ l.1)))
 
       to_left : (p : Pair) (s : SortId) → In p (pairs_in sig opposed eqs) → Known p.right s → Known p.left s
       to_left p s i h x k =
@@ -174,16 +208,22 @@ module _ (sig : Sig) (declared : IsDeclared sig) where
           let n = sides_named eqs (ps ++ cs) over_opposed d.0 d.1 in
           let l = n.0 d.2 in
           let r = n.1 d.3 in
-          let z : Some (root_name d.0.left) ≡ Some x = sym l.1 ∙ ap (λ m. slice_get (entry_names opposed) m) (sym d.4) ∙ k in
+          let z : Some (root_name d.0.left) ≡ Some x = sym l.1 ∙ ap (λ m. slice_get (entry_names opposed) m)
+          (sym d.4) ∙ k in
           let q : root_name d.0.left ≡ x = cc in
-          subst (λ y. Gets sig raw y s) q (as_right d.0 (contained_in eqs d.0 d.1) l.0 r.0 (h (root_name d.0.right) (ap (λ m. slice_get (entry_names opposed) m) d.5 ∙ r.1)))
+          subst (λ y. Gets sig raw y s) q
+          (as_right d.0 (contained_in eqs d.0 d.1) l.0 r.0
+          (h (root_name d.0.right) (ap (λ m. slice_get (entry_names opposed) m) d.5 ∙ r.1)))
 
-      known_gets : (n : ℕ) (s : SortId) (x : List ℕ) → sort_at known n ≡ Some s → slice_get (entry_names opposed) n ≡ Some x → Gets sig raw x s
-      known_gets n s x k e = rounds_known Known (pairs_in sig opposed eqs) to_right to_left (rounds opposed) (known_sorts opposed) (pairs_within sig opposed eqs found) (λ m u h y j. holds m u y h j) n s k x e
+      known_gets : (n : ℕ) (s : SortId) (x : List ℕ) → sort_at known n ≡ Some s →
+          slice_get (entry_names opposed) n ≡ Some x → Gets sig raw x s
+      known_gets n s x k e = rounds_known Known (pairs_in sig opposed eqs) to_right to_left (rounds opposed)
+          (known_sorts opposed) (pairs_within sig opposed eqs found) (λ m u h y j. holds m u y h j) n s k x e
 
       -- what the bindings say stays
       kept : (n : ℕ) (s : SortId) → sort_so_far binds n ≡ Some s → sort_at known n ≡ Some s
-      kept n s h = rounds_keep (rounds opposed) (known_sorts opposed) (pairs_in sig opposed eqs) n s (opposed_keeps sig walked eqs n s (all_keep sig binds eqs n s h))
+      kept n s h = rounds_keep (rounds opposed) (known_sorts opposed) (pairs_in sig opposed eqs) n s
+          (opposed_keeps sig walked eqs n s (all_keep sig binds eqs n s h))
 
       extended : KeepsNames binds opposed
       extended = extends_both binds walked opposed (all_extend sig binds eqs) (opposed_extends sig walked eqs)
@@ -194,23 +234,33 @@ module _ (sig : Sig) (declared : IsDeclared sig) where
       sorted : AllByRecursion (HasOneSort sig (sorts_of vars)) (ps ++ cs)
       sorted = equations_sorted sig binds eqs sides sorts found (ps ++ cs) over
 
-      pub goal_made : (name : List ℕ) (made : List VarInfo) → name ≡ raw.head.name → made ≡ vars → Clean (clause_tests sig raw) × GoalStands sig raw (record { name = name; vars = made; premises = ps; conclusions = cs })
+      pub goal_made : (name : List ℕ) (made : List VarInfo) → name ≡ raw.head.name → made ≡ vars →
+          Clean (clause_tests sig raw)
+          × GoalStands sig raw (record { name = name; vars = made; premises = ps; conclusions = cs })
       goal_made name made named_so is =
-          let apart = pairs_split (EquationStands sig (entry_names opposed)) raw.premises raw.conclusions ps cs long (equations_stand sig opposed eqs (ps ++ cs) over_opposed) in
+          let apart = pairs_split (EquationStands sig (entry_names opposed)) raw.premises raw.conclusions ps cs
+          long (equations_stand sig opposed eqs (ps ++ cs) over_opposed) in
           let both = all_split (HasOneSort sig (sorts_of vars)) ps cs sorted in
-          let stands : GoalStands sig raw (record { name = name; vars = vars; premises = ps; conclusions = cs }) = record {
+          let stands : GoalStands sig raw
+          (record { name = name; vars = vars; premises = ps; conclusions = cs }) = record {
             name = named_so;
             variables = vars_names ∙ names;
-            names = subst (λ ns. AreNewNames (names_of sig) ns) (sym (vars_names ∙ names)) (fresh_sides sig (bind_names raw.binds) eqs (binds_fresh sig raw.binds bound_clean.0));
-            bound = bound_first sig [] raw.binds opposed known extended.0 bound_clean.0 same_long (extended.1 ∙ ap (λ ns. ns ++ extended.0) (bind_entry_names sig raw.binds)) kept;
+            names = subst (λ ns. AreNewNames (names_of sig) ns) (sym (vars_names ∙ names))
+                (fresh_sides sig (bind_names raw.binds) eqs (binds_fresh sig raw.binds bound_clean.0));
+            bound = bound_first sig [] raw.binds opposed known extended.0 bound_clean.0 same_long (extended.1
+                ∙ ap (λ ns. ns ++ extended.0) (bind_entry_names sig raw.binds)) kept;
             sorts = all_got;
             premises = subst (λ ns. AllZip (EquationStands sig ns) raw.premises ps) (sym vars_names) apart.0;
             conclusions = subst (λ ns. AllZip (EquationStands sig ns) raw.conclusions cs) (sym vars_names) apart.1;
             sorted = record {
               premises = all_at (HasOneSort sig (sorts_of vars)) ps both.0;
               conclusions = all_at (HasOneSort sig (sorts_of vars)) cs both.1;
-              variables = all_map (λ (v : VarInfo). Gets sig raw v.name v.sort) (λ (v : VarInfo). IsSort sig v.sort) (λ v g. gets_in_range raw g) vars all_got;
+              variables = all_map (λ (v : VarInfo). Gets sig raw v.name v.sort)
+                  (λ (v : VarInfo). IsSort sig v.sort) (λ v g. gets_in_range raw g) vars all_got;
               few_variables = omega (arith, few, opposed_long, variables_long opposed known same_long);
             };
-          } in
-          ((bound_clean, (sides, sorts)), subst (λ vs. GoalStands sig raw (record { name = name; vars = vs; premises = ps; conclusions = cs })) (sym is) stands)
+          } in (
+            (bound_clean, (sides, sorts)),
+            subst (λ vs. GoalStands sig raw
+                (record { name = name; vars = vs; premises = ps; conclusions = cs })) (sym is) stands,
+          )

@@ -1,8 +1,10 @@
 -- One more name of an equal line, one more line, and one more weight.
-use Rattle.std.proofs.Common.{◌≡◌, ◌≢◌, ℕ, ◌+◌, ◌<◌, ◌≤◌, Bool, false, Option, Some, List, [], ◌∷◌, ◌++◌, length, map, take, drop, get_or, set, ap, sym, ◌∙◌, subst, arith, append_assoc, max, refl, replicate}
+use Rattle.std.proofs.Common.{◌≡◌, ◌≢◌, ℕ, ◌+◌, ◌<◌, ◌≤◌, Bool, false, Option, Some, List, [], ◌∷◌, ◌++◌, length, map}
+use Rattle.std.proofs.Common.{take, drop, get_or, set, ap, sym, ◌∙◌, subst, arith, append_assoc, max, refl, replicate}
 use Rattle.std.specs.Prelude.{unwrap_or, if◌then◌else◌}
 use Rattle.std.specs.List.{range_with_len}
-use Rattle.std.proofs.lemmas.List.{append-nil, ext_get_or, map_more, map-append, take_all, length-map, get_or-map, get_or-replicate}
+use Rattle.std.proofs.lemmas.List.{append-nil, ext_get_or, map_more, map-append, take_all, length-map, get_or-map}
+use Rattle.std.proofs.lemmas.List.{get_or-replicate}
 use Rattle.std.proofs.lemmas.List.FromFn.{length-map-range_with_len, get_or-map-range_with_len, get_or-range_with_len}
 use Rattle.term_core.specs.declared.ids.SymId.{SymId}
 use Rattle.term_core.proofs.Items.{drop_past, taken_next}
@@ -14,7 +16,8 @@ use Rattle.spec_grammar.specs.declared.raw.RawName.{RawName}
 use Rattle.spec_grammar.specs.declared.raw.RawEqual.{RawEqual}
 use Rattle.spec_grammar.specs.declared.raw.RawStatus.{RawStatus}
 use Rattle.spec_grammar.specs.declared.raw.RawWeight.{RawWeight}
-use Rattle.sort_check.specs.Orders.{is_among, greatest, symbol_number, symbol_numbers, level_in, status_in, weight_in, all_numbers}
+use Rattle.sort_check.specs.Orders.{is_among, greatest, symbol_number, symbol_numbers, level_in, status_in, weight_in}
+use Rattle.sort_check.specs.Orders.{all_numbers}
 use Rattle.sort_check.specs.OrderTests.{arity, names_in, heads_of, weighed_names, equal_tests, IsUnlikeFirst}
 use Rattle.sort_check.specs.Marks.{AreMarks, numbers_of, wanted_arity}
 use Rattle.sort_check.proofs.Levels.{greatest-more, names_in-more, heads_of-more, level-next, numbers-append}

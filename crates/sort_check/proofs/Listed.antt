@@ -45,18 +45,32 @@ module _ (sig : Sig) (before : List RawBind) (raw : RawBind) where
   abbrev pub bound_at : Option ℕ
   bound_at = position (λ (b : RawBind). bytes_eq name b.name.name) before
 
-  pub symbol_repeated : (f : ℕ) → position (bytes_eq name) (names_of sig) ≡ Some f → First (bind_tests sig before raw) (Sort raw.name.at RepeatedName)
-  symbol_repeated f e = inl ((λ new. new_not name (names_of sig) f (new_in_first name (names_of sig) (bind_names before) new).0 (place_is name (names_of sig) f e)), refl)
+  pub symbol_repeated : (f : ℕ) → position (bytes_eq name) (names_of sig) ≡ Some f →
+      First (bind_tests sig before raw) (Sort raw.name.at RepeatedName)
+  symbol_repeated f e = inl (
+    (λ new. new_not name (names_of sig) f (new_in_first name (names_of sig) (bind_names before) new).0
+        (place_is name (names_of sig) f e)),
+    refl,
+  )
 
   pub bind_repeated : (n : ℕ) → bound_at ≡ Some n → First (bind_tests sig before raw) (Sort raw.name.at RepeatedName)
-  bind_repeated n e = inl ((λ new. found_old name (λ (b : RawBind). b.name.name) before n e (new_in_first name (names_of sig) (bind_names before) new).1), refl)
+  bind_repeated n e = inl (
+    (λ new. found_old name (λ (b : RawBind). b.name.name) before n e
+        (new_in_first name (names_of sig) (bind_names before) new).1),
+    refl,
+  )
 
   module _ (other : position (bytes_eq name) (names_of sig) ≡ None) (unbound : bound_at ≡ None) where
     name_new : IsNewName name (names_of sig ++ bind_names before)
-    name_new = new_in_both name (names_of sig) (bind_names before) (no_place name (names_of sig) other) (unfound_new name (λ (b : RawBind). b.name.name) before unbound)
+    name_new = new_in_both name (names_of sig) (bind_names before) (no_place name (names_of sig) other)
+        (unfound_new name (λ (b : RawBind). b.name.name) before unbound)
 
-    pub sort_unknown : position (bytes_eq raw.sort.name) sig.sorts ≡ None → First (bind_tests sig before raw) (Sort raw.sort.at UnknownName)
+    pub sort_unknown : position (bytes_eq raw.sort.name) sig.sorts ≡ None →
+        First (bind_tests sig before raw) (Sort raw.sort.at UnknownName)
     sort_unknown e = inr ((λ old. old name_new), (no_place raw.sort.name sig.sorts e, refl))
 
     pub bind_clean : (s : ℕ) → position (bytes_eq raw.sort.name) sig.sorts ≡ Some s → Clean (bind_tests sig before raw)
-    bind_clean s e = ((λ old. old name_new), (λ new. new_not raw.sort.name sig.sorts s new (place_is raw.sort.name sig.sorts s e)))
+    bind_clean s e = (
+      (λ old. old name_new),
+      (λ new. new_not raw.sort.name sig.sorts s new (place_is raw.sort.name sig.sorts s e)),
+    )

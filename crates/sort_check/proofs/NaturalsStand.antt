@@ -6,7 +6,8 @@ use Rattle.spec_core.specs.Sig.{names_of}
 use Rattle.spec_core.specs.Small.{HasSmallValue, sort_of_number}
 use Rattle.spec_core.specs.Declarations.{IsNewName}
 use Rattle.spec_core.specs.Findings.{Clean, each_after}
-use Rattle.spec_core.specs.Naturals.{nat, declares, naturals_sig, naturals, nat_constructors, nat_function, plus_zero_rule, plus_succ_rule, same_goal, unit_goal}
+use Rattle.spec_core.specs.Naturals.{nat, declares, naturals_sig, naturals, nat_constructors, nat_function}
+use Rattle.spec_core.specs.Naturals.{plus_zero_rule, plus_succ_rule, same_goal, unit_goal}
 use Rattle.spec_core.proofs.SortedNaturals.{declared, zero_rule_is_sorted, succ_rule_is_sorted, well_sorted}
 use Rattle.spec_grammar.specs.declared.raw.RawRule.{RawRule}
 use Rattle.spec_grammar.specs.declared.raw.RawGoal.{RawGoal}
@@ -20,7 +21,8 @@ use Rattle.sort_check.specs.DeclarationTests.{declarations_tests, values_sig}
 use Rattle.sort_check.specs.RuleTests.{rule_tests}
 use Rattle.sort_check.specs.GoalTests.{goal_tests}
 use Rattle.sort_check.specs.FirstFault.{HasNoFault, HasFirstFault}
-use Rattle.sort_check.specs.Examples.{binds, concludes, raw_naturals, naturals_with, plus_zero_gives, plus_succ, same_sums, zero_adds_nothing, y_at, loose_rule, free_goal, nat_twice}
+use Rattle.sort_check.specs.Examples.{binds, concludes, raw_naturals, naturals_with, plus_zero_gives, plus_succ}
+use Rattle.sort_check.specs.Examples.{same_sums, zero_adds_nothing, y_at, loose_rule, free_goal, nat_twice}
 use Rattle.sort_check.specs.declared.faults.SortKind.TheVariants.{RepeatedName, NotOnTheLeft, SortNotInferred}
 
 x_new : IsNewName (codes "x") (names_of naturals_sig)
@@ -66,15 +68,25 @@ succ_rule_stands = record {
   tests = tt;
 }
 
-same_goal_stands : GoalStands naturals_sig (concludes (codes "same") (binds (codes "x") ∷ binds (codes "y") ∷ []) same_sums) same_goal
+same_goal_stands : GoalStands naturals_sig
+    (concludes (codes "same") (binds (codes "x") ∷ binds (codes "y") ∷ []) same_sums) same_goal
 same_goal_stands = record {
   name = refl;
   variables = refl;
   names = search rules;
   bound = ((refl, refl), ((refl, refl), tt));
-  sorts = (bound (binds (codes "x")) (0, omega arith, refl) refl refl, (bound (binds (codes "y")) (1, omega arith, refl) refl refl, tt));
+  sorts = (
+    bound (binds (codes "x")) (0, omega arith, refl) refl refl,
+    (bound (binds (codes "y")) (1, omega arith, refl) refl refl, tt),
+  );
   premises = tt;
-  conclusions = (((refl, ((refl, x_new, refl), ((refl, y_new, refl), tt))), (refl, ((refl, x_new, refl), ((refl, x_new, refl), tt)))), tt);
+  conclusions = (
+    (
+      (refl, ((refl, x_new, refl), ((refl, y_new, refl), tt))),
+      (refl, ((refl, x_new, refl), ((refl, x_new, refl), tt))),
+    ),
+    tt,
+  );
   sorted = well_sorted.goals 0 same_goal refl;
 }
 
@@ -84,7 +96,14 @@ unit_goal_stands = record {
   variables = refl;
   names = search rules;
   bound = tt;
-  sorts = (left_argument zero_adds_nothing (0, omega arith, refl) (declares (nat ∷ nat ∷ []), (4, refl, refl), inl ((refl, refl, x_new), refl)), tt);
+  sorts = (
+    left_argument zero_adds_nothing (0, omega arith, refl) (
+      declares (nat ∷ nat ∷ []),
+      (4, refl, refl),
+      inl ((refl, refl, x_new), refl),
+    ),
+    tt,
+  );
   premises = tt;
   conclusions = (((refl, ((refl, x_new, refl), ((refl, tt), tt))), (refl, x_new, refl)), tt);
   sorted = well_sorted.goals 1 unit_goal refl;
@@ -108,18 +127,29 @@ same h = h refl
 some_is_not_none : {A : Type 0} {x : A} → Some x ≡ None → ⊥
 some_is_not_none e = cc
 
-zero_is_small : (rules : List RawRule) (goals : List RawGoal) → HasSmallValue (values_sig (naturals_with rules goals)) (sort_of_number 1)
+zero_is_small : (rules : List RawRule) (goals : List RawGoal) →
+    HasSmallValue (values_sig (naturals_with rules goals)) (sort_of_number 1)
 zero_is_small rs gs = (app 2 none, ((_, refl, refl, tt), (omega arith, tt)), omega arith)
 
-declarations_clean : (rules : List RawRule) (goals : List RawGoal) → Clean (declarations_tests (naturals_with rules goals))
+declarations_clean : (rules : List RawRule) (goals : List RawGoal) →
+    Clean (declarations_tests (naturals_with rules goals))
 declarations_clean rs gs = (
   (λ h. h (search rules), tt),
-  (((((λ h. h (search rules)), tt), (((λ h. h (search rules)), ((λ h. h.1.0 refl), tt)), tt)), tt), (((λ h. h (zero_is_small rs gs)), tt), ((((λ h. h (search rules)), ((λ h. h.1.0 refl), ((λ h. h.1.0 refl), tt))), (λ h. h.1.0 refl)), tt))),
+  (
+    ((((λ h. h (search rules)), tt), (((λ h. h (search rules)), ((λ h. h.1.0 refl), tt)), tt)), tt),
+    (
+      ((λ h. h (zero_is_small rs gs)), tt),
+      ((((λ h. h (search rules)), ((λ h. h.1.0 refl), ((λ h. h.1.0 refl), tt))), (λ h. h.1.0 refl)), tt),
+    ),
+  ),
 )
 
 rules_clean : Clean (each_after (rule_tests naturals_sig 64) [] raw_naturals.rules)
 rules_clean = (
-  ((λ h. omega arith, (λ h. omega arith, (λ h. omega arith, same))), ((((λ h. h (omega arith), (same, same)), tt), (λ h. omega arith, tt)), (same, tt))),
+  (
+    (λ h. omega arith, (λ h. omega arith, (λ h. omega arith, same))),
+    ((((λ h. h (omega arith), (same, same)), tt), (λ h. omega arith, tt)), (same, tt)),
+  ),
   (
     (
       (λ h. omega arith, (λ h. omega arith, (λ h. omega arith, same))),
@@ -160,7 +190,10 @@ goals_clean = (
 )
 
 naturals_have_no_fault : HasNoFault raw_naturals
-naturals_have_no_fault = (declarations_clean raw_naturals.rules raw_naturals.goals, (((tt, tt), tt), (rules_clean, goals_clean)))
+naturals_have_no_fault = (
+  declarations_clean raw_naturals.rules raw_naturals.goals,
+  (((tt, tt), tt), (rules_clean, goals_clean)),
+)
 
 pub naturals_stand : StandsFor raw_naturals naturals
 naturals_stand = record { clean = naturals_have_no_fault; numbered = naturals_are_numbered }

@@ -1,6 +1,7 @@
 -- If no test of the lines finds a fault, they make an order. Their levels and statuses make a precedence: the level
 -- of a symbol is the number of a symbol that has as many arguments.
-use Rattle.std.proofs.Common.{◌≡◌, ◌≢◌, ℕ, ◌<◌, ◌⊎◌, inl, inr, Bool, true, false, Option, Some, None, List, [], ◌∷◌, ◌++◌, length, map, get_or, refl, ap, sym, ◌∙◌, subst, arith}
+use Rattle.std.proofs.Common.{◌≡◌, ◌≢◌, ℕ, ◌<◌, ◌⊎◌, inl, inr, Bool, true, false, Option, Some, None, List, [], ◌∷◌}
+use Rattle.std.proofs.Common.{◌++◌, length, map, get_or, refl, ap, sym, ◌∙◌, subst, arith}
 use Rattle.std.specs.Prelude.{◌==◌, ◌||◌, if◌then◌else◌, IsTrue, unwrap_or, slice_index}
 use Rattle.std.specs.Str.{bytes_eq}
 use Rattle.std.specs.List.{AllByRecursion, range_with_len}
@@ -23,8 +24,10 @@ use Rattle.spec_grammar.specs.declared.raw.RawEqual.{RawEqual}
 use Rattle.spec_grammar.specs.declared.raw.RawStatus.{RawStatus}
 use Rattle.spec_grammar.specs.declared.raw.RawOrder.{RawOrder}
 use Rattle.spec_grammar.specs.declared.raw.RawSpec.{RawSpec}
-use Rattle.sort_check.specs.Orders.{is_among, greatest, symbol_number, symbol_numbers, level_in, status_in, weight_in, all_numbers, OrderStands}
-use Rattle.sort_check.specs.OrderTests.{names_in, arity, name_tests, equal_tests, status_tests, order_line_tests, order_tests, IsOrderOfArguments}
+use Rattle.sort_check.specs.Orders.{is_among, greatest, symbol_number, symbol_numbers, level_in, status_in, weight_in}
+use Rattle.sort_check.specs.Orders.{all_numbers, OrderStands}
+use Rattle.sort_check.specs.OrderTests.{names_in, arity, name_tests, equal_tests, status_tests, order_line_tests}
+use Rattle.sort_check.specs.OrderTests.{order_tests, IsOrderOfArguments}
 use Rattle.sort_check.specs.Words.{symbol_named}
 use Rattle.sort_check.proofs.Levels.{among-first, among-has, greatest-has}
 use Rattle.sort_check.proofs.Weighings.{given_are_weights}

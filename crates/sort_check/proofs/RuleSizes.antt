@@ -20,16 +20,21 @@ use Rattle.sort_check.proofs.Pairs.{pairs_have}
 
 module _ (n : ℕ) where
   module _ (sig : Sig) where
-    term_is_within : (names : List (List ℕ)) (raw : RawTree) (t : Tree) → words raw ≤ n → TermStands sig names raw t → tree_size t ≤ n
+    term_is_within : (names : List (List ℕ)) (raw : RawTree) (t : Tree) → words raw ≤ n →
+        TermStands sig names raw t → tree_size t ≤ n
     term_is_within names raw t few stands = omega (arith, same_size sig names raw t stands)
 
-    rule_is_within : (raw : RawRule) (rule : Rule) → RuleHasFewWords n raw → RuleStands sig raw rule → RuleIsWithin n rule
+    rule_is_within : (raw : RawRule) (rule : Rule) → RuleHasFewWords n raw → RuleStands sig raw rule →
+        RuleIsWithin n rule
     rule_is_within raw rule few stands =
         let names = variable_names rule.vars in (
           term_is_within names raw.left rule.left few.0 stands.left,
           term_is_within names raw.right rule.right few.1 stands.right,
-          pairs_have (GuardStands sig names) (λ (g : RawGuard). words g.test ≤ n) (λ (g : Guard). tree_size g.test ≤ n) (λ r g k p. term_is_within names r.test g.test k p.0) raw.guards rule.guards few.2 stands.guards,
+          pairs_have (GuardStands sig names) (λ (g : RawGuard). words g.test ≤ n)
+              (λ (g : Guard). tree_size g.test ≤ n) (λ r g k p. term_is_within names r.test g.test k p.0)
+              raw.guards rule.guards few.2 stands.guards,
         )
 
   pub rules_are_within : (raw : RawSpec) (spec : Spec) → HasFewWords n raw → IsNumbered raw spec → RulesAreWithin n spec
-  rules_are_within raw spec few stands = pairs_have (RuleStands spec.sig) (RuleHasFewWords n) (RuleIsWithin n) (rule_is_within spec.sig) raw.rules spec.rules few.0 stands.rules
+  rules_are_within raw spec few stands = pairs_have (RuleStands spec.sig) (RuleHasFewWords n) (RuleIsWithin n)
+      (rule_is_within spec.sig) raw.rules spec.rules few.0 stands.rules

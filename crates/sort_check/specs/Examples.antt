@@ -20,7 +20,10 @@ use Rattle.sort_check.specs.Orders.{level_in, status_in, weight_in}
 use Rattle.sort_check.specs.DeclarationTests.{sig_of}
 use Rattle.sort_check.specs.StandsFor.{StandsFor}
 use Rattle.sort_check.specs.FirstFault.{HasFirstFault, HasNoFault}
-use Rattle.sort_check.specs.declared.faults.SortKind.TheVariants.{UnknownName, RepeatedName, WrongNumberOfArguments, NotOnTheLeft, SortNotInferred, NotAFunction, EqualTwice, StatusTwice, NoOrderOfArguments, EqualOrStatusWithKbo, WrongWeight}
+use Rattle.sort_check.specs.declared.faults.SortKind.TheVariants.{UnknownName, RepeatedName, WrongNumberOfArguments}
+use Rattle.sort_check.specs.declared.faults.SortKind.TheVariants.{NotOnTheLeft, SortNotInferred, NotAFunction}
+use Rattle.sort_check.specs.declared.faults.SortKind.TheVariants.{EqualTwice, StatusTwice, NoOrderOfArguments}
+use Rattle.sort_check.specs.declared.faults.SortKind.TheVariants.{EqualOrStatusWithKbo, WrongWeight}
 
 -- a name at a place, 0 if the place doesn't matter
 abbrev pub name_at : List ℕ → ℕ → RawName

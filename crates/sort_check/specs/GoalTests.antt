@@ -1,5 +1,6 @@
 -- What is tested at a goal: its bindings, the words of its sides, and then the sorts of its variables.
-use Rattle.std.specs.Prelude.{◌≡◌, ℕ, ◌+◌, List, [], ◌∷◌, ◌++◌, Option, Some, None, position, option_map, length, map, drop, unwrap_or}
+use Rattle.std.specs.Prelude.{◌≡◌, ℕ, ◌+◌, List, [], ◌∷◌, ◌++◌, Option, Some, None, position, option_map, length, map}
+use Rattle.std.specs.Prelude.{drop, unwrap_or}
 use Rattle.std.specs.Str.{bytes_eq}
 use Rattle.term_core.specs.declared.ids.SortId.{SortId}
 use Rattle.spec_core.specs.Sig.{Sig, names_of}
@@ -16,7 +17,8 @@ use Rattle.sort_check.specs.declared.entries.Entry.{Entry}
 use Rattle.sort_check.specs.declared.entries.Pair.{Pair}
 use Rattle.sort_check.specs.declared.faults.SortFault.{SortFault}
 use Rattle.sort_check.specs.declared.faults.SortFault.TheVariants.{Sort}
-use Rattle.sort_check.specs.declared.faults.SortKind.TheVariants.{UnknownName, RepeatedName, WrongSort, SortNotInferred, TooManyVariables}
+use Rattle.sort_check.specs.declared.faults.SortKind.TheVariants.{UnknownName, RepeatedName, WrongSort}
+use Rattle.sort_check.specs.declared.faults.SortKind.TheVariants.{SortNotInferred, TooManyVariables}
 use Rattle.sort_check.specs.declared.faults.Part.TheVariants.{Goal}
 
 abbrev pub place_of : RawTree → ℕ

@@ -1,5 +1,6 @@
 -- What is tested at the lines that say how terms are ordered.
-use Rattle.std.specs.Prelude.{◌≡◌, ◌≢◌, ◌≤◌, ◌⊎◌, ℕ, List, [], ◌∷◌, ◌++◌, Option, Some, None, IsTrue, codes, length, map, slice_index}
+use Rattle.std.specs.Prelude.{◌≡◌, ◌≢◌, ◌≤◌, ◌⊎◌, ℕ, List, [], ◌∷◌, ◌++◌, Option, Some, None, IsTrue, codes, length}
+use Rattle.std.specs.Prelude.{map, slice_index}
 use Rattle.std.specs.List.{flat_map}
 use Rattle.term_core.specs.Precedence.{is_status}
 use Rattle.spec_core.specs.Sig.{Sig, IsConstructor}
@@ -16,7 +17,10 @@ use Rattle.sort_check.specs.Words.{symbol_named}
 use Rattle.sort_check.specs.declared.faults.SortFault.{SortFault}
 use Rattle.sort_check.specs.declared.faults.SortFault.TheVariants.{Sort}
 use Rattle.sort_check.specs.declared.faults.SortKind.{SortKind}
-use Rattle.sort_check.specs.declared.faults.SortKind.TheVariants.{UnknownName, RepeatedName, WrongNumberOfArguments, NotAFunction, EqualTwice, StatusTwice, NoOrderOfArguments, EqualOrStatusWithKbo, WrongWeight}
+use Rattle.sort_check.specs.declared.faults.SortKind.TheVariants.{UnknownName, RepeatedName, WrongNumberOfArguments}
+use Rattle.sort_check.specs.declared.faults.SortKind.TheVariants.{NotAFunction, EqualTwice, StatusTwice}
+use Rattle.sort_check.specs.declared.faults.SortKind.TheVariants.{NoOrderOfArguments, EqualOrStatusWithKbo}
+use Rattle.sort_check.specs.declared.faults.SortKind.TheVariants.{WrongWeight}
 
 -- the names in equal lines, and those at the heads of status lines
 abbrev pub names_in : List RawEqual → List RawName

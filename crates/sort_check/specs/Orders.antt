@@ -1,5 +1,6 @@
 -- The order that the lines of a raw specification stand for.
-use Rattle.std.specs.Prelude.{◌≡◌, ℕ, List, [], ◌∷◌, Bool, ◌==◌, Some, None, if◌then◌else◌, max, map, length, position, unwrap_or, slice_index}
+use Rattle.std.specs.Prelude.{◌≡◌, ℕ, List, [], ◌∷◌, Bool, ◌==◌, Some, None, if◌then◌else◌, max, map, length, position}
+use Rattle.std.specs.Prelude.{unwrap_or, slice_index}
 use Rattle.std.specs.List.{list_any, range_with_len}
 use Rattle.std.specs.Str.{bytes_eq}
 use Rattle.spec_core.specs.Sig.{Sig, names_of}

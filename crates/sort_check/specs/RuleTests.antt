@@ -13,7 +13,8 @@ use Rattle.sort_check.specs.Words.{count, symbol_named, info_at, entries_after_a
 use Rattle.sort_check.specs.declared.entries.Entry.{Entry}
 use Rattle.sort_check.specs.declared.faults.SortFault.{SortFault}
 use Rattle.sort_check.specs.declared.faults.SortFault.TheVariants.{Sort}
-use Rattle.sort_check.specs.declared.faults.SortKind.TheVariants.{UnknownName, WrongNumberOfArguments, WrongSort, NoFunction, GuardNotBool, LeftTooLarge, TooManyRules}
+use Rattle.sort_check.specs.declared.faults.SortKind.TheVariants.{UnknownName, WrongNumberOfArguments, WrongSort}
+use Rattle.sort_check.specs.declared.faults.SortKind.TheVariants.{NoFunction, GuardNotBool, LeftTooLarge, TooManyRules}
 use Rattle.sort_check.specs.declared.faults.Part.TheVariants.{Left, Right}
 
 -- the test whether this is the word at the term's root

@@ -12,7 +12,8 @@ use Rattle.sort_check.specs.declared.entries.Entry.{Entry}
 use Rattle.sort_check.specs.declared.faults.SortFault.{SortFault}
 use Rattle.sort_check.specs.declared.faults.SortFault.TheVariants.{Sort}
 use Rattle.sort_check.specs.declared.faults.SortKind.{SortKind}
-use Rattle.sort_check.specs.declared.faults.SortKind.TheVariants.{UnknownName, WrongNumberOfArguments, NotOnTheLeft, DefinedInPattern, TooManyVariables, WrongSort}
+use Rattle.sort_check.specs.declared.faults.SortKind.TheVariants.{UnknownName, WrongNumberOfArguments, NotOnTheLeft}
+use Rattle.sort_check.specs.declared.faults.SortKind.TheVariants.{DefinedInPattern, TooManyVariables, WrongSort}
 use Rattle.sort_check.specs.declared.faults.Part.{Part}
 use Rattle.sort_check.specs.declared.faults.Part.TheVariants.{Left, Right, Goal, Ground}
 

@@ -3,7 +3,12 @@
 ghost use Rattle.std.specs.Prelude.{◌≡◌, ◌≤◌, ◌++◌, IfOk, OnOk, length};
 ghost use Rattle.std.specs.List.{AllByRecursion, AllZip};
 ghost use Rattle.sort_check.specs.Answers.{Answers};
-ghost use Rattle.sort_check.specs.GoalTests.{all_sides_tests, after_all_sides, sides_tests, after_sides, all_opposite_tests, opposite_tests, after_opposite, own_sort as sort_of_side, wanted as wanted_sort, number_of as number_of_side, pair_of as pair_of_sides, place_of as place_of_root, pairs_in, sorts_tests, opposed_by, equations_of};
+ghost use Rattle.sort_check.specs.GoalTests.{all_sides_tests, after_all_sides, sides_tests};
+ghost use Rattle.sort_check.specs.GoalTests.{after_sides, all_opposite_tests, opposite_tests};
+ghost use Rattle.sort_check.specs.GoalTests.{after_opposite, own_sort as sort_of_side};
+ghost use Rattle.sort_check.specs.GoalTests.{wanted as wanted_sort, number_of as number_of_side};
+ghost use Rattle.sort_check.specs.GoalTests.{pair_of as pair_of_sides, place_of as place_of_root};
+ghost use Rattle.sort_check.specs.GoalTests.{pairs_in, sorts_tests, opposed_by, equations_of};
 ghost use Rattle.sort_check.specs.Over.{IsEquationOver};
 ghost use Rattle.sort_check.specs.Parts.{AreFound, inferred_variables};
 ghost use Rattle.sort_check.specs.declared.faults.Part.TheVariants.{Goal};

@@ -1,15 +1,22 @@
 //! The signature: the declarations of sorts, constructors and functions.
 
-ghost use Rattle.std.specs.Prelude.{◌≡◌, ℕ, List, ◌+◌, ◌<◌, ◌≤◌, ◌^◌, ◌∷◌, ◌++◌, [], IfOk, OnErr, length, map, codes};
+ghost use Rattle.std.specs.Prelude.{◌≡◌, ℕ, List, ◌+◌, ◌<◌, ◌≤◌, ◌^◌, ◌∷◌, ◌++◌, [], IfOk, OnErr};
+ghost use Rattle.std.specs.Prelude.{length, map, codes};
 ghost use Rattle.spec_core.specs.declared.records.SymInfo.{SymInfo};
 ghost use Rattle.spec_core.specs.Declarations.{IsNewName, IsDeclared};
 ghost use Rattle.spec_core.specs.Findings.{Clean, test, each};
 ghost use Rattle.spec_grammar.specs.declared.raw.RawNames.{RawNames};
 ghost use Rattle.sort_check.specs.Answers.{Answers};
 ghost use Rattle.sort_check.specs.Counted.{HasFewDeclarations};
-ghost use Rattle.sort_check.specs.DeclarationTests.{sorts_tests, sort_test, symbol_tests, constructors_tests, all_constructors_tests, functions_tests, small_tests, sort_number, constructor_of, constructors_of, function_of, all_sorts, all_constructors, boolean_names, values_sig, declarations_tests, sig_of};
+ghost use Rattle.sort_check.specs.DeclarationTests.{sorts_tests, sort_test, symbol_tests};
+ghost use Rattle.sort_check.specs.DeclarationTests.{constructors_tests, all_constructors_tests};
+ghost use Rattle.sort_check.specs.DeclarationTests.{functions_tests, small_tests, sort_number};
+ghost use Rattle.sort_check.specs.DeclarationTests.{constructor_of, constructors_of, function_of};
+ghost use Rattle.sort_check.specs.DeclarationTests.{all_sorts, all_constructors, boolean_names};
+ghost use Rattle.sort_check.specs.DeclarationTests.{values_sig, declarations_tests, sig_of};
 ghost use Rattle.sort_check.specs.Signatures.{SignatureStands, sort_names};
-ghost use Rattle.sort_check.specs.declared.faults.SortFault.TheVariants.{Sort, OutOfMemory as out_of_memory};
+ghost use Rattle.sort_check.specs.declared.faults.SortFault.TheVariants.{Sort};
+ghost use Rattle.sort_check.specs.declared.faults.SortFault.TheVariants.{OutOfMemory as out_of_memory};
 ghost use Rattle.sort_check.specs.declared.faults.SortKind.TheVariants.{RepeatedName as repeated_name};
 
 use crate::faults::{SortFault, SortKind, fault};

@@ -1,5 +1,6 @@
 ghost use Rattle.sort_check.specs.Examples.{WorkedExamples};
-ghost use Rattle.sort_check.specs.Laws.{FaultyStandsForNone, KeepsSizes, NumberingKeepsSizes, OneFirstFault, OneSpecification, StandsWellSorted};
+ghost use Rattle.sort_check.specs.Laws.{FaultyStandsForNone, KeepsSizes, NumberingKeepsSizes};
+ghost use Rattle.sort_check.specs.Laws.{OneFirstFault, OneSpecification, StandsWellSorted};
 
 /// A raw specification stands for at most one specification.
 pub fn one_specification()
@@ -21,7 +22,8 @@ pub fn sizes_are_kept()
     ensures { KeepsSizes }
 {}
 
-/// The terms of a specification's rules have no more symbols and variables than a raw term has words.
+/// The terms of a specification's rules have no more symbols and variables than a raw term has
+/// words.
 pub fn numbering_keeps_sizes()
     ensures { NumberingKeepsSizes }
 {}

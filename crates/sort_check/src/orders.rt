@@ -1,14 +1,19 @@
 //! The order by equal and status lines, or by the order line.
 
-ghost use Rattle.std.specs.Prelude.{◌≡◌, ◌<◌, ◌==◌, ◌++◌, ◌∷◌, ℕ, List, [], IfOk, OnErr, IsTrue, ◌↔◌, if◌then◌else◌, length, map, replicate, slice_index};
+ghost use Rattle.std.specs.Prelude.{◌≡◌, ◌<◌, ◌==◌, ◌++◌, ◌∷◌, ℕ, List, [], IfOk, OnErr, IsTrue};
+ghost use Rattle.std.specs.Prelude.{◌↔◌, if◌then◌else◌, length, map, replicate, slice_index};
 ghost use Rattle.std.specs.List.{list_all, range_with_len};
 ghost use Rattle.term_core.specs.Precedence.{is_status as orders_arguments, times};
 ghost use Rattle.spec_core.specs.Findings.{test, each_after};
 ghost use Rattle.spec_core.specs.Orders.{arities};
 ghost use Rattle.spec_core.specs.declared.records.OrderInfo.TheVariants.{Path};
 ghost use Rattle.sort_check.specs.Answers.{Answers};
-ghost use Rattle.sort_check.specs.Orders.{OrderStands, all_numbers, greatest as greatest_number, is_among, level_in, status_in, symbol_number, symbol_numbers};
-ghost use Rattle.sort_check.specs.OrderTests.{IsOrderOfArguments, arity as arity_of, equal_tests, function_tests, name_tests, order_tests, path_tests, status_tests};
+ghost use Rattle.sort_check.specs.Orders.{OrderStands, all_numbers, greatest as greatest_number};
+ghost use Rattle.sort_check.specs.Orders.{is_among, level_in, status_in, symbol_number};
+ghost use Rattle.sort_check.specs.Orders.{symbol_numbers};
+ghost use Rattle.sort_check.specs.OrderTests.{IsOrderOfArguments, arity as arity_of, equal_tests};
+ghost use Rattle.sort_check.specs.OrderTests.{function_tests, name_tests, order_tests, path_tests};
+ghost use Rattle.sort_check.specs.OrderTests.{status_tests};
 ghost use Rattle.sort_check.specs.Marks.{AllAreBelow, AreMarks, numbers_of};
 ghost use Rattle.sort_check.specs.declared.faults.SortFault.TheVariants.{Sort};
 ghost use Rattle.sort_check.specs.declared.faults.SortKind.TheVariants.{NoOrderOfArguments as no_order_of_arguments};
@@ -201,7 +206,8 @@ fn greatest(functions: &[SymId]) -> u32
 /// is answered as want of memory.
 fn status_of(alloc: Global, raw: &RawStatus, arity: usize) -> Result<Seq<u8>, SortFault>
     ensures { Answers (test (Sort raw.now.head.at no_order_of_arguments)
-        (¬ (IsOrderOfArguments arity raw.now.numbers))) (λ status. status ≡ raw.now.numbers) result }
+        (¬ (IsOrderOfArguments arity raw.now.numbers)))
+        (λ status. status ≡ raw.now.numbers) result }
 {
     let numbers = raw.numbers.as_slice();
     if numbers.len() != arity || !is_status(alloc, numbers)? {

@@ -9,7 +9,8 @@ ghost use Rattle.sort_check.specs.Entries.{Differ, entry_named, given, sort_so_f
 ghost use Rattle.sort_check.specs.Parts.{arguments_of};
 ghost use Rattle.sort_check.specs.declared.faults.SortFault.TheVariants.{Sort};
 ghost use Rattle.sort_check.specs.declared.faults.SortKind.TheVariants.{WrongSort as wrong_sort};
-ghost use Rattle.sort_check.specs.Words.{variable_tests, symbol_tests, term_tests, terms_tests, entries_after, entries_after_all};
+ghost use Rattle.sort_check.specs.Words.{variable_tests, symbol_tests, term_tests, terms_tests};
+ghost use Rattle.sort_check.specs.Words.{entries_after, entries_after_all};
 ghost use Rattle.sort_check.specs.Over.{IsOver, AreOverBehind};
 
 use crate::entries::{Entry, add, place_of};

@@ -1,9 +1,11 @@
 -- Weights have no endless descent.
-use Rattle.std.proofs.Common.{◌≡◌, ◌≢◌, ◌⊎◌, ℕ, zero, suc, ◌+◌, ◌≤◌, ◌<◌, List, [], ◌∷◌, ◌++◌, length, ap, refl, ◌∙◌, arith, inl, inr}
+use Rattle.std.proofs.Common.{◌≡◌, ◌≢◌, ◌⊎◌, ℕ, zero, suc, ◌+◌, ◌≤◌, ◌<◌, List, [], ◌∷◌, ◌++◌, length, ap, refl, ◌∙◌}
+use Rattle.std.proofs.Common.{arith, inl, inr}
 use Rattle.std.specs.Prelude.{IsPermutation}
 use Rattle.std.proofs.lemmas.List.Sorted.{IsPermutation-trans}
 use Rattle.descent.specs.Weights.{IsHeavier}
-use Rattle.descent.proofs.Multisets.{IsIn, occurs, none-in, head-in, in-cases, contains-in, in-contains, occurs-append, occurs-permutation}
+use Rattle.descent.proofs.Multisets.{IsIn, occurs, none-in, head-in, in-cases, contains-in, in-contains, occurs-append}
+use Rattle.descent.proofs.Multisets.{occurs-permutation}
 
 -- every descent from the weight ends
 pub data Sinks : List ℕ → Type 0 where
@@ -24,7 +26,12 @@ first-induction : (b : ℕ) → Induction b → (P : (ℕ → ℕ) → Type 0) �
 first-induction b ih P rule zero f l = absurd (omega arith)
 first-induction b ih P rule (suc m) f l =
     ih (λ g. g b < suc m → P g)
-    (λ g below small. rule g (λ h d. elim d [ inl less ↦ first-induction b ih P rule m h (omega arith) | inr d' ↦ below h d'.1 (omega (arith, d'.0)) ]))
+    (λ g below small. rule g
+    (λ h d. elim d [
+      | inl less ↦ first-induction b ih P rule m h (omega arith)
+      | inr d' ↦ below h d'.1
+          (omega (arith, d'.0))
+    ]))
     f l
 
 falls-induction : (b : ℕ) → Induction b
@@ -35,9 +42,13 @@ split : (n : ℕ) → (1 ≤ n) ⊎ (n ≡ 0)
 split zero = inr refl
 split (suc n) = inl (omega arith)
 
-falls-by : (b : ℕ) (f g : ℕ → ℕ) (common rest other : List ℕ) → ((a : ℕ) → f a ≡ occurs a common + occurs a rest) → ((a : ℕ) → g a ≡ occurs a common + occurs a other) → (m : ℕ) → IsIn m rest → ((x : ℕ) → IsIn x rest → x < b) → ((y : ℕ) → IsIn y other → (x : ℕ) × IsIn x rest × y < x) → Falls b f g
+falls-by : (b : ℕ) (f g : ℕ → ℕ) (common rest other : List ℕ) →
+    ((a : ℕ) → f a ≡ occurs a common + occurs a rest) → ((a : ℕ) → g a ≡ occurs a common + occurs a other) →
+    (m : ℕ) → IsIn m rest → ((x : ℕ) → IsIn x rest → x < b) →
+    ((y : ℕ) → IsIn y other → (x : ℕ) × IsIn x rest × y < x) → Falls b f g
 falls-by zero f g common rest other hf hg m i small h = absurd (omega (arith, small m i))
-falls-by (suc b) f g common rest other hf hg m i small h = go (λ s. falls-by b f g common rest other hf hg m i s h) (split (occurs b rest))
+falls-by (suc b) f g common rest other hf hg m i small h = go
+    (λ s. falls-by b f g common rest other hf hg m i s h) (split (occurs b rest))
   where
     lower : (y : ℕ) → IsIn y other → y < b
     lower y j = let d = h y j in omega (arith, d.2, small d.0 d.1)
@@ -50,7 +61,11 @@ falls-by (suc b) f g common rest other hf hg m i small h = go (λ s. falls-by b 
     go again (inr e) = inr (omega (arith, hf b, hg b, gone), again (λ x k. below x k (small x k)))
       where
         below : (x : ℕ) → IsIn x rest → x < suc b → x < b
-        below x k l = elim (same x b) [ inl q ↦ absurd (let z : occurs x rest ≡ occurs b rest = ap (λ w. occurs w rest) q in omega arith) | inr n ↦ omega (arith, n) ]
+        below x k l = elim (same x b) [
+          | inl q ↦ absurd (let z : occurs x rest ≡ occurs b rest = ap (λ w. occurs w rest) q in
+              omega arith)
+          | inr n ↦ omega (arith, n)
+        ]
           where
             same : (x y : ℕ) → (x ≡ y) ⊎ (x ≢ y)
             same x y = grind arith
@@ -73,17 +88,23 @@ sinks-below : (b : ℕ) (f : ℕ → ℕ) → (xs : List ℕ) → IsBelow b xs �
 sinks-below b =
     falls-induction b (λ f. (xs : List ℕ) → IsBelow b xs → ((a : ℕ) → f a ≡ occurs a xs) → Sinks xs)
     (λ f ih xs small e. sinks xs (λ ys d.
-    let left : (a : ℕ) → occurs a xs ≡ occurs a d.rests.common + occurs a d.rest = λ a. occurs-permutation a xs (d.rests.common ++ d.rest) d.rests.of_first ∙ occurs-append a d.rests.common d.rest in
-    let right : (a : ℕ) → occurs a ys ≡ occurs a d.rests.common + occurs a d.other = λ a. occurs-permutation a ys (d.rests.common ++ d.other) d.rests.of_second ∙ occurs-append a d.rests.common d.other in
+    let left : (a : ℕ) → occurs a xs ≡ occurs a d.rests.common + occurs a d.rest = λ a. occurs-permutation a xs
+    (d.rests.common ++ d.rest) d.rests.of_first ∙ occurs-append a d.rests.common d.rest in
+    let right : (a : ℕ) → occurs a ys ≡ occurs a d.rests.common + occurs a d.other = λ a. occurs-permutation a
+    ys (d.rests.common ++ d.other) d.rests.of_second ∙ occurs-append a d.rests.common d.other in
     let m = some-in d.rest d.not_empty in
     let rest_small : IsBelow b d.rest = λ x i. small x (omega (arith, left x)) in
-    let greater : (y : ℕ) → IsIn y d.other → (x : ℕ) × IsIn x d.rest × y < x = λ y i. let g = d.has_greater y (in-contains d.other y i) in (g.0, contains-in d.rest g.0 g.1, g.2) in
-    let ys_small : IsBelow b ys = λ x i. below-cases d.rests.common d.rest d.other x b rest_small greater (λ j. small x (omega (arith, left x))) (omega (arith, right x)) in
+    let greater : (y : ℕ) → IsIn y d.other → (x : ℕ) × IsIn x d.rest
+    × y < x = λ y i. let g = d.has_greater y (in-contains d.other y i) in (g.0, contains-in d.rest g.0 g.1, g.2) in
+    let ys_small : IsBelow b ys = λ x i. below-cases d.rests.common d.rest d.other x b rest_small greater
+    (λ j. small x (omega (arith, left x))) (omega (arith, right x)) in
     ih (λ a. occurs a ys)
     (falls-by b f (λ a. occurs a ys) d.rests.common d.rest d.other (λ a. e a ∙ left a) right m.0 m.1 rest_small greater)
     ys ys_small (λ a. refl)))
   where
-    below-cases : (common rest other : List ℕ) (x b : ℕ) → IsBelow b rest → ((y : ℕ) → IsIn y other → (x : ℕ) × IsIn x rest × y < x) → (IsIn x common → x < b) → 1 ≤ occurs x common + occurs x other → x < b
+    below-cases : (common rest other : List ℕ) (x b : ℕ) → IsBelow b rest →
+        ((y : ℕ) → IsIn y other → (x : ℕ) × IsIn x rest × y < x) → (IsIn x common → x < b) →
+        1 ≤ occurs x common + occurs x other → x < b
     below-cases common rest other x b small greater c l = go (split (occurs x common))
       where
         go : (1 ≤ occurs x common) ⊎ (occurs x common ≡ 0) → x < b

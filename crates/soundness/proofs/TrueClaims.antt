@@ -28,7 +28,8 @@ use Rattle.soundness.proofs.ProvedBlocks.{proved_fails_not}
 use Rattle.soundness.proofs.TrueGoals.{written_sorted, HaveValues, true_goal, verdict_fails}
 
 -- what the last claim proves, or those before it
-proved_by : (name : List ℕ) (before : List Claim) (claim : Claim) → IsProvedBy name (before ++ (claim ∷ [])) → IsProvedBy name before ⊎ ((claim.goal ≡ name) × SaysProved claim.outcome)
+proved_by : (name : List ℕ) (before : List Claim) (claim : Claim) → IsProvedBy name (before ++ (claim ∷ [])) →
+    IsProvedBy name before ⊎ ((claim.goal ≡ name) × SaysProved claim.outcome)
 proved_by name [] claim (inl h) = inr h
 proved_by name [] claim (inr h) = absurd h
 proved_by name (c ∷ cs) claim (inl h) = inl (inl h)
@@ -40,7 +41,9 @@ contains_first m n ns e = (0, omega arith, e)
 contains_more : (m n : ℕ) (ns : List ℕ) → Contains ns n → Contains (m ∷ ns) n
 contains_more m n ns (k, l, e) = (suc k, omega (arith, l), e)
 
-module _ (above : Tree → Tree → Type 0) (rank : ℕ → ℕ → Tree → ℕ → Type 0) (laws : HasRanks above rank) (descend : StepsDescend above rank) (keep : ChildrenAreSorted above) (spec : Spec) (fine : IsWellSorted spec) (admitted : IsAdmitted above spec) (valued : HaveValues spec) (steps : ℕ) where
+module _ (above : Tree → Tree → Type 0) (rank : ℕ → ℕ → Tree → ℕ → Type 0) (laws : HasRanks above rank)
+    (descend : StepsDescend above rank) (keep : ChildrenAreSorted above) (spec : Spec)
+    (fine : IsWellSorted spec) (admitted : IsAdmitted above spec) (valued : HaveValues spec) (steps : ℕ) where
   -- the goals of these numbers are true, and each that may be used is one of them
   pub record Known (before : List Claim) : Type 0 where
     pub numbers : List ℕ
@@ -48,19 +51,38 @@ module _ (above : Tree → Tree → Type 0) (rank : ℕ → ℕ → Tree → ℕ
     pub has : (n : ℕ) → ProvedBefore spec before n → Contains numbers n
 
   nothing_known : Known []
-  nothing_known = record { numbers = []; are_true = λ n goal c at. absurd (omega (arith, c.1)); has = λ n p. absurd p.2 }
+  nothing_known = record {
+    numbers = [];
+    are_true = λ n goal c at. absurd (omega (arith, c.1));
+    has = λ n p.
+        absurd p.2;
+  }
 
-  proved_true : (before : List Claim) (k : Known before) (n : ℕ) (goal : Goal) → slice_get spec.goals n ≡ Some goal → (block : List Step) → Proves above spec (ProvedBefore spec before) (goal_clause goal) block → GoalIsTrue spec goal
+  proved_true : (before : List Claim) (k : Known before) (n : ℕ) (goal : Goal) →
+      slice_get spec.goals n ≡ Some goal → (block : List Step) →
+      Proves above spec (ProvedBefore spec before) (goal_clause goal) block → GoalIsTrue spec goal
   proved_true before k n goal at block p =
       let sorted = written_sorted spec.sig goal (fine.goals n goal at) in
-      true_goal spec valued goal (fine.goals n goal at) (λ xs fails. proved_fails_not above rank laws descend keep spec fine admitted k.numbers k.are_true (ProvedBefore spec before) k.has (goal_clause goal) block (keeps_sorts spec.sig (written_clause goal) fine.signature sorted) p (values_at (variables_of (written_clause goal)) xs) (keeps_failing spec (written_clause goal) xs sorted fails))
+      true_goal spec valued goal (fine.goals n goal at)
+      (λ xs fails. proved_fails_not above rank laws descend keep spec fine admitted k.numbers k.are_true
+      (ProvedBefore spec before) k.has (goal_clause goal) block
+      (keeps_sorts spec.sig (written_clause goal) fine.signature sorted) p
+      (values_at (variables_of (written_clause goal)) xs)
+      (keeps_failing spec (written_clause goal) xs sorted fails))
 
-  outcome_true : (before : List Claim) (k : Known before) (n : ℕ) (goal : Goal) → slice_get spec.goals n ≡ Some goal → (outcome : Outcome) → IsShown above spec steps before goal outcome → OutcomeIsTrue spec goal outcome
+  outcome_true : (before : List Claim) (k : Known before) (n : ℕ) (goal : Goal) →
+      slice_get spec.goals n ≡ Some goal → (outcome : Outcome) → IsShown above spec steps before goal outcome →
+      OutcomeIsTrue spec goal outcome
   outcome_true before k n goal at (Proved block) p = proved_true before k n goal at block.steps p
-  outcome_true before k n goal at (Refuted index values) p = (p.0.sorts, verdict_fails spec (values_in values) steps goal p.1)
+  outcome_true before k n goal at (Refuted index values) p = (
+    p.0.sorts,
+    verdict_fails spec (values_in values) steps goal p.1,
+  )
   outcome_true before k n goal at (Open budget) p = tt
 
-  more_known : (before : List Claim) (k : Known before) (claim : Claim) (goal : Goal) (named : IsGoalNamed spec claim.goal goal) (outcome : Outcome) → (SaysProved claim.outcome → SaysProved outcome) → OutcomeIsTrue spec goal outcome → Known (before ++ (claim ∷ []))
+  more_known : (before : List Claim) (k : Known before) (claim : Claim) (goal : Goal)
+      (named : IsGoalNamed spec claim.goal goal) (outcome : Outcome) →
+      (SaysProved claim.outcome → SaysProved outcome) → OutcomeIsTrue spec goal outcome → Known (before ++ (claim ∷ []))
   more_known before k claim goal named (Proved block) same t = record {
     numbers = named.0 ∷ k.numbers;
     are_true = true_by;
@@ -71,17 +93,35 @@ module _ (above : Tree → Tree → Type 0) (rank : ℕ → ℕ → Tree → ℕ
   }
     where
       true_by : AreTrue spec (named.0 ∷ k.numbers)
-      true_by n other (zero, l, e) at = subst (λ g. GoalIsTrue spec g) (one_get spec.goals named.0 n goal other named.1 at e) t
+      true_by n other (zero, l, e) at = subst (λ g. GoalIsTrue spec g)
+          (one_get spec.goals named.0 n goal other named.1 at e) t
       true_by n other (suc i, l, e) at = k.are_true n other (i, omega (arith, l), e) at
-  more_known before k claim goal named (Refuted index values) same t = record { numbers = k.numbers; are_true = k.are_true; has = λ n p. elim (proved_by p.0.name before claim p.2) [ inl q ↦ k.has n (p.0, p.1, q) | inr q ↦ absurd (same q.1) ] }
-  more_known before k claim goal named (Open budget) same t = record { numbers = k.numbers; are_true = k.are_true; has = λ n p. elim (proved_by p.0.name before claim p.2) [ inl q ↦ k.has n (p.0, p.1, q) | inr q ↦ absurd (same q.1) ] }
+  more_known before k claim goal named (Refuted index values) same
+      t = record {
+        numbers = k.numbers;
+        are_true = k.are_true;
+        has = λ n p. elim
+            (proved_by p.0.name before claim p.2) [ inl q ↦ k.has n (p.0, p.1, q) | inr q ↦ absurd (same q.1) ];
+      }
+  more_known before k claim goal named (Open budget) same
+      t = record {
+        numbers = k.numbers;
+        are_true = k.are_true;
+        has = λ n p. elim
+            (proved_by p.0.name before claim p.2) [ inl q ↦ k.has n (p.0, p.1, q) | inr q ↦ absurd (same q.1) ];
+      }
 
-  claims_true : (before : List Claim) → Known before → (claims : List Claim) → ClaimsAreAccepted above spec steps before claims → AllByRecursion (ClaimIsTrue spec) claims
+  claims_true : (before : List Claim) → Known before → (claims : List Claim) →
+      ClaimsAreAccepted above spec steps before claims → AllByRecursion (ClaimIsTrue spec) claims
   claims_true before k [] accepted = tt
   claims_true before k (claim ∷ claims) accepted =
       let a = accepted.0 in
-      let t = outcome_true before k a.named.0 a.goal a.named.1 claim.outcome a.shown in
-      ((a.goal, a.named, t), claims_true (before ++ (claim ∷ [])) (more_known before k claim a.goal a.named claim.outcome (λ s. s) t) claims accepted.1)
+      let t = outcome_true before k a.named.0 a.goal a.named.1 claim.outcome a.shown in (
+        (a.goal, a.named, t),
+        claims_true (before ++ (claim ∷ [])) (more_known before k claim a.goal a.named claim.outcome (λ s. s)
+            t) claims accepted.1,
+      )
 
-  pub all_claims_true : (claims : List Claim) → ClaimsAreAccepted above spec steps [] claims → AllByRecursion (ClaimIsTrue spec) claims
+  pub all_claims_true : (claims : List Claim) → ClaimsAreAccepted above spec steps [] claims →
+      AllByRecursion (ClaimIsTrue spec) claims
   all_claims_true claims accepted = claims_true [] nothing_known claims accepted

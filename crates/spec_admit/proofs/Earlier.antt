@@ -1,5 +1,6 @@
 -- What holds of the elements before a place of a list.
-use Rattle.std.proofs.Common.{◌≡◌, ◌<◌, ◌≤◌, ◌+◌, ◌⊎◌, ℕ, suc, List, [], ◌∷◌, Some, inl, inr, refl, ap, sym, ◌∙◌, subst, arith, length, get_or}
+use Rattle.std.proofs.Common.{◌≡◌, ◌<◌, ◌≤◌, ◌+◌, ◌⊎◌, ℕ, suc, List, [], ◌∷◌, Some, inl, inr, refl, ap, sym, ◌∙◌}
+use Rattle.std.proofs.Common.{subst, arith, length, get_or}
 use Rattle.std.specs.Prelude.{slice_get}
 use Rattle.std.specs.List.{AllByRecursion}
 use Rattle.std.proofs.lemmas.Option.{slice_get_within, slice_get_read}
@@ -22,10 +23,13 @@ module _ {X : Type 0} (P : X → Type 0) (xs : List X) where
   pub earlier_all : (n : ℕ) → length xs ≤ n → Earlier n → (k : ℕ) (x : X) → slice_get xs k ≡ Some x → P x
   earlier_all n end before k x at = before k x (omega (arith, slice_get_within xs k x at)) at
 
-pub all_of : {X : Type 0} (P : X → Type 0) (xs : List X) → ((k : ℕ) (x : X) → slice_get xs k ≡ Some x → P x) → AllByRecursion P xs
+pub all_of : {X : Type 0} (P : X → Type 0) (xs : List X) → ((k : ℕ) (x : X) → slice_get xs k ≡ Some x → P x) →
+    AllByRecursion P xs
 all_of P [] h = tt
 all_of P (x ∷ xs) h = (h 0 x refl, all_of P xs (λ k y at. h (suc k) y at))
 
 -- the element that a loop reads
-pub read_at : {X : Type 0} (read xs : List X) (n : ℕ) (x : X) → read ≡ xs → n < length read → x ≡ get_or read n x → slice_get xs n ≡ Some x
-read_at read xs n x same within is = subst (λ ys. slice_get ys n ≡ Some x) same (slice_get_read read (length read) n x refl within is)
+pub read_at : {X : Type 0} (read xs : List X) (n : ℕ) (x : X) → read ≡ xs → n < length read →
+    x ≡ get_or read n x → slice_get xs n ≡ Some x
+read_at read xs n x same within is = subst (λ ys. slice_get ys n ≡ Some x) same
+    (slice_get_read read (length read) n x refl within is)

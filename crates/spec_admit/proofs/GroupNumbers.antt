@@ -1,5 +1,6 @@
 -- The numbers of the rules with one left side, rule by rule.
-use Rattle.std.proofs.Common.{◌≡◌, ◌≢◌, ◌+◌, ◌≤◌, ℕ, suc, List, [], ◌∷◌, ◌++◌, Bool, true, false, cond, map, drop, inl, inr, refl, ap, sym, ◌∙◌, arith, Some, length, append_assoc}
+use Rattle.std.proofs.Common.{◌≡◌, ◌≢◌, ◌+◌, ◌≤◌, ℕ, suc, List, [], ◌∷◌, ◌++◌, Bool, true, false, cond, map, drop, inl}
+use Rattle.std.proofs.Common.{inr, refl, ap, sym, ◌∙◌, arith, Some, length, append_assoc}
 use Rattle.std.proofs.lemmas.List.{append-nil}
 use Rattle.std.specs.Prelude.{slice_get, ◌==◌, ◌&&◌}
 use Rattle.std.proofs.lemmas.Bool.Decides.{eqb_tells}
@@ -54,33 +55,47 @@ module _ (left : Tree) where
   numbers_from n rules = map (λ (m : ℕ × List Guard). m.0) (group left n rules)
 
   module _ (rules : List Rule) (n : ℕ) (rule : Rule) (at : slice_get rules n ≡ Some rule) where
-    next : numbers_from (suc n) (drop n rules) ≡ map (λ (m : ℕ × List Guard). m.0) (cond (same_tree left rule.left) ((suc n, rule.guards) ∷ group left (suc (suc n)) (drop (n + 1) rules)) (group left (suc (suc n)) (drop (n + 1) rules)))
+    next : numbers_from (suc n) (drop n rules) ≡ map (λ (m : ℕ × List Guard). m.0)
+        (cond (same_tree left rule.left) ((suc n, rule.guards) ∷ group left (suc (suc n)) (drop (n + 1) rules))
+        (group left (suc (suc n)) (drop (n + 1) rules)))
     next = ap (λ rs. numbers_from (suc n) rs) (drop_here rules n rule at)
 
-    number_here : rule.left ≡ left → numbers_from (suc n) (drop n rules) ≡ (n + 1) ∷ numbers_from (suc (n + 1)) (drop (n + 1) rules)
+    number_here : rule.left ≡ left → numbers_from (suc n) (drop n rules) ≡ (n + 1) ∷ numbers_from (suc (n + 1))
+        (drop (n + 1) rules)
     number_here same =
         let t : same_tree left rule.left ≡ true = ap (λ u. same_tree left u) same ∙ same_tree-refl left in
         let e : suc n ≡ n + 1 = omega arith in
-        next ∙ ap (λ b. map (λ (m : ℕ × List Guard). m.0) (cond b ((suc n, rule.guards) ∷ group left (suc (suc n)) (drop (n + 1) rules)) (group left (suc (suc n)) (drop (n + 1) rules)))) t
+        next ∙ ap (λ b. map (λ (m : ℕ × List Guard). m.0)
+        (cond b ((suc n, rule.guards) ∷ group left (suc (suc n)) (drop (n + 1) rules))
+        (group left (suc (suc n)) (drop (n + 1) rules)))) t
         ∙ ap (λ k. k ∷ numbers_from (suc k) (drop (n + 1) rules)) e
 
-    number_later : rule.left ≢ left → numbers_from (suc n) (drop n rules) ≡ numbers_from (suc (n + 1)) (drop (n + 1) rules)
+    number_later : rule.left ≢ left →
+        numbers_from (suc n) (drop n rules) ≡ numbers_from (suc (n + 1)) (drop (n + 1) rules)
     number_later other =
         let t : same_tree left rule.left ≡ false = other_tree left rule.left (λ e. other (sym e)) in
         let e : suc n ≡ n + 1 = omega arith in
-        next ∙ ap (λ b. map (λ (m : ℕ × List Guard). m.0) (cond b ((suc n, rule.guards) ∷ group left (suc (suc n)) (drop (n + 1) rules)) (group left (suc (suc n)) (drop (n + 1) rules)))) t
+        next ∙ ap (λ b. map (λ (m : ℕ × List Guard). m.0)
+        (cond b ((suc n, rule.guards) ∷ group left (suc (suc n)) (drop (n + 1) rules))
+        (group left (suc (suc n)) (drop (n + 1) rules)))) t
         ∙ ap (λ k. numbers_from (suc k) (drop (n + 1) rules)) e
 
-    pub one_more : (old made : List ℕ) → made ≡ old ++ (n + 1) ∷ [] → rule.left ≡ left → old ++ numbers_from (suc n) (drop n rules) ≡ rules_with left rules → made ++ numbers_from (suc (n + 1)) (drop (n + 1) rules) ≡ rules_with left rules
+    pub one_more : (old made : List ℕ) → made ≡ old ++ (n + 1) ∷ [] → rule.left ≡ left →
+        old ++ numbers_from (suc n) (drop n rules) ≡ rules_with left rules →
+        made ++ numbers_from (suc (n + 1)) (drop (n + 1) rules) ≡ rules_with left rules
     one_more old made is same before =
         let rest = numbers_from (suc (n + 1)) (drop (n + 1) rules) in
-        ap (λ ms. ms ++ rest) is ∙ append_assoc old ((n + 1) ∷ []) rest ∙ ap (λ ms. old ++ ms) (sym (number_here same)) ∙ before
+        ap (λ ms. ms ++ rest) is ∙ append_assoc old ((n + 1) ∷ []) rest
+        ∙ ap (λ ms. old ++ ms) (sym (number_here same)) ∙ before
 
-    pub no_more : (old : List ℕ) → rule.left ≢ left → old ++ numbers_from (suc n) (drop n rules) ≡ rules_with left rules → old ++ numbers_from (suc (n + 1)) (drop (n + 1) rules) ≡ rules_with left rules
+    pub no_more : (old : List ℕ) → rule.left ≢ left →
+        old ++ numbers_from (suc n) (drop n rules) ≡ rules_with left rules →
+        old ++ numbers_from (suc (n + 1)) (drop (n + 1) rules) ≡ rules_with left rules
     no_more old other before = ap (λ ms. old ++ ms) (sym (number_later other)) ∙ before
 
   number_none : (rules : List Rule) (n : ℕ) → length rules ≤ n → numbers_from (suc n) (drop n rules) ≡ []
   number_none rules n end = ap (λ rs. numbers_from (suc n) rs) (drop_past rules n end)
 
-  pub all_numbers : (rules : List Rule) (n : ℕ) (made : List ℕ) → length rules ≤ n → made ++ numbers_from (suc n) (drop n rules) ≡ rules_with left rules → made ≡ rules_with left rules
+  pub all_numbers : (rules : List Rule) (n : ℕ) (made : List ℕ) → length rules ≤ n →
+      made ++ numbers_from (suc n) (drop n rules) ≡ rules_with left rules → made ≡ rules_with left rules
   all_numbers rules n made end all = sym (append-nil made) ∙ ap (λ ms. made ++ ms) (sym (number_none rules n end)) ∙ all

@@ -1,5 +1,6 @@
 -- The first faults of three specifications of addition: of linearity, of overlap and of guards.
-use Rattle.std.proofs.Common.{◌≡◌, ℕ, zero, suc, List, [], ◌∷◌, Some, None, inl, inr, refl, ap, sym, ◌∙◌, subst, arith, codes}
+use Rattle.std.proofs.Common.{◌≡◌, ℕ, zero, suc, List, [], ◌∷◌, Some, None, inl, inr, refl, ap, sym, ◌∙◌, subst, arith}
+use Rattle.std.proofs.Common.{codes}
 use Rattle.std.specs.Prelude.{option_map, slice_get, false}
 use Rattle.term_core.specs.Tree.{var}
 use Rattle.spec_core.specs.declared.records.Guard.{Guard}
@@ -35,7 +36,8 @@ linear h =
     }
 
 -- what holds of two rules holds of each rule of a list of both
-each_of_two : (P : Rule → Type 0) (r q : Rule) → P r → P q → (k : ℕ) (rule : Rule) → slice_get (r ∷ q ∷ []) k ≡ Some rule → P rule
+each_of_two : (P : Rule → Type 0) (r q : Rule) → P r → P q → (k : ℕ) (rule : Rule) →
+    slice_get (r ∷ q ∷ []) k ≡ Some rule → P rule
 each_of_two P r q a b zero rule at = let s : Some r ≡ Some rule = at in let e : r ≡ rule = cc in subst P e a
 each_of_two P r q a b (suc zero) rule at = let s : Some q ≡ Some rule = at in let e : q ≡ rule = cc in subst P e b
 each_of_two P r q a b (suc (suc k)) rule at = absurd (let s : None ≡ Some rule = at in cc)
@@ -67,7 +69,8 @@ not_whole nothing (alone {k = k}) e =
     let pair : ◌≡◌ {A = ℕ × List Guard} (k, []) (0, if_true ∷ []) = cc in
     let list : [] ≡ if_true ∷ [] = ap (λ (p : ℕ × List Guard). p.1) pair in
     cc
-not_whole nothing (split test begin true_side false_side) e = nothing (subst (λ ns. Whole (wanting false ns)) e false_side)
+not_whole nothing (split test begin true_side false_side) e = nothing
+    (subst (λ ns. Whole (wanting false ns)) e false_side)
 
 pub guards : (Whole [] → ⊥) → Tells AboveInSums half (Guards 1)
 guards nothing = (

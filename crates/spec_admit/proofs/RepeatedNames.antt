@@ -14,20 +14,24 @@ use Rattle.overlap_check.specs.Repetition.{IsLinearity}
 use Rattle.overlap_check.proofs.Counting.{twice_occurs}
 use Rattle.spec_admit.specs.FirstFault.{IsRepeated}
 
-module _ (spec : Spec) (number : ℕ) (var : VarId) (h : IsLinearity spec (Repeated number var)) (rules : List Rule) (all : rules ≡ spec.rules) (d : Rule) where
+module _ (spec : Spec) (number : ℕ) (var : VarId) (h : IsLinearity spec (Repeated number var))
+    (rules : List Rule) (all : rules ≡ spec.rules) (d : Rule) where
   -- the rule with this number is the one with the variable
   same_rule : h.2.rule ≡ get_or rules (number - 1) d
   same_rule =
       let place : number - 1 ≡ h.0 = omega (arith, h.1) in
-      sym (get_or_from_slice_get spec.rules h.0 h.2.rule d h.2.at) ∙ ap (λ n. get_or spec.rules n d) (sym place) ∙ ap (λ rs. get_or rs (number - 1) d) (sym all)
+      sym (get_or_from_slice_get spec.rules h.0 h.2.rule d h.2.at) ∙ ap (λ n. get_or spec.rules n d) (sym place)
+      ∙ ap (λ rs. get_or rs (number - 1) d) (sym all)
 
   pub within : IsWellSorted spec → var.0 < length (get_or rules (number - 1) d).vars
   within fine =
       let sorted : RuleIsSorted spec.sig h.2.rule = fine.rules h.0 h.2.rule h.2.at in
-      let few = numbered_below 0 (length (sorts_of h.2.rule.vars)) h.2.rule.left sorted.numbered var.0 (twice_occurs var.0 h.2.rule.left h.2.least.0) in
+      let few = numbered_below 0 (length (sorts_of h.2.rule.vars)) h.2.rule.left sorted.numbered var.0
+      (twice_occurs var.0 h.2.rule.left h.2.least.0) in
       omega (arith, few, length-map h.2.rule.vars (λ (v : VarInfo). v.sort), ap (λ (r : Rule). length r.vars) same_rule)
 
-  pub is_repeated : IsWellSorted spec → (vars : List VarInfo) (info : VarInfo) (name : List ℕ) → vars ≡ (get_or rules (number - 1) d).vars → name ≡ (get_or vars var.0 info).name → IsRepeated spec number name
+  pub is_repeated : IsWellSorted spec → (vars : List VarInfo) (info : VarInfo) (name : List ℕ) →
+      vars ≡ (get_or rules (number - 1) d).vars → name ≡ (get_or vars var.0 info).name → IsRepeated spec number name
   is_repeated fine vars info name are named =
       let few : var.0 < length vars = omega (arith, within fine, ap length are) in
       record {

@@ -18,7 +18,8 @@ use Rattle.coverage_check.specs.Named.{IsNamed}
 use Rattle.clause_core.specs.Admitted.{RulesAreOrdered}
 use Rattle.spec_admit.specs.Tests.{all_order_tests, all_guards_tests, all_coverage_tests}
 use Rattle.spec_admit.specs.declared.faults.AdmitFault.{AdmitFault}
-use Rattle.spec_admit.specs.declared.faults.AdmitFault.TheVariants.{Linear, Order, Overlap, Guards, Coverage, OutOfMemory}
+use Rattle.spec_admit.specs.declared.faults.AdmitFault.TheVariants.{Linear, Order, Overlap, Guards, Coverage}
+use Rattle.spec_admit.specs.declared.faults.AdmitFault.TheVariants.{OutOfMemory}
 
 module _ (spec : Spec) where
   -- the first rule with a variable twice on its left side; the least such variable has this name

@@ -1,6 +1,7 @@
 //! The first group that isn't whole.
 
-ghost use Rattle.std.specs.Prelude.{◌≡◌, ◌<◌, ◌^◌, ◌↔◌, IfOk, IsTrue, MatchOption, MatchBool, length};
+ghost use Rattle.std.specs.Prelude.{◌≡◌, ◌<◌, ◌^◌, ◌↔◌, IfOk, IsTrue, MatchOption, MatchBool};
+ghost use Rattle.std.specs.Prelude.{length};
 ghost use Rattle.std.specs.List.{Any};
 ghost use Rattle.spec_core.specs.declared.records.Rule.{Rule};
 ghost use Rattle.spec_core.specs.Findings.{First};

@@ -1,5 +1,6 @@
 ghost use Rattle.spec_admit.specs.Examples.{WorkedExamples};
-ghost use Rattle.spec_admit.specs.Laws.{FirstOfItsGroup, NoFaultWhereAdmitted, OneFault, OneLeftSide, OneValueWhereAdmitted};
+ghost use Rattle.spec_admit.specs.Laws.{FirstOfItsGroup, NoFaultWhereAdmitted, OneFault};
+ghost use Rattle.spec_admit.specs.Laws.{OneLeftSide, OneValueWhereAdmitted};
 
 use term_order::TermOrder;
 

@@ -1,5 +1,6 @@
 -- Laws of searches for the first fault.
-use Rattle.std.proofs.Common.{◌≡◌, ℕ, suc, ◌+◌, ◌<◌, ◌≤◌, inl, inr, List, [], ◌∷◌, ◌++◌, sym, ◌∙◌, subst, get_or, length, take, drop, append_assoc}
+use Rattle.std.proofs.Common.{◌≡◌, ℕ, suc, ◌+◌, ◌<◌, ◌≤◌, inl, inr, List, [], ◌∷◌, ◌++◌, sym, ◌∙◌, subst, get_or}
+use Rattle.std.proofs.Common.{length, take, drop, append_assoc}
 use Rattle.std.proofs.lemmas.List.{append-nil, take_all}
 use Rattle.spec_core.specs.Findings.{Search, nothing, test, then, Clean, First, each, each_after}
 use Rattle.term_core.proofs.Items.{parted_at, taken_next}
@@ -31,31 +32,48 @@ module _ {F A : Type 0} (f : A → Search F) where
   each_fault (y ∷ zs) ys x e c h = inr (c.0, each_fault zs ys x e c.1 h)
 
   module _ (xs : List A) (i : ℕ) where
-    pub each_next : (x : A) → i < length xs → x ≡ get_or xs i x → Clean (each f (take i xs)) → Clean (f x) → Clean (each f (take (i + 1) xs))
-    each_next x lt is c d = subst (λ ys. Clean (each f ys)) (sym (taken_next xs i x lt is)) (each_more (take i xs) x c d)
+    pub each_next : (x : A) → i < length xs → x ≡ get_or xs i x → Clean (each f (take i xs)) → Clean (f x) →
+        Clean (each f (take (i + 1) xs))
+    each_next x lt is c d = subst (λ ys. Clean (each f ys)) (sym (taken_next xs i x lt is))
+        (each_more (take i xs) x c d)
 
-    pub each_stops : (x : A) (e : F) → i < length xs → x ≡ get_or xs i x → Clean (each f (take i xs)) → First (f x) e → First (each f xs) e
-    each_stops x e lt is c h = subst (λ ys. First (each f ys) e) (parted_at xs i x lt is) (each_fault (take i xs) (drop (suc i) xs) x e c h)
+    pub each_stops : (x : A) (e : F) → i < length xs → x ≡ get_or xs i x → Clean (each f (take i xs)) →
+        First (f x) e → First (each f xs) e
+    each_stops x e lt is c h = subst (λ ys. First (each f ys) e) (parted_at xs i x lt is)
+        (each_fault (take i xs) (drop (suc i) xs) x e c h)
 
     pub each_end : length xs ≤ i → Clean (each f (take i xs)) → Clean (each f xs)
     each_end end c = subst (λ ys. Clean (each f ys)) (take_all i xs end) c
 
 -- and a search of each with those before it
 module _ {F A : Type 0} (f : List A → A → Search F) where
-  after_more : (before xs : List A) (x : A) → Clean (each_after f before xs) → Clean (f (before ++ xs) x) → Clean (each_after f before (xs ++ x ∷ []))
+  after_more : (before xs : List A) (x : A) → Clean (each_after f before xs) → Clean (f (before ++ xs) x) →
+      Clean (each_after f before (xs ++ x ∷ []))
   after_more before [] x c d = (subst (λ bs. Clean (f bs x)) (append-nil before) d, tt)
-  after_more before (y ∷ ys) x c d = (c.0, after_more (before ++ y ∷ []) ys x c.1 (subst (λ bs. Clean (f bs x)) (sym (append_assoc before (y ∷ []) ys)) d))
+  after_more before (y ∷ ys) x c d = (
+    c.0,
+    after_more (before ++ y ∷ []) ys x c.1 (subst (λ bs. Clean (f bs x)) (sym (append_assoc before (y ∷ []) ys)) d),
+  )
 
-  after_fault : (before xs ys : List A) (x : A) (e : F) → Clean (each_after f before xs) → First (f (before ++ xs) x) e → First (each_after f before (xs ++ x ∷ ys)) e
+  after_fault : (before xs ys : List A) (x : A) (e : F) → Clean (each_after f before xs) →
+      First (f (before ++ xs) x) e → First (each_after f before (xs ++ x ∷ ys)) e
   after_fault before [] ys x e c h = inl (subst (λ bs. First (f bs x) e) (append-nil before) h)
-  after_fault before (y ∷ zs) ys x e c h = inr (c.0, after_fault (before ++ y ∷ []) zs ys x e c.1 (subst (λ bs. First (f bs x) e) (sym (append_assoc before (y ∷ []) zs)) h))
+  after_fault before (y ∷ zs) ys x e c h = inr (
+    c.0,
+    after_fault (before ++ y ∷ []) zs ys x e c.1
+        (subst (λ bs. First (f bs x) e) (sym (append_assoc before (y ∷ []) zs)) h),
+  )
 
   module _ (xs : List A) (i : ℕ) where
-    pub after_next : (x : A) → i < length xs → x ≡ get_or xs i x → Clean (each_after f [] (take i xs)) → Clean (f (take i xs) x) → Clean (each_after f [] (take (i + 1) xs))
-    after_next x lt is c d = subst (λ ys. Clean (each_after f [] ys)) (sym (taken_next xs i x lt is)) (after_more [] (take i xs) x c d)
+    pub after_next : (x : A) → i < length xs → x ≡ get_or xs i x → Clean (each_after f [] (take i xs)) →
+        Clean (f (take i xs) x) → Clean (each_after f [] (take (i + 1) xs))
+    after_next x lt is c d = subst (λ ys. Clean (each_after f [] ys)) (sym (taken_next xs i x lt is))
+        (after_more [] (take i xs) x c d)
 
-    pub after_stops : (x : A) (e : F) → i < length xs → x ≡ get_or xs i x → Clean (each_after f [] (take i xs)) → First (f (take i xs) x) e → First (each_after f [] xs) e
-    after_stops x e lt is c h = subst (λ ys. First (each_after f [] ys) e) (parted_at xs i x lt is) (after_fault [] (take i xs) (drop (suc i) xs) x e c h)
+    pub after_stops : (x : A) (e : F) → i < length xs → x ≡ get_or xs i x →
+        Clean (each_after f [] (take i xs)) → First (f (take i xs) x) e → First (each_after f [] xs) e
+    after_stops x e lt is c h = subst (λ ys. First (each_after f [] ys) e) (parted_at xs i x lt is)
+        (after_fault [] (take i xs) (drop (suc i) xs) x e c h)
 
     pub after_end : length xs ≤ i → Clean (each_after f [] (take i xs)) → Clean (each_after f [] xs)
     after_end end c = subst (λ ys. Clean (each_after f [] ys)) (take_all i xs end) c

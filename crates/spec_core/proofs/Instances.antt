@@ -10,7 +10,9 @@ use Rattle.term_core.specs.Variables.{Occurs, OccursAny}
 module _ (sig : Sig) where
   mutual
     -- an instance of a sorted term that is sorted gives each variable a term of its sort
-    pub sorted_entry : (ctx : List SortId) (t : Tree) (s : SortId) (xs : List Tree) → Sorted sig ctx t s → Sorted sig [] (instance xs t) s → (n : ℕ) → Occurs n t → (u : SortId) → slice_get ctx n ≡ Some u → Sorted sig [] (instance xs (var n)) u
+    pub sorted_entry : (ctx : List SortId) (t : Tree) (s : SortId) (xs : List Tree) → Sorted sig ctx t s →
+        Sorted sig [] (instance xs t) s → (n : ℕ) → Occurs n t → (u : SortId) → slice_get ctx n ≡ Some u →
+        Sorted sig [] (instance xs (var n)) u
     sorted_entry ctx (var m) s xs p q n o u at =
         let e : n ≡ m = o in
         let a : slice_get ctx m ≡ Some u = rw (← e) at in
@@ -21,19 +23,29 @@ module _ (sig : Sig) where
         let k : p.0 ≡ q.0 = cc in
         sorted_entries ctx ts p.0.args xs p.3 (rw k q.3) n o u at
 
-    pub sorted_entries : (ctx : List SortId) (ts : Trees) (ss : List SortId) (xs : List Tree) → SortedAll sig ctx ts ss → SortedAll sig [] (instances xs ts) ss → (n : ℕ) → OccursAny n ts → (u : SortId) → slice_get ctx n ≡ Some u → Sorted sig [] (instance xs (var n)) u
+    pub sorted_entries : (ctx : List SortId) (ts : Trees) (ss : List SortId) (xs : List Tree) →
+        SortedAll sig ctx ts ss → SortedAll sig [] (instances xs ts) ss → (n : ℕ) → OccursAny n ts →
+        (u : SortId) → slice_get ctx n ≡ Some u → Sorted sig [] (instance xs (var n)) u
     sorted_entries ctx none ss xs p q n o u at = absurd o
     sorted_entries ctx (some t ts) [] xs p q n o u at = absurd p
     sorted_entries ctx (some t ts) (s ∷ ss) xs p q n (inl o) u at = sorted_entry ctx t s xs p.0 q.0 n o u at
     sorted_entries ctx (some t ts) (s ∷ ss) xs p q n (inr o) u at = sorted_entries ctx ts ss xs p.1 q.1 n o u at
 
   mutual
-    pub sorted_instance : (ctx : List SortId) (t : Tree) (s : SortId) (xs : List Tree) → Sorted sig ctx t s → ((n : ℕ) (u : SortId) → slice_get ctx n ≡ Some u → Sorted sig [] (instance xs (var n)) u) → Sorted sig [] (instance xs t) s
+    pub sorted_instance : (ctx : List SortId) (t : Tree) (s : SortId) (xs : List Tree) → Sorted sig ctx t s →
+        ((n : ℕ) (u : SortId) → slice_get ctx n ≡ Some u → Sorted sig [] (instance xs (var n)) u) →
+        Sorted sig [] (instance xs t) s
     sorted_instance ctx (var m) s xs p h = h m s p
     sorted_instance ctx (app f ts) s xs p h = (p.0, p.1, p.2, sorted_instances ctx ts p.0.args xs p.3 h)
 
-    pub sorted_instances : (ctx : List SortId) (ts : Trees) (ss : List SortId) (xs : List Tree) → SortedAll sig ctx ts ss → ((n : ℕ) (u : SortId) → slice_get ctx n ≡ Some u → Sorted sig [] (instance xs (var n)) u) → SortedAll sig [] (instances xs ts) ss
+    pub sorted_instances : (ctx : List SortId) (ts : Trees) (ss : List SortId) (xs : List Tree) →
+        SortedAll sig ctx ts ss →
+        ((n : ℕ) (u : SortId) → slice_get ctx n ≡ Some u → Sorted sig [] (instance xs (var n)) u) →
+        SortedAll sig [] (instances xs ts) ss
     sorted_instances ctx none [] xs p h = tt
     sorted_instances ctx none (s ∷ ss) xs p h = absurd p
     sorted_instances ctx (some t ts) [] xs p h = absurd p
-    sorted_instances ctx (some t ts) (s ∷ ss) xs p h = (sorted_instance ctx t s xs p.0 h, sorted_instances ctx ts ss xs p.1 h)
+    sorted_instances ctx (some t ts) (s ∷ ss) xs p h = (
+      sorted_instance ctx t s xs p.0 h,
+      sorted_instances ctx ts ss xs p.1 h,
+    )

@@ -13,7 +13,8 @@ use Rattle.spec_core.specs.WellSorted.{RuleIsSorted, IsWellSorted, IsLeft, sorts
 use Rattle.spec_core.proofs.Instances.{sorted_entry, sorted_instance}
 
 -- an application and its instance have one sort
-pub one_sort : (sig : Sig) (ctx : List SortId) (t : Tree) (s u : SortId) (xs : List Tree) → IsLeft sig t → Sorted sig ctx t s → Sorted sig [] (instance xs t) u → s ≡ u
+pub one_sort : (sig : Sig) (ctx : List SortId) (t : Tree) (s u : SortId) (xs : List Tree) → IsLeft sig t →
+    Sorted sig ctx t s → Sorted sig [] (instance xs t) u → s ≡ u
 one_sort sig ctx (var n) s u xs l p q = absurd l
 one_sort sig ctx (app f ts) s u xs l p q =
     let e : Some p.0 ≡ Some q.0 = sym p.1 ∙ q.1 in
@@ -21,13 +22,16 @@ one_sort sig ctx (app f ts) s u xs l p q =
     sym p.2 ∙ ap (λ (i : SymInfo). i.result) k ∙ q.2
 
 -- the right side under a match of the left side
-pub right_sorted : (sig : Sig) (rule : Rule) (u : SortId) (xs : List Tree) → RuleIsSorted sig rule → Sorted sig [] (instance xs rule.left) u → Sorted sig [] (instance xs rule.right) u
+pub right_sorted : (sig : Sig) (rule : Rule) (u : SortId) (xs : List Tree) → RuleIsSorted sig rule →
+    Sorted sig [] (instance xs rule.left) u → Sorted sig [] (instance xs rule.right) u
 right_sorted sig rule u xs fine q =
     let ctx = sorts_of rule.vars in
     let s = fine.sides.0 in
     let e : s ≡ u = one_sort sig ctx rule.left s u xs fine.left fine.sides.1 q in
     let left : Sorted sig [] (instance xs rule.left) s = rw e q in
-    let right : Sorted sig [] (instance xs rule.right) s = sorted_instance sig ctx rule.right s xs fine.sides.2 (λ n w at. sorted_entry sig ctx rule.left s xs fine.sides.1 left n (fine.bound n (slice_get_within ctx n w at)) w at) in
+    let right : Sorted sig [] (instance xs rule.right) s = sorted_instance sig ctx rule.right s xs fine.sides.2
+    (λ n w at. sorted_entry sig ctx rule.left s xs fine.sides.1 left n
+    (fine.bound n (slice_get_within ctx n w at)) w at) in
     rw (← e) right
 
 module _ (spec : Spec) (fine : IsWellSorted spec) where
@@ -42,7 +46,8 @@ module _ (spec : Spec) (fine : IsWellSorted spec) where
         let left : Sorted spec.sig [] (instance values rule.left) s = rw is q in
         keeps right s (right_sorted spec.sig rule s values (fine.rules number rule at) left)
 
-    pub keeps_all : {ts vs : Trees} {n : ℕ} → GivesAll spec ts vs n → (ss : List SortId) → SortedAll spec.sig [] ts ss → SortedAll spec.sig [] vs ss × AreBuilt spec.sig vs
+    pub keeps_all : {ts vs : Trees} {n : ℕ} → GivesAll spec ts vs n → (ss : List SortId) →
+        SortedAll spec.sig [] ts ss → SortedAll spec.sig [] vs ss × AreBuilt spec.sig vs
     keeps_all no_terms ss p = (p, tt)
     keeps_all (more_terms one more m) [] p = absurd p
     keeps_all (more_terms one more m) (s ∷ ss) p =

@@ -12,13 +12,16 @@ use Rattle.spec_core.specs.Groups.{GroupsAreWhole}
 use Rattle.spec_core.specs.Verdict.{SideGives, SidesSpent, SidesSame, SidesDiffer, ConclusionsSay, PremisesSay}
 use Rattle.spec_core.proofs.Determined.{determined}
 
-module _ (spec : Spec) (fine : IsWellSorted spec) (apart : NoOverlap spec) (whole : GroupsAreWhole spec) (values : List Tree) (budget : ℕ) where
+module _ (spec : Spec) (fine : IsWellSorted spec) (apart : NoOverlap spec) (whole : GroupsAreWhole spec)
+    (values : List Tree) (budget : ℕ) where
   -- both sides have one sort under the values
   abbrev pub AreReady : List Equation → Type 0
   AreReady [] = Unit {0}
-  AreReady (e ∷ es) = ((s : SortId) × Sorted spec.sig [] (instance values e.left) s × Sorted spec.sig [] (instance values e.right) s) × AreReady es
+  AreReady (e ∷ es) = ((s : SortId) × Sorted spec.sig [] (instance values e.left) s
+      × Sorted spec.sig [] (instance values e.right) s) × AreReady es
 
-  module _ (e : Equation) (r : (s : SortId) × Sorted spec.sig [] (instance values e.left) s × Sorted spec.sig [] (instance values e.right) s) where
+  module _ (e : Equation) (r : (s : SortId) × Sorted spec.sig [] (instance values e.left) s
+      × Sorted spec.sig [] (instance values e.right) s) where
     lefts : (v w : Tree) → SideGives spec values budget e.left v → SideGives spec values budget e.left w → v ≡ w
     lefts v w a b = (determined spec fine apart whole a.1 r.0 r.1 b.1).0
 
@@ -36,7 +39,8 @@ module _ (spec : Spec) (fine : IsWellSorted spec) (apart : NoOverlap spec) (whol
     same_differ : SidesSame spec values budget e → SidesDiffer spec values budget e → ⊥
     same_differ a b = b.2 (sym (lefts a.0 b.0 a.1 b.3) ∙ rights a.0 b.1 a.2 b.4)
 
-  conclusions_one : (es : List Equation) → AreReady es → (p q : Verdict) → ConclusionsSay spec values budget es p → ConclusionsSay spec values budget es q → p ≡ q
+  conclusions_one : (es : List Equation) → AreReady es → (p q : Verdict) →
+      ConclusionsSay spec values budget es p → ConclusionsSay spec values budget es q → p ≡ q
   conclusions_one [] r p q a b = a ∙ sym b
   conclusions_one (e ∷ es) r p q (inl a) (inl b) = a.1 ∙ sym b.1
   conclusions_one (e ∷ es) r p q (inl a) (inr (inl b)) = absurd (spent_same e r.0 a.0 b.0)
@@ -48,7 +52,8 @@ module _ (spec : Spec) (fine : IsWellSorted spec) (apart : NoOverlap spec) (whol
   conclusions_one (e ∷ es) r p q (inr (inr a)) (inr (inl b)) = absurd (same_differ e r.0 b.0 a.0)
   conclusions_one (e ∷ es) r p q (inr (inr a)) (inr (inr b)) = conclusions_one es r.1 p q a.1 b.1
 
-  pub one_verdict : (es cs : List Equation) → AreReady es → AreReady cs → (p q : Verdict) → PremisesSay spec values budget es cs p → PremisesSay spec values budget es cs q → p ≡ q
+  pub one_verdict : (es cs : List Equation) → AreReady es → AreReady cs → (p q : Verdict) →
+      PremisesSay spec values budget es cs p → PremisesSay spec values budget es cs q → p ≡ q
   one_verdict [] cs r t p q a b = conclusions_one cs t p q a b
   one_verdict (e ∷ es) cs r t p q (inl a) (inl b) = a.1 ∙ sym b.1
   one_verdict (e ∷ es) cs r t p q (inl a) (inr (inl b)) = absurd (spent_differ e r.0 a.0 b.0)

@@ -8,7 +8,8 @@ use Rattle.spec_core.specs.Declarations.{IsBelow, IsDeclared, declared_by, bool_
 use Rattle.term_core.proofs.Items.{all_append}
 
 -- what holds of each declaration holds of what a symbol is declared with
-at : (n : ℕ) (es : List (List ℕ × SymInfo)) (f : ℕ) (i : SymInfo) → AllByRecursion (IsBelow n) es → option_map (λ (e : List ℕ × SymInfo). e.1) (slice_get es f) ≡ Some i → IsBelow n ([], i)
+at : (n : ℕ) (es : List (List ℕ × SymInfo)) (f : ℕ) (i : SymInfo) → AllByRecursion (IsBelow n) es →
+    option_map (λ (e : List ℕ × SymInfo). e.1) (slice_get es f) ≡ Some i → IsBelow n ([], i)
 at n [] f i a e = absurd (let q : None ≡ Some i = e in cc)
 at n (x ∷ xs) zero i a e =
     let q : Some x.1 ≡ Some i = e in
@@ -17,7 +18,9 @@ at n (x ∷ xs) zero i a e =
 at n (x ∷ xs) (suc f) i a e = at n xs f i a.1 e
 
 -- if the sorts of the declarations are in range, so are those of the signature that they make
-pub declared_in_range : (sorts : List (List ℕ)) (cs fs : List (List ℕ × SymInfo)) → AllByRecursion (IsBelow (1 + length sorts)) cs → AllByRecursion (IsBelow (1 + length sorts)) fs → SortsAreInRange (declared_by sorts cs fs)
+pub declared_in_range : (sorts : List (List ℕ)) (cs fs : List (List ℕ × SymInfo)) →
+    AllByRecursion (IsBelow (1 + length sorts)) cs → AllByRecursion (IsBelow (1 + length sorts)) fs →
+    SortsAreInRange (declared_by sorts cs fs)
 declared_in_range sorts cs fs c d f i e =
     let n = 1 + length sorts in
     let m : n ≡ suc (length sorts) = omega arith in
@@ -27,4 +30,5 @@ declared_in_range sorts cs fs c d f i e =
 
 -- so are those of each declared signature
 pub sorts_in_range : (sig : Sig) → IsDeclared sig → SortsAreInRange sig
-sorts_in_range sig d = subst SortsAreInRange (sym d.is) (declared_in_range d.sorts d.constructors d.functions d.constructors_in_range d.functions_in_range)
+sorts_in_range sig d = subst SortsAreInRange (sym d.is)
+    (declared_in_range d.sorts d.constructors d.functions d.constructors_in_range d.functions_in_range)

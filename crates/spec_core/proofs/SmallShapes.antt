@@ -1,5 +1,6 @@
 -- Small values of naturals and of a few sorts.
-use Rattle.std.proofs.Common.{◌≡◌, ℕ, zero, suc, ◌+◌, ◌<◌, ◌≤◌, List, [], ◌∷◌, Some, refl, ap, sym, ◌∙◌, subst, arith, length}
+use Rattle.std.proofs.Common.{◌≡◌, ℕ, zero, suc, ◌+◌, ◌<◌, ◌≤◌, List, [], ◌∷◌, Some, refl, ap, sym, ◌∙◌, subst, arith}
+use Rattle.std.proofs.Common.{length}
 use Rattle.std.specs.Prelude.{replicate}
 use Rattle.term_core.specs.Tree.{Tree, Trees, var, app, none, some, tree_size, sizes}
 use Rattle.term_core.specs.declared.ids.SortId.{SortId}
@@ -19,7 +20,8 @@ module _ (sig : Sig) where
   sizes_long (some t ts) [] p = absurd p
   sizes_long (some t ts) (s ∷ ss) p = omega (arith, size_positive t, sizes_long ts ss p.1)
 
-  module _ (f : ℕ) (j : SymInfo) (at : info_of sig f ≡ Some j) (ts : Trees) (s : SortId) (sorted : Sorted sig [] (app f ts) s) where
+  module _ (f : ℕ) (j : SymInfo) (at : info_of sig f ≡ Some j) (ts : Trees) (s : SortId)
+      (sorted : Sorted sig [] (app f ts) s) where
     is : j ≡ sorted.0
     is = let e : Some j ≡ Some sorted.0 = sym at ∙ sorted.1 in cc
 
@@ -32,27 +34,38 @@ module _ (sig : Sig) where
     size_above = omega (arith, ap (λ (i : SymInfo). length i.args) is, sizes_long ts sorted.0.args sorted.3)
 
   -- the first constant that makes a value of the sort is its small value
-  first_constant : (f : ℕ) (j : SymInfo) → IsConstructor sig f → info_of sig f ≡ Some j → j.args ≡ [] → ((d : ℕ) → d < f → Makes sig d j.result 1 → ⊥) → IsSmall sig j.result (app f none)
+  first_constant : (f : ℕ) (j : SymInfo) → IsConstructor sig f → info_of sig f ≡ Some j → j.args ≡ [] →
+      ((d : ℕ) → d < f → Makes sig d j.result 1 → ⊥) → IsSmall sig j.result (app f none)
   first_constant f j c at a before =
-      let v : IsValue sig j.result (app f none) = ((j, at, refl, subst (λ ss. SortedAll sig [] none ss) (sym a) tt), (c, tt)) in
-      ((1, ((app f none, v, refl), λ t _. size_positive t), (none, v, refl), before), (j, at, subst (λ ss. AreSmall sig ss none) (sym a) tt))
+      let v : IsValue sig j.result
+      (app f none) = ((j, at, refl, subst (λ ss. SortedAll sig [] none ss) (sym a) tt), (c, tt)) in (
+        (1, ((app f none, v, refl), λ t _. size_positive t), (none, v, refl), before),
+        (j, at, subst (λ ss. AreSmall sig ss none) (sym a) tt),
+      )
 
   -- the constructors of Bool make no value of another sort
-  no_boolean : info_of sig 0 ≡ Some bool_symbol → info_of sig 1 ≡ Some bool_symbol → (d : ℕ) → d < 2 → (ts : Trees) → Sorted sig [] (app d ts) shape → ⊥
+  no_boolean : info_of sig 0 ≡ Some bool_symbol → info_of sig 1 ≡ Some bool_symbol → (d : ℕ) → d < 2 →
+      (ts : Trees) → Sorted sig [] (app d ts) shape → ⊥
   no_boolean a b zero h ts p = let k : ◌≡◌ {A = ℕ} 0 1 = result_is 0 bool_symbol a ts shape p in omega arith
   no_boolean a b (suc zero) h ts p = let k : ◌≡◌ {A = ℕ} 0 1 = result_is 1 bool_symbol b ts shape p in omega arith
   no_boolean a b (suc (suc d)) h ts p = omega arith
 
 pub small_nat : IsSmall naturals_sig nat zero_term
-small_nat = first_constant naturals_sig 2 (declares []) (omega arith) refl refl (λ d h m. no_boolean naturals_sig refl refl d h m.0 m.1.0)
+small_nat = first_constant naturals_sig 2 (declares []) (omega arith) refl refl
+    (λ d h m. no_boolean naturals_sig refl refl d h m.0 m.1.0)
 
 pub small_color : IsSmall color_sig shape (app 2 none)
-small_color = first_constant color_sig 2 (shape_symbol []) (omega arith) refl refl (λ d h m. no_boolean color_sig refl refl d h m.0 m.1.0)
+small_color = first_constant color_sig 2 (shape_symbol []) (omega arith) refl refl
+    (λ d h m. no_boolean color_sig refl refl d h m.0 m.1.0)
 
 before_leaf : (d : ℕ) → d < 3 → Makes tree_sig d shape 1 → ⊥
 before_leaf zero h m = no_boolean tree_sig refl refl 0 (omega arith) m.0 m.1.0
 before_leaf (suc zero) h m = no_boolean tree_sig refl refl 1 (omega arith) m.0 m.1.0
-before_leaf (suc (suc zero)) h m = omega (arith, m.2, size_above tree_sig 2 (shape_symbol (shape ∷ shape ∷ [])) refl m.0 shape m.1.0)
+before_leaf (suc (suc zero)) h m = omega (
+  arith,
+  m.2,
+  size_above tree_sig 2 (shape_symbol (shape ∷ shape ∷ [])) refl m.0 shape m.1.0,
+)
 before_leaf (suc (suc (suc d))) h m = omega arith
 
 pub small_tree : IsSmall tree_sig shape (app 3 none)

@@ -1,5 +1,6 @@
 -- The small value of a sort, by least sizes.
-use Rattle.std.proofs.Common.{◌≡◌, ℕ, ◌+◌, ◌<◌, ◌≤◌, List, [], ◌∷◌, ◌++◌, Some, refl, ap, sym, ◌∙◌, subst, arith, min, ◌⊎◌, inl, inr}
+use Rattle.std.proofs.Common.{◌≡◌, ℕ, ◌+◌, ◌<◌, ◌≤◌, List, [], ◌∷◌, ◌++◌, Some, refl, ap, sym, ◌∙◌, subst, arith, min}
+use Rattle.std.proofs.Common.{◌⊎◌, inl, inr}
 use Rattle.std.specs.Prelude.{slice_index}
 use Rattle.std.specs.List.{AllByRecursion}
 use Rattle.std.proofs.lemmas.Bool.{cases_lt}
@@ -13,7 +14,8 @@ use Rattle.spec_core.specs.Sizes.{sum_of, AreLeast}
 use Rattle.spec_core.proofs.LeastSizes.{small_bound, reach_made}
 
 -- one more small value
-pub smalls_more : (sig : Sig) (ss : List SortId) (ts : List Tree) (s : SortId) (t : Tree) → AreSmall sig ss (trees_of ts) → IsSmall sig s t → AreSmall sig (ss ++ s ∷ []) (trees_of (ts ++ t ∷ []))
+pub smalls_more : (sig : Sig) (ss : List SortId) (ts : List Tree) (s : SortId) (t : Tree) →
+    AreSmall sig ss (trees_of ts) → IsSmall sig s t → AreSmall sig (ss ++ s ∷ []) (trees_of (ts ++ t ∷ []))
 smalls_more sig [] [] s t a b = (b, tt)
 smalls_more sig [] (u ∷ us) s t a b = absurd a
 smalls_more sig (r ∷ rs) [] s t a b = absurd a
@@ -21,7 +23,8 @@ smalls_more sig (r ∷ rs) (u ∷ us) s t a b = (a.0, smalls_more sig rs us s t 
 
 module _ (sig : Sig) (least : List ℕ) where
   -- an application of the fewest symbols has arguments of the fewest symbols
-  pub least_args : AreLeast sig least → (ts : Trees) (ss : List SortId) → AllByRecursion (IsSort sig) ss → SortedAll sig [] ts ss → AreBuilt sig ts → sizes ts ≤ 255 → sum_of least ss ≤ sizes ts
+  pub least_args : AreLeast sig least → (ts : Trees) (ss : List SortId) → AllByRecursion (IsSort sig) ss →
+      SortedAll sig [] ts ss → AreBuilt sig ts → sizes ts ≤ 255 → sum_of least ss ≤ sizes ts
   least_args a none [] q p b l = omega arith
   least_args a none (s ∷ ss) q p b l = absurd p
   least_args a (some t ts) [] q p b l = absurd p
@@ -32,7 +35,9 @@ module _ (sig : Sig) (least : List ℕ) where
       omega (arith, (a.is_least s.0 q.0 m).1 t v, least_args a ts ss q.1 p.1 b.1 (omega arith))
 
   -- a constructor that makes a value of the fewest symbols is of its sort, and its arguments have the fewest symbols
-  pub made_is : AreLeast sig least → SortsAreInRange sig → (c : ℕ) (i : SymInfo) (s : SortId) → info_of sig c ≡ Some i → IsSort sig s → slice_index least s.0 ≤ 255 → Makes sig c s (slice_index least s.0) → (i.result ≡ s) × (1 + sum_of least i.args ≡ slice_index least s.0)
+  pub made_is : AreLeast sig least → SortsAreInRange sig → (c : ℕ) (i : SymInfo) (s : SortId) →
+      info_of sig c ≡ Some i → IsSort sig s → slice_index least s.0 ≤ 255 →
+      Makes sig c s (slice_index least s.0) → (i.result ≡ s) × (1 + sum_of least i.args ≡ slice_index least s.0)
   made_is a w c i s e l q m =
       let p = m.1.0 in
       let k : Some p.0 ≡ Some i = sym p.1 ∙ e in
@@ -49,29 +54,43 @@ module _ (sig : Sig) (least : List ℕ) where
       (result, omega (arith, m.2, made.2, over, under))
 
   -- and if none before it makes one, it is the first
-  pub first_maker : AreLeast sig least → SortsAreInRange sig → (c : ℕ) (i : SymInfo) (s : SortId) → IsConstructor sig c → info_of sig c ≡ Some i → IsSort sig s → slice_index least s.0 ≤ 255 → i.result ≡ s → 1 + sum_of least i.args ≡ slice_index least s.0 → ((d : ℕ) → d < c → Makes sig d s (slice_index least s.0) → ⊥) → IsFirstMaker sig c s
+  pub first_maker : AreLeast sig least → SortsAreInRange sig → (c : ℕ) (i : SymInfo) (s : SortId) →
+      IsConstructor sig c → info_of sig c ≡ Some i → IsSort sig s → slice_index least s.0 ≤ 255 → i.result ≡ s →
+      1 + sum_of least i.args ≡ slice_index least s.0 →
+      ((d : ℕ) → d < c → Makes sig d s (slice_index least s.0) → ⊥) → IsFirstMaker sig c s
   first_maker a w c i s b e l q result n before =
       let made = reach_made sig least (λ t h b. (a.is_least t h b).0) c i b e (w c i e).1 (omega arith) in
-      let m : Makes sig c s (slice_index least s.0) = subst (λ u. Makes sig c u (slice_index least s.0)) result (subst (λ k. Makes sig c i.result k) n made) in
+      let m : Makes sig c s (slice_index least s.0) = subst (λ u. Makes sig c u (slice_index least s.0)) result
+      (subst (λ k. Makes sig c i.result k) n made) in
       (slice_index least s.0, a.is_least s.0 l q, m, before)
 
 pub same_sort : (a b : SortId) → a.0 ≡ b.0 → a ≡ b
 same_sort a b p = λ i. record { 0 = p i }
 
 -- the small value that the code makes
-pub small_made : (sig : Sig) (least : List ℕ) → AreLeast sig least → SortsAreInRange sig → (c : ℕ) (i : SymInfo) (s : SortId) (xs : List SortId) (n : ℕ) (ts : Trees) (t : Tree) → IsConstructor sig c → info_of sig c ≡ Some i → IsSort sig s → slice_index least s.0 ≤ 255 → i.result.0 ≡ s.0 → n ≡ min (1 + sum_of least i.args) 256 → n ≡ slice_index least s.0 → ((d : ℕ) → d < c → Makes sig d s (slice_index least s.0) → ⊥) → xs ≡ i.args → AreSmall sig xs ts → t ≡ app c ts → IsSmall sig s t
+pub small_made : (sig : Sig) (least : List ℕ) → AreLeast sig least → SortsAreInRange sig →
+    (c : ℕ) (i : SymInfo) (s : SortId) (xs : List SortId) (n : ℕ) (ts : Trees) (t : Tree) →
+    IsConstructor sig c → info_of sig c ≡ Some i → IsSort sig s → slice_index least s.0 ≤ 255 →
+    i.result.0 ≡ s.0 → n ≡ min (1 + sum_of least i.args) 256 → n ≡ slice_index least s.0 →
+    ((d : ℕ) → d < c → Makes sig d s (slice_index least s.0) → ⊥) → xs ≡ i.args → AreSmall sig xs ts →
+    t ≡ app c ts → IsSmall sig s t
 small_made sig least a w c i s xs n ts t b e l q r m k before x y z =
     let f = first_maker sig least a w c i s b e l q (same_sort i.result s r) (omega arith) before in
     subst (λ u. IsSmall sig s u) (sym z) (f, (i, e, subst (λ us. AreSmall sig us ts) x y))
 
 -- a constructor that the code passes by makes no value of so few symbols
-pub passed : (sig : Sig) (least : List ℕ) → AreLeast sig least → SortsAreInRange sig → (c d : ℕ) (i : SymInfo) (s : SortId) → info_of sig c ≡ Some i → IsSort sig s → slice_index least s.0 ≤ 255 → d ≡ c → Makes sig d s (slice_index least s.0) → (i.result.0 ≡ s.0) × (1 + sum_of least i.args ≡ slice_index least s.0)
+pub passed : (sig : Sig) (least : List ℕ) → AreLeast sig least → SortsAreInRange sig →
+    (c d : ℕ) (i : SymInfo) (s : SortId) → info_of sig c ≡ Some i → IsSort sig s → slice_index least s.0 ≤ 255 →
+    d ≡ c → Makes sig d s (slice_index least s.0) →
+    (i.result.0 ≡ s.0) × (1 + sum_of least i.args ≡ slice_index least s.0)
 passed sig least a w c d i s e l q k m =
     let r = made_is sig least a w c i s e l q (subst (λ f. Makes sig f s (slice_index least s.0)) k m) in
     (ap (λ (u : SortId). u.0) r.0, r.1)
 
 -- some constructor makes it
-pub some_maker : (sig : Sig) (least : List ℕ) (s : SortId) (n : ℕ) → ((v : Tree) × IsValue sig s v × (tree_size v ≡ slice_index least s.0)) → sig.constructors ≤ n → ((d : ℕ) → d < n → Makes sig d s (slice_index least s.0) → ⊥) → ⊥
+pub some_maker : (sig : Sig) (least : List ℕ) (s : SortId) (n : ℕ) →
+    ((v : Tree) × IsValue sig s v × (tree_size v ≡ slice_index least s.0)) → sig.constructors ≤ n →
+    ((d : ℕ) → d < n → Makes sig d s (slice_index least s.0) → ⊥) → ⊥
 some_maker sig least s n x l h = by x.0 x.1 x.2
   where
     by : (v : Tree) → IsValue sig s v → tree_size v ≡ slice_index least s.0 → ⊥
@@ -80,14 +99,18 @@ some_maker sig least s n x l h = by x.0 x.1 x.2
 
 module _ (sig : Sig) where
   -- the sorts of an application's arguments are those that its symbol is declared with
-  args_sorted : (c : ℕ) (i : SymInfo) (ts : Trees) (s : SortId) → info_of sig c ≡ Some i → Sorted sig [] (app c ts) s → (i.result ≡ s) × SortedAll sig [] ts i.args
+  args_sorted : (c : ℕ) (i : SymInfo) (ts : Trees) (s : SortId) → info_of sig c ≡ Some i →
+      Sorted sig [] (app c ts) s → (i.result ≡ s) × SortedAll sig [] ts i.args
   args_sorted c i ts s at p =
       let e : Some p.0 ≡ Some i = sym p.1 ∙ at in
       let j : p.0 ≡ i = cc in
       (ap (λ (x : SymInfo). x.result) (sym j) ∙ p.2, subst (λ (x : SymInfo). SortedAll sig [] ts x.args) j p.3)
 
   -- the fewest of each are the fewest of all
-  fewest : (t : Tree) (ts : Trees) (s : SortId) (ss : List SortId) → ((u : Tree) → IsValue sig s u → tree_size t ≤ tree_size u) → ((us : Trees) → SortedAll sig [] us ss → AreBuilt sig us → sizes ts ≤ sizes us) → (us : Trees) → SortedAll sig [] us (s ∷ ss) → AreBuilt sig us → tree_size t + sizes ts ≤ sizes us
+  fewest : (t : Tree) (ts : Trees) (s : SortId) (ss : List SortId) →
+      ((u : Tree) → IsValue sig s u → tree_size t ≤ tree_size u) →
+      ((us : Trees) → SortedAll sig [] us ss → AreBuilt sig us → sizes ts ≤ sizes us) → (us : Trees) →
+      SortedAll sig [] us (s ∷ ss) → AreBuilt sig us → tree_size t + sizes ts ≤ sizes us
   fewest t ts s ss one more none q b = absurd q
   fewest t ts s ss one more (some u us) q b = omega (arith, one u (q.0, b.0), more us q.1 b.1)
 
@@ -105,7 +128,8 @@ module _ (sig : Sig) where
         let under : sizes ts ≤ sizes made.0 = all.2 made.0 sorted.1 made.1.1.1 in
         (v, ((app c ts, v, refl), λ u q. omega (arith, p.0.1.1 u q, made.2, under)))
 
-    pub smalls_least : (ts : Trees) (ss : List SortId) → AreSmall sig ss ts → SortedAll sig [] ts ss × AreBuilt sig ts × ((us : Trees) → SortedAll sig [] us ss → AreBuilt sig us → sizes ts ≤ sizes us)
+    pub smalls_least : (ts : Trees) (ss : List SortId) → AreSmall sig ss ts → SortedAll sig [] ts ss
+        × AreBuilt sig ts × ((us : Trees) → SortedAll sig [] us ss → AreBuilt sig us → sizes ts ≤ sizes us)
     smalls_least none [] p = (tt, tt, λ us q b. omega arith)
     smalls_least none (s ∷ ss) p = absurd p
     smalls_least (some t ts) [] p = absurd p
@@ -138,7 +162,8 @@ module _ (sig : Sig) where
         let e : c ≡ d = one_maker c d s p.0 q.0 in
         let k : Some p.1.0 ≡ Some q.1.0 = sym p.1.1 ∙ ap (λ f. info_of sig f) e ∙ q.1.1 in
         let i : p.1.0 ≡ q.1.0 = cc in
-        let args : ts ≡ us = ones_small ts us p.1.0.args p.1.2 (subst (λ (x : SymInfo). AreSmall sig x.args us) (sym i) q.1.2) in
+        let args : ts ≡ us = ones_small ts us p.1.0.args p.1.2
+        (subst (λ (x : SymInfo). AreSmall sig x.args us) (sym i) q.1.2) in
         cc
 
     pub ones_small : (ts us : Trees) (ss : List SortId) → AreSmall sig ss ts → AreSmall sig ss us → ts ≡ us

@@ -1,5 +1,6 @@
 -- Naturals with addition are well sorted, and what is near to them isn't.
-use Rattle.std.proofs.Common.{rules, ◌≡◌, ℕ, zero, suc, ◌<◌, ◌≤◌, List, [], ◌∷◌, Some, None, inl, inr, refl, ap, sym, ◌∙◌, subst, arith, length}
+use Rattle.std.proofs.Common.{rules, ◌≡◌, ℕ, zero, suc, ◌<◌, ◌≤◌, List, [], ◌∷◌, Some, None, inl, inr, refl, ap, sym}
+use Rattle.std.proofs.Common.{◌∙◌, subst, arith, length}
 use Rattle.std.specs.Prelude.{slice_get, option_map, codes}
 use Rattle.std.specs.List.{AllByRecursion}
 use Rattle.term_core.specs.Tree.{Tree, Trees, var, app, none, some}
@@ -13,7 +14,9 @@ use Rattle.spec_core.specs.Declarations.{AreFresh, IsDeclared, bool_symbol}
 use Rattle.term_core.specs.Variables.{Occurs}
 use Rattle.spec_core.specs.WellSorted.{RuleIsSorted, GoalIsSorted, GoalNamesAreDistinct, IsWellSorted, HasFewArguments}
 use Rattle.spec_core.proofs.ByNumber.{is_order_by_number}
-use Rattle.spec_core.specs.Naturals.{nat, declares, nat_sorts, nat_constructors, nat_function, naturals_sig, repeated_sig, endless_sig, naturals, twice, plus_zero_rule, plus_succ_rule, loose_rule, same_goal, unit_goal, mixed_goal, zero_term, plus_term}
+use Rattle.spec_core.specs.Naturals.{nat, declares, nat_sorts, nat_constructors, nat_function, naturals_sig}
+use Rattle.spec_core.specs.Naturals.{repeated_sig, endless_sig, naturals, twice, plus_zero_rule, plus_succ_rule}
+use Rattle.spec_core.specs.Naturals.{loose_rule, same_goal, unit_goal, mixed_goal, zero_term, plus_term}
 use Rattle.term_core.proofs.Items.{all_at}
 
 -- The signature.
@@ -38,7 +41,8 @@ declared = record {
 
 pub not_declared : IsDeclared repeated_sig → ⊥
 not_declared d =
-    let fresh : AreFresh [] repeated_sig.table = subst (λ es. AreFresh [] es) (sym (ap (λ (s : Sig). s.table) d.is)) d.distinct.1 in
+    let fresh : AreFresh [] repeated_sig.table = subst (λ es. AreFresh [] es)
+    (sym (ap (λ (s : Sig). s.table) d.is)) d.distinct.1 in
     fresh.1.1.1.1.0.1.1.0 refl
 
 pub nat_has_a_small_value : HasSmallValue naturals_sig nat
@@ -53,7 +57,8 @@ result_is i j s at r =
 pub bool_is_not_nat : (i : SymInfo) → Some bool_symbol ≡ Some i → i.result ≡ nat → ⊥
 bool_is_not_nat i at r = let k : ◌≡◌ {A = ℕ} 0 1 = result_is i bool_symbol nat at r in omega arith
 
-succ_args : (i : SymInfo) (ts : Trees) → Some (declares (nat ∷ [])) ≡ Some i → SortedAll endless_sig [] ts i.args → SortedAll endless_sig [] ts (nat ∷ [])
+succ_args : (i : SymInfo) (ts : Trees) → Some (declares (nat ∷ [])) ≡ Some i →
+    SortedAll endless_sig [] ts i.args → SortedAll endless_sig [] ts (nat ∷ [])
 succ_args i ts at s =
     let e : declares (nat ∷ []) ≡ i = cc in
     subst (λ (x : SymInfo). SortedAll endless_sig [] ts x.args) (sym e) s
@@ -78,7 +83,9 @@ no_small_value = record {
   before = before_nat;
 }
 
-pub all_infos : (P : SymInfo → Type 0) (es : List (List ℕ × SymInfo)) → AllByRecursion (λ (e : List ℕ × SymInfo). P e.1) es → (f : ℕ) (i : SymInfo) → option_map (λ (e : List ℕ × SymInfo). e.1) (slice_get es f) ≡ Some i → P i
+pub all_infos : (P : SymInfo → Type 0) (es : List (List ℕ × SymInfo)) →
+    AllByRecursion (λ (e : List ℕ × SymInfo). P e.1) es → (f : ℕ) (i : SymInfo) →
+    option_map (λ (e : List ℕ × SymInfo). e.1) (slice_get es f) ≡ Some i → P i
 all_infos P [] h f i at = absurd (let q : None ≡ Some i = at in cc)
 all_infos P (e ∷ es) h zero i at =
     let q : Some (e.1) ≡ Some i = at in
@@ -116,7 +123,11 @@ zero_rule_is_sorted = record {
 pub succ_rule_is_sorted : RuleIsSorted naturals_sig plus_succ_rule
 succ_rule_is_sorted = record {
   left = search rules;
-  sides = (nat, (_, refl, refl, ((_, refl, refl, (refl, tt)), (refl, tt))), (_, refl, refl, ((_, refl, refl, (refl, (refl, tt))), tt)));
+  sides = (
+    nat,
+    (_, refl, refl, ((_, refl, refl, (refl, tt)), (refl, tt))),
+    (_, refl, refl, ((_, refl, refl, (refl, (refl, tt))), tt)),
+  );
   guards = tt;
   numbered = search rules;
   bound = two_bound plus_succ_rule.left (inl (inl refl)) (inr (inl refl));
@@ -142,7 +153,8 @@ OneSort ctx e = (s : SortId) × Sorted naturals_sig ctx e.left s × Sorted natur
 pub same_goal_is_sorted : GoalIsSorted naturals_sig same_goal
 same_goal_is_sorted = record {
   premises = all_at (OneSort (nat ∷ nat ∷ [])) [] tt;
-  conclusions = all_at (OneSort (nat ∷ nat ∷ [])) same_goal.conclusions ((nat, (_, refl, refl, (refl, (refl, tt))), (_, refl, refl, (refl, (refl, tt)))), tt);
+  conclusions = all_at (OneSort (nat ∷ nat ∷ [])) same_goal.conclusions
+      ((nat, (_, refl, refl, (refl, (refl, tt))), (_, refl, refl, (refl, (refl, tt)))), tt);
   variables = search rules;
   few_variables = omega arith;
 }
@@ -150,7 +162,8 @@ same_goal_is_sorted = record {
 unit_goal_is_sorted : GoalIsSorted naturals_sig unit_goal
 unit_goal_is_sorted = record {
   premises = all_at (OneSort (nat ∷ [])) [] tt;
-  conclusions = all_at (OneSort (nat ∷ [])) unit_goal.conclusions ((nat, (_, refl, refl, (refl, ((_, refl, refl, tt), tt))), refl), tt);
+  conclusions = all_at (OneSort (nat ∷ [])) unit_goal.conclusions
+      ((nat, (_, refl, refl, (refl, ((_, refl, refl, tt), tt))), refl), tt);
   variables = search rules;
   few_variables = omega arith;
 }
@@ -169,9 +182,11 @@ same_unit = search rules
 
 names_differ : GoalNamesAreDistinct naturals.goals
 names_differ zero zero g h a b e = refl
-names_differ zero (suc zero) g h a b e = absurd (same_unit (let p : Some same_goal ≡ Some g = a in let q : Some unit_goal ≡ Some h = b in cc))
+names_differ zero (suc zero) g h a b e = absurd (same_unit (let p : Some same_goal ≡ Some g = a in
+    let q : Some unit_goal ≡ Some h = b in cc))
 names_differ zero (suc (suc k)) g h a b e = absurd (let q : None ≡ Some h = b in cc)
-names_differ (suc zero) zero g h a b e = absurd (same_unit (let p : Some unit_goal ≡ Some g = a in let q : Some same_goal ≡ Some h = b in cc))
+names_differ (suc zero) zero g h a b e = absurd (same_unit (let p : Some unit_goal ≡ Some g = a in
+    let q : Some same_goal ≡ Some h = b in cc))
 names_differ (suc zero) (suc zero) g h a b e = refl
 names_differ (suc zero) (suc (suc k)) g h a b e = absurd (let q : None ≡ Some h = b in cc)
 names_differ (suc (suc j)) k g h a b e = absurd (let q : None ≡ Some g = a in cc)

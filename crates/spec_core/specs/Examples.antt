@@ -16,7 +16,9 @@ use Rattle.spec_core.specs.Covering.{IsCovering}
 use Rattle.spec_core.specs.Verdict.{IsVerdict}
 use Rattle.spec_core.specs.Order.{is_small, values, substitutions}
 use Rattle.spec_core.specs.TermText.{term_text}
-use Rattle.spec_core.specs.Naturals.{nat, naturals_sig, repeated_sig, endless_sig, naturals, twice, overlapping, uncovered, plus_zero_rule, plus_succ_rule, loose_rule, same_goal, mixed_goal, number, zero_term, succ_term, plus_term}
+use Rattle.spec_core.specs.Naturals.{nat, naturals_sig, repeated_sig, endless_sig, naturals, twice, overlapping}
+use Rattle.spec_core.specs.Naturals.{uncovered, plus_zero_rule, plus_succ_rule, loose_rule, same_goal, mixed_goal}
+use Rattle.spec_core.specs.Naturals.{number, zero_term, succ_term, plus_term}
 use Rattle.spec_core.specs.Shapes.{shape, tree_sig, color_sig, wide_sig}
 
 pub record WorkedExamples : Type 0 where

@@ -1,10 +1,13 @@
 //! `Signature::build`: a signature from its declarations.
 
-ghost use Rattle.std.specs.Prelude.{◌≡◌, ◌+◌, ◌<◌, ◌^◌, ◌∷◌, ◌++◌, [], IfOk, OnOk, MatchOption, IsTrue, length, codes};
+ghost use Rattle.std.specs.Prelude.{◌≡◌, ◌+◌, ◌<◌, ◌^◌, ◌∷◌, ◌++◌, [], IfOk, OnOk, MatchOption};
+ghost use Rattle.std.specs.Prelude.{IsTrue, length, codes};
 ghost use Rattle.std.specs.Bool.{MatchBool};
 ghost use Rattle.std.specs.List.{AllByRecursion};
 ghost use Rattle.term_core.specs.declared.ids.SortId.{SortId};
-ghost use Rattle.spec_core.specs.Declarations.{IsNew, AreFresh, IsNewName, AreNewNames, bool_symbol, bool_symbols, all_symbols, declared_by, AreDistinct, IsBelow, IsNotBool, IsDeclared};
+ghost use Rattle.spec_core.specs.Declarations.{IsNew, AreFresh, IsNewName, AreNewNames};
+ghost use Rattle.spec_core.specs.Declarations.{bool_symbol, bool_symbols, all_symbols, declared_by};
+ghost use Rattle.spec_core.specs.Declarations.{AreDistinct, IsBelow, IsNotBool, IsDeclared};
 ghost use Rattle.spec_core.specs.Pairs.{pairs_of};
 ghost use Rattle.spec_core.specs.Small.{IsFirstWithout};
 ghost use Rattle.spec_core.specs.declared.building.BuildError.TheVariants.{OutOfMemory as out_of_memory};

@@ -3,12 +3,13 @@
 ghost use Rattle.std.specs.Prelude.{◌≡◌, ◌++◌, OnOk, OnErr, slice_get};
 ghost use Rattle.std.specs.Fmt.{decimal};
 ghost use Rattle.term_core.specs.Tree.{trees_of};
-ghost use Rattle.spec_core.specs.TermText.{term_text, others_text, variable_names, variable_text, SymbolsAreInRange, AllSymbolsAreInRange};
+ghost use Rattle.spec_core.specs.TermText.{term_text, others_text, variable_names, variable_text};
+ghost use Rattle.spec_core.specs.TermText.{SymbolsAreInRange, AllSymbolsAreInRange};
 
 use crate::records::VarInfo;
 use crate::symbols::Signature;
 use std::alloc::Global;
-use term_core::{TermNode, OutOfMemory, Term, VarId, front};
+use term_core::{OutOfMemory, Term, TermNode, VarId, front};
 
 /// Few terms have a longer text. The text of the others isn't moved while it grows.
 const USUAL_ROOM: usize = 256;

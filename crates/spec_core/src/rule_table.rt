@@ -6,7 +6,7 @@ ghost use Rattle.spec_core.specs.RuleTables.{IsTableOf, AddsPlace, HasSameLists}
 use crate::records::Spec;
 use std::alloc::Global;
 use std::marker::Model;
-use term_core::{TermNode, OutOfMemory, Seq, SymId};
+use term_core::{OutOfMemory, Seq, SymId, TermNode};
 
 /// For each symbol the places of its function's rules among all rules, from 0 and in their order.
 /// Contracts see the lists by the symbols' numbers, where those that are missing are empty.

@@ -1,6 +1,7 @@
 //! The small value of each sort, by rounds.
 
-ghost use Rattle.std.specs.Prelude.{◌≡◌, ◌≤◌, ◌<◌, ◌+◌, min, IfOk, MatchOption, MatchBool, length, slice_index, sum};
+ghost use Rattle.std.specs.Prelude.{◌≡◌, ◌≤◌, ◌<◌, ◌+◌, min, IfOk, MatchOption, MatchBool, length};
+ghost use Rattle.std.specs.Prelude.{slice_index, sum};
 ghost use Rattle.std.specs.List.{AllByRecursion};
 ghost use Rattle.term_core.specs.Tree.{trees_of};
 ghost use Rattle.spec_core.specs.Sig.{IsSort, SortsAreInRange};

@@ -6,7 +6,7 @@ ghost use Rattle.term_core.specs.declared.ids.SortId.{SortId};
 ghost use Rattle.spec_core.specs.Sorts.{Sorted, SortedAll};
 
 use crate::symbols::Signature;
-use term_core::{TermNode, SortId, Term, front};
+use term_core::{SortId, Term, TermNode, front};
 
 impl Signature {
     /// The sort of the term, where the variable n has the sort at place n of `ctx`.

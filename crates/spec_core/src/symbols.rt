@@ -1,6 +1,7 @@
 //! `Signature` and its look-ups.
 
-ghost use Rattle.std.specs.Prelude.{◌≡◌, ◌≤◌, ◌<◌, ◌↔◌, Some, IfOk, IsTrue, length, map, option_map, position, slice_get};
+ghost use Rattle.std.specs.Prelude.{◌≡◌, ◌≤◌, ◌<◌, ◌↔◌, Some, IfOk, IsTrue, length, map};
+ghost use Rattle.std.specs.Prelude.{option_map, position, slice_get};
 ghost use Rattle.std.specs.Str.{bytes_eq};
 ghost use Rattle.spec_core.specs.Sig.{IsConstructor, info_of, names_of};
 ghost use Rattle.spec_core.specs.Declarations.{IsDeclared};

@@ -1,5 +1,6 @@
 -- What a text derives keeps the limits: none of its tokens has a mark, so that each count of the grammar stays below its limit.
-use Rattle.std.proofs.Common.{◌≡◌, ℕ, ◌+◌, ◌<◌, ◌≤◌, List, [], ◌∷◌, inl, inr, Option, Some, None, Bool, true, false, cond, nat_le, length, refl, ap, sym, subst, arith}
+use Rattle.std.proofs.Common.{◌≡◌, ℕ, ◌+◌, ◌<◌, ◌≤◌, List, [], ◌∷◌, inl, inr, Option, Some, None, Bool, true, false}
+use Rattle.std.proofs.Common.{cond, nat_le, length, refl, ap, sym, subst, arith}
 use Rattle.std.specs.Prelude.{sum_by, ◌==◌}
 use Rattle.std.specs.List.{AllByRecursion}
 use Rattle.std.specs.Option.{IfSome}
@@ -25,10 +26,20 @@ use Rattle.spec_grammar.specs.declared.raw.RawGoal.{RawGoal}
 use Rattle.spec_grammar.specs.declared.raw.RawSpec.{RawSpec}
 use Rattle.spec_grammar.specs.RawTree.{RawTree, RawTrees, word, none, some}
 use Rattle.spec_grammar.specs.Items.{Item, items_of}
-use Rattle.spec_grammar.specs.Limits.{most_constructors, most_functions, most_rules, over, or_else, name_mark, constructor_mark, arity_mark, term_mark, variable_mark}
-use Rattle.spec_grammar.specs.Grammar.{Marked, sign, name_text, term_text, args_text, more_text, more_names_text, names_text, con_text, constructors_text, AreSorts, funs_text, more_equal_text, AreEquals, more_numbers_text, AreStatuses, more_weights_text, weights_text, order_text, guards_text, sides_text, rules_text, commas_text, premises_text, bars_text, conclusions_text, IsClause, bind_text, more_binds_text, binds_text, AreGoals, IsSpecText, IsTermText}
+use Rattle.spec_grammar.specs.Limits.{most_constructors, most_functions, most_rules, over, or_else, name_mark}
+use Rattle.spec_grammar.specs.Limits.{constructor_mark, arity_mark, term_mark, variable_mark}
+use Rattle.spec_grammar.specs.Grammar.{Marked, sign, name_text, term_text, args_text, more_text, more_names_text}
+use Rattle.spec_grammar.specs.Grammar.{names_text, con_text, constructors_text, AreSorts, funs_text, more_equal_text}
+use Rattle.spec_grammar.specs.Grammar.{AreEquals, more_numbers_text, AreStatuses, more_weights_text, weights_text}
+use Rattle.spec_grammar.specs.Grammar.{order_text, guards_text, sides_text, rules_text, commas_text, premises_text}
+use Rattle.spec_grammar.specs.Grammar.{bars_text, conclusions_text, IsClause, bind_text, more_binds_text, binds_text}
+use Rattle.spec_grammar.specs.Grammar.{AreGoals, IsSpecText, IsTermText}
 use Rattle.spec_grammar.specs.Derives.{clean, Derives, TextDerives}
-use Rattle.spec_grammar.specs.KeepsLimits.{raw_depth, raw_depths, raw_count, WordsKeepLimits, AllWordsKeepLimits, TermKeepsLimits, NameKeepsLimits, NamesKeepLimits, SortKeepsLimits, FunctionKeepsLimits, EqualKeepsLimits, StatusKeepsLimits, OrderKeepsLimits, RuleKeepsLimits, EquationKeepsLimits, BindKeepsLimits, GoalKeepsLimits, KeepsLimits}
+use Rattle.spec_grammar.specs.KeepsLimits.{raw_depth, raw_depths, raw_count, WordsKeepLimits, AllWordsKeepLimits}
+use Rattle.spec_grammar.specs.KeepsLimits.{TermKeepsLimits, NameKeepsLimits, NamesKeepLimits, SortKeepsLimits}
+use Rattle.spec_grammar.specs.KeepsLimits.{FunctionKeepsLimits, EqualKeepsLimits, StatusKeepsLimits, OrderKeepsLimits}
+use Rattle.spec_grammar.specs.KeepsLimits.{RuleKeepsLimits, EquationKeepsLimits, BindKeepsLimits, GoalKeepsLimits}
+use Rattle.spec_grammar.specs.KeepsLimits.{KeepsLimits}
 use Rattle.spec_grammar.proofs.Stacks.{limit_none}
 
 -- no token passes a limit
@@ -40,7 +51,8 @@ HasNoMark-clean : (items : List Item) → HasNoMark (clean items)
 HasNoMark-clean [] = tt
 HasNoMark-clean (x ∷ items) = (refl, HasNoMark-clean items)
 
-over_test : (b : Bool) (n most : ℕ) (why : LimitKind) → nat_le most n ≡ b → cond {A = Option LimitKind} b (Some why) None ≡ None → n < most
+over_test : (b : Bool) (n most : ℕ) (why : LimitKind) → nat_le most n ≡ b →
+    cond {A = Option LimitKind} b (Some why) None ≡ None → n < most
 over_test true n most why e h = absurd (limit_none h)
 over_test false n most why e h = leb-false most n e
 
@@ -51,7 +63,8 @@ or_else_none : (m k : Option LimitKind) → or_else m k ≡ None → (m ≡ None
 or_else_none (Some why) k h = absurd (limit_none h)
 or_else_none None k h = (refl, h)
 
-name_test : (b : Bool) (n : ℕ) (m : Option LimitKind) → nat_le n 64 ≡ b → cond {A = Option LimitKind} b m (Some limit.Name) ≡ None → (n ≤ 64) × (m ≡ None)
+name_test : (b : Bool) (n : ℕ) (m : Option LimitKind) → nat_le n 64 ≡ b →
+    cond {A = Option LimitKind} b m (Some limit.Name) ≡ None → (n ≤ 64) × (m ≡ None)
 name_test true n m e h = (leb-true n 64 e, h)
 name_test false n m e h = absurd (limit_none h)
 
@@ -73,29 +86,37 @@ pub few_rules : (version : ℕ) → most_rules version ≤ 4000
 few_rules version = one_of (version == 2) 4000 1000 4000 (omega arith) (omega arith)
 
 -- a constructor that passes no limit
-pub constructor_none : (version k t : ℕ) → constructor_mark version k t ≡ None → (k < 64) × (t < most_constructors version)
-constructor_none version k t h = let both = or_else_none (over k 64 limit.Constructors) (over t (most_constructors version) limit.Constructors) h in (over_none k 64 limit.Constructors both.0, over_none t (most_constructors version) limit.Constructors both.1)
+pub constructor_none : (version k t : ℕ) → constructor_mark version k t ≡ None →
+    (k < 64) × (t < most_constructors version)
+constructor_none version k t h = let both = or_else_none (over k 64 limit.Constructors)
+    (over t (most_constructors version) limit.Constructors) h in
+    (over_none k 64 limit.Constructors both.0, over_none t (most_constructors version) limit.Constructors both.1)
 
 term_none : (d n : ℕ) → term_mark d n ≡ None → (n < 8) × (d < 64)
-term_none d n h = let both = or_else_none (arity_mark n) (over d 64 limit.Nesting) h in (over_none n 8 limit.Arity both.0, over_none d 64 limit.Nesting both.1)
+term_none d n h = let both = or_else_none (arity_mark n) (over d 64 limit.Nesting) h in
+    (over_none n 8 limit.Arity both.0, over_none d 64 limit.Nesting both.1)
 
 -- Each part of a text: its limits are kept, and what comes after it has no mark. A term with d words above it has less
 -- than 64 of them if it has no mark of its own.
 mutual
-  term_kept : (d : ℕ) (m : Option LimitKind) (t : RawTree) (v : List Marked) → (m ≡ None → d < 64) → HasNoMark (term_text d m t v) → (m ≡ None) × (d + raw_depth t ≤ 64) × WordsKeepLimits t × HasNoMark v
+  term_kept : (d : ℕ) (m : Option LimitKind) (t : RawTree) (v : List Marked) → (m ≡ None → d < 64) →
+      HasNoMark (term_text d m t v) → (m ≡ None) × (d + raw_depth t ≤ 64) × WordsKeepLimits t × HasNoMark v
   term_kept d m (word b a ts) v above h =
       let name = name_none b m h.0 in
       let args = args_kept d ts v (above name.1) h.1 in
       (name.1, omega (arith, args.0), (name.0, args.1, args.2), args.3)
 
-  args_kept : (d : ℕ) (ts : RawTrees) (v : List Marked) → d < 64 → HasNoMark (args_text d ts v) → (d + 1 + raw_depths ts ≤ 64) × (raw_count ts ≤ 8) × AllWordsKeepLimits ts × HasNoMark v
+  args_kept : (d : ℕ) (ts : RawTrees) (v : List Marked) → d < 64 → HasNoMark (args_text d ts v) →
+      (d + 1 + raw_depths ts ≤ 64) × (raw_count ts ≤ 8) × AllWordsKeepLimits ts × HasNoMark v
   args_kept d none v le h = (omega arith, omega arith, tt, h)
   args_kept d (some t ts) v le h =
-      let first = term_kept (d + 1) (term_mark (d + 1) 0) t (more_text (d + 1) 1 ts (sign RightPar ∷ v)) (λ e. (term_none (d + 1) 0 e).1) h.1 in
+      let first = term_kept (d + 1) (term_mark (d + 1) 0) t (more_text (d + 1) 1 ts (sign RightPar ∷ v))
+      (λ e. (term_none (d + 1) 0 e).1) h.1 in
       let others = more_kept (d + 1) 1 ts (sign RightPar ∷ v) (omega arith) (omega arith) first.3 in
       (omega (arith, first.1, others.0), others.1, (first.2, others.2), others.3.1)
 
-  more_kept : (d n : ℕ) (ts : RawTrees) (v : List Marked) → d ≤ 64 → n ≤ 8 → HasNoMark (more_text d n ts v) → (d + raw_depths ts ≤ 64) × (n + raw_count ts ≤ 8) × AllWordsKeepLimits ts × HasNoMark v
+  more_kept : (d n : ℕ) (ts : RawTrees) (v : List Marked) → d ≤ 64 → n ≤ 8 → HasNoMark (more_text d n ts v) →
+      (d + raw_depths ts ≤ 64) × (n + raw_count ts ≤ 8) × AllWordsKeepLimits ts × HasNoMark v
   more_kept d n none v le few h = (omega arith, omega arith, tt, h)
   more_kept d n (some t ts) v le few h =
       let first = term_kept d (term_mark d n) t (more_text d (n + 1) ts v) (λ e. (term_none d n e).1) h.1 in
@@ -103,19 +124,22 @@ mutual
       let others = more_kept d (n + 1) ts v le (omega (arith, below)) first.3 in
       (omega (arith, first.1, others.0), omega (arith, others.1), (first.2, others.2), others.3)
 
-root_kept : (m : Option LimitKind) (t : RawTree) (v : List Marked) → HasNoMark (term_text 0 m t v) → (m ≡ None) × TermKeepsLimits t × HasNoMark v
+root_kept : (m : Option LimitKind) (t : RawTree) (v : List Marked) → HasNoMark (term_text 0 m t v) →
+    (m ≡ None) × TermKeepsLimits t × HasNoMark v
 root_kept m t v h =
     let kept = term_kept 0 m t v (λ e. omega arith) h in
     (kept.0, record { depth = omega (arith, kept.1); words = kept.2 }, kept.3)
 
-sides_kept : (m : Option LimitKind) (l r : RawTree) (v : List Marked) → HasNoMark (sides_text m l r v) → (m ≡ None) × (TermKeepsLimits l × TermKeepsLimits r) × HasNoMark v
+sides_kept : (m : Option LimitKind) (l r : RawTree) (v : List Marked) → HasNoMark (sides_text m l r v) →
+    (m ≡ None) × (TermKeepsLimits l × TermKeepsLimits r) × HasNoMark v
 sides_kept m l r v h =
     let left = root_kept m l (sign Equals ∷ term_text 0 None r v) h in
     let right = root_kept None r v left.2.1 in
     (left.0, (left.1, right.1), right.2)
 
 -- names
-more_names_kept : (n : ℕ) (xs : List RawName) (v : List Marked) → n ≤ 8 → HasNoMark (more_names_text n xs v) → (n + length xs ≤ 8) × AllByRecursion NameKeepsLimits xs × HasNoMark v
+more_names_kept : (n : ℕ) (xs : List RawName) (v : List Marked) → n ≤ 8 → HasNoMark (more_names_text n xs v) →
+    (n + length xs ≤ 8) × AllByRecursion NameKeepsLimits xs × HasNoMark v
 more_names_kept n [] v le h = (omega arith, tt, h)
 more_names_kept n (x ∷ xs) v le h =
     let name = name_none x.name (arity_mark n) h.1.0 in
@@ -123,48 +147,68 @@ more_names_kept n (x ∷ xs) v le h =
     let others = more_names_kept (n + 1) xs v (omega (arith, below)) h.1.1 in
     (omega (arith, others.0), (name.0, others.1), others.2)
 
-names_kept : (xs : List RawName) (v : List Marked) → HasNoMark (names_text xs v) → (length xs ≤ 8) × AllByRecursion NameKeepsLimits xs × HasNoMark v
+names_kept : (xs : List RawName) (v : List Marked) → HasNoMark (names_text xs v) →
+    (length xs ≤ 8) × AllByRecursion NameKeepsLimits xs × HasNoMark v
 names_kept [] v h = (omega arith, tt, h)
 names_kept (x ∷ xs) v h =
     let name = name_none x.name (arity_mark 0) h.1.0 in
     let others = more_names_kept 1 xs (sign RightPar ∷ v) (omega arith) h.1.1 in
     (omega (arith, others.0), (name.0, others.1), others.2.1)
 
-con_kept : (m : Option LimitKind) (c : RawNames) (v : List Marked) → HasNoMark (con_text m c v) → (m ≡ None) × NamesKeepLimits c × HasNoMark v
+con_kept : (m : Option LimitKind) (c : RawNames) (v : List Marked) → HasNoMark (con_text m c v) →
+    (m ≡ None) × NamesKeepLimits c × HasNoMark v
 con_kept m c v h =
     let name = name_none c.name m h.0 in
     let args = names_kept c.args v h.1 in
     (name.1, record { name = name.0; few_arguments = args.0; arguments = args.1 }, args.2)
 
 -- sorts
-constructors_kept : (version k t : ℕ) (cs : List RawNames) (v : List Marked) → k ≤ 64 → t ≤ most_constructors version → HasNoMark (constructors_text version k t cs v) → (k + length cs ≤ 64) × (t + length cs ≤ most_constructors version) × AllByRecursion NamesKeepLimits cs × HasNoMark v
+constructors_kept : (version k t : ℕ) (cs : List RawNames) (v : List Marked) → k ≤ 64 →
+    t ≤ most_constructors version → HasNoMark (constructors_text version k t cs v) →
+    (k + length cs ≤ 64) × (t + length cs ≤ most_constructors version) × AllByRecursion NamesKeepLimits cs × HasNoMark v
 constructors_kept version k t [] v le few h = (omega arith, omega arith, tt, h)
 constructors_kept version k t (c ∷ cs) v le few h =
     let first = con_kept (constructor_mark version k t) c (constructors_text version (k + 1) (t + 1) cs v) h.1 in
     let below = constructor_none version k t first.0 in
-    let others = constructors_kept version (k + 1) (t + 1) cs v (omega (arith, below.0)) (omega (arith, below.1)) first.2 in
+    let others = constructors_kept version (k + 1) (t + 1) cs v (omega (arith, below.0))
+    (omega (arith, below.1)) first.2 in
     (omega (arith, others.0), omega (arith, others.1), (first.1, others.2), others.3)
 
 abbrev in_all : List RawSort → ℕ
 in_all ss = sum_by (λ (s : RawSort). length s.constructors) ss
 
-sorts_kept : (version n t : ℕ) (ss : List RawSort) (text v : List Marked) → n ≤ 200 → t ≤ most_constructors version → AreSorts version n t ss text v → HasNoMark text → (n + length ss ≤ 200) × (t + in_all ss ≤ most_constructors version) × AllByRecursion SortKeepsLimits ss × HasNoMark v
+sorts_kept : (version n t : ℕ) (ss : List RawSort) (text v : List Marked) → n ≤ 200 →
+    t ≤ most_constructors version → AreSorts version n t ss text v → HasNoMark text →
+    (n + length ss ≤ 200) × (t + in_all ss ≤ most_constructors version) × AllByRecursion SortKeepsLimits ss
+    × HasNoMark v
 sorts_kept version n t [] text v le few are h = (omega arith, omega arith, tt, subst HasNoMark are h)
 sorts_kept version n t (s ∷ ss) text v le few (first, others, after, cs, is, are) h =
     let marks = subst HasNoMark is h in
     let below = over_none n 200 limit.Sorts marks.0 in
     let name = name_none s.head.name None marks.1.0 in
-    let con = con_kept (constructor_mark version 0 t) first (constructors_text version 1 (t + 1) others after) marks.1.1.1 in
+    let con = con_kept (constructor_mark version 0 t) first (constructors_text version 1 (t + 1) others after)
+    marks.1.1.1 in
     let room = (constructor_none version 0 t con.0).1 in
     let cons = constructors_kept version 1 (t + 1) others after (omega arith) (omega (arith, room)) con.2 in
-    let rest = sorts_kept version (n + 1) (t + 1 + length others) ss after v (omega (arith, below)) (omega (arith, cons.1)) are cons.3 in
+    let rest = sorts_kept version (n + 1) (t + 1 + length others) ss after v (omega (arith, below))
+    (omega (arith, cons.1)) are cons.3 in
     let number : length s.constructors ≡ length (first ∷ others) = ap (λ (xs : List RawNames). length xs) cs in
     let sum = sum_by-cons (λ (x : RawSort). length x.constructors) s ss in
-    let sort : SortKeepsLimits s = record { name = name.0; few_constructors = omega (arith, number, cons.0); constructors = subst (AllByRecursion NamesKeepLimits) (sym cs) (con.1, cons.2) } in
+    let sort : SortKeepsLimits s = record {
+      name = name.0;
+      few_constructors = omega (
+        arith,
+        number,
+        cons.0,
+      );
+      constructors = subst (AllByRecursion NamesKeepLimits) (sym cs) (con.1, cons.2);
+    } in
     (omega (arith, rest.0), omega (arith, rest.1, number, sum), (sort, rest.2), rest.3)
 
 -- functions and rules
-funs_kept : (version n : ℕ) (fs : List RawFun) (v : List Marked) → n ≤ most_functions version → HasNoMark (funs_text version n fs v) → (n + length fs ≤ most_functions version) × AllByRecursion FunctionKeepsLimits fs × HasNoMark v
+funs_kept : (version n : ℕ) (fs : List RawFun) (v : List Marked) → n ≤ most_functions version →
+    HasNoMark (funs_text version n fs v) → (n + length fs ≤ most_functions version)
+    × AllByRecursion FunctionKeepsLimits fs × HasNoMark v
 funs_kept version n [] v le h = (omega arith, tt, h)
 funs_kept version n (f ∷ fs) v le h =
     let below = over_none n (most_functions version) limit.Functions h.0 in
@@ -236,7 +280,8 @@ order_line_kept (Some o) v h =
     let rest = weights_kept o.weights v h.1.1 in
     ((name.0, rest.0), rest.1)
 
-guards_kept : (n : ℕ) (gs : List RawGuard) (v : List Marked) → n ≤ 8 → HasNoMark (guards_text n gs v) → (n + length gs ≤ 8) × AllByRecursion (λ (g : RawGuard). TermKeepsLimits g.test) gs × HasNoMark v
+guards_kept : (n : ℕ) (gs : List RawGuard) (v : List Marked) → n ≤ 8 → HasNoMark (guards_text n gs v) →
+    (n + length gs ≤ 8) × AllByRecursion (λ (g : RawGuard). TermKeepsLimits g.test) gs × HasNoMark v
 guards_kept n [] v le h = (omega arith, tt, h)
 guards_kept n (g ∷ gs) v le h =
     let below = over_none n 8 limit.Guards h.0 in
@@ -244,19 +289,33 @@ guards_kept n (g ∷ gs) v le h =
     let rest = guards_kept (n + 1) gs v (omega (arith, below)) test.2 in
     (omega (arith, rest.0), (test.1, rest.1), rest.2)
 
-rules_kept : (version n : ℕ) (rs : List RawRule) (v : List Marked) → n ≤ most_rules version → HasNoMark (rules_text version n rs v) → (n + length rs ≤ most_rules version) × AllByRecursion RuleKeepsLimits rs × HasNoMark v
+rules_kept : (version n : ℕ) (rs : List RawRule) (v : List Marked) → n ≤ most_rules version →
+    HasNoMark (rules_text version n rs v) → (n + length rs ≤ most_rules version)
+    × AllByRecursion RuleKeepsLimits rs × HasNoMark v
 rules_kept version n [] v le h = (omega arith, tt, h)
 rules_kept version n (r ∷ rs) v le h =
     let below = over_none n (most_rules version) limit.Rules h.0 in
     let sides = sides_kept None r.left r.right (guards_text 0 r.guards (rules_text version (n + 1) rs v)) h.1 in
     let guards = guards_kept 0 r.guards (rules_text version (n + 1) rs v) (omega arith) sides.2 in
     let rest = rules_kept version (n + 1) rs v (omega (arith, below)) guards.2 in
-    let rule : RuleKeepsLimits r = record { left = sides.1.0; right = sides.1.1; few_guards = omega (arith, guards.0); guards = guards.1 } in
+    let rule : RuleKeepsLimits r = record {
+      left = sides.1.0;
+      right = sides.1.1;
+      few_guards = omega (
+        arith,
+        guards.0,
+      );
+      guards = guards.1;
+    } in
     (omega (arith, rest.0), (rule, rest.1), rest.2)
 
 -- clauses
 -- equations, each after the key, with the marks of a limit
-behind_kept : (text : ℕ → List RawEq → List Marked → List Marked) (key : Key) (most : ℕ) (why : LimitKind) → ((n : ℕ) (v : List Marked) → text n [] v ≡ v) → ((n : ℕ) (e : RawEq) (es : List RawEq) (v : List Marked) → text n (e ∷ es) v ≡ sign key ∷ sides_text (over n most why) e.left e.right (text (n + 1) es v)) → (n : ℕ) (es : List RawEq) (v : List Marked) → n ≤ most → HasNoMark (text n es v) → (n + length es ≤ most) × AllByRecursion EquationKeepsLimits es × HasNoMark v
+behind_kept : (text : ℕ → List RawEq → List Marked → List Marked) (key : Key) (most : ℕ) (why : LimitKind) →
+    ((n : ℕ) (v : List Marked) → text n [] v ≡ v) → ((n : ℕ) (e : RawEq) (es : List RawEq) (v : List Marked) →
+    text n (e ∷ es) v ≡ sign key ∷ sides_text (over n most why) e.left e.right (text (n + 1) es v)) →
+    (n : ℕ) (es : List RawEq) (v : List Marked) → n ≤ most → HasNoMark (text n es v) → (n + length es ≤ most)
+    × AllByRecursion EquationKeepsLimits es × HasNoMark v
 behind_kept text key most why ends goes_on n [] v le h = (omega arith, tt, subst HasNoMark (ends n v) h)
 behind_kept text key most why ends goes_on n (e ∷ es) v le h =
     let marks = subst HasNoMark (goes_on n e es v) h in
@@ -266,22 +325,38 @@ behind_kept text key most why ends goes_on n (e ∷ es) v le h =
     (omega (arith, rest.0), (sides.1, rest.1), rest.2)
 
 -- the same after a first one without a key
-equations_kept : (whole : List RawEq → List Marked → List Marked) (text : ℕ → List RawEq → List Marked → List Marked) (key : Key) (most : ℕ) (why : LimitKind) → 1 ≤ most → ((v : List Marked) → whole [] v ≡ v) → ((e : RawEq) (es : List RawEq) (v : List Marked) → whole (e ∷ es) v ≡ sides_text (over 0 most why) e.left e.right (text 1 es v)) → ((n : ℕ) (v : List Marked) → text n [] v ≡ v) → ((n : ℕ) (e : RawEq) (es : List RawEq) (v : List Marked) → text n (e ∷ es) v ≡ sign key ∷ sides_text (over n most why) e.left e.right (text (n + 1) es v)) → (es : List RawEq) (v : List Marked) → HasNoMark (whole es v) → (length es ≤ most) × AllByRecursion EquationKeepsLimits es × HasNoMark v
-equations_kept whole text key most why one empty first ends goes_on [] v h = (omega arith, tt, subst HasNoMark (empty v) h)
+equations_kept : (whole : List RawEq → List Marked → List Marked) (text : ℕ → List RawEq → List Marked →
+    List Marked) (key : Key) (most : ℕ) (why : LimitKind) → 1 ≤ most → ((v : List Marked) → whole [] v ≡ v) →
+    ((e : RawEq) (es : List RawEq) (v : List Marked) →
+    whole (e ∷ es) v ≡ sides_text (over 0 most why) e.left e.right (text 1 es v)) →
+    ((n : ℕ) (v : List Marked) → text n [] v ≡ v) → ((n : ℕ) (e : RawEq) (es : List RawEq) (v : List Marked) →
+    text n (e ∷ es) v ≡ sign key ∷ sides_text (over n most why) e.left e.right (text (n + 1) es v)) →
+    (es : List RawEq) (v : List Marked) → HasNoMark (whole es v) →
+    (length es ≤ most) × AllByRecursion EquationKeepsLimits es × HasNoMark v
+equations_kept whole text key most why one empty first ends goes_on [] v h = (
+  omega arith,
+  tt,
+  subst HasNoMark (empty v) h,
+)
 equations_kept whole text key most why one empty first ends goes_on (e ∷ es) v h =
     let sides = sides_kept (over 0 most why) e.left e.right (text 1 es v) (subst HasNoMark (first e es v) h) in
     let rest = behind_kept text key most why ends goes_on 1 es v one sides.2 in
     (omega (arith, rest.0), (sides.1, rest.1), rest.2)
 
-premises_kept : (es : List RawEq) (v : List Marked) → HasNoMark (premises_text es v) → (length es ≤ 8) × AllByRecursion EquationKeepsLimits es × HasNoMark v
-premises_kept es v h = equations_kept premises_text commas_text Comma 8 limit.Premises (omega arith) (λ v. refl) (λ e es v. refl) (λ n v. refl) (λ n e es v. refl) es v h
+premises_kept : (es : List RawEq) (v : List Marked) → HasNoMark (premises_text es v) →
+    (length es ≤ 8) × AllByRecursion EquationKeepsLimits es × HasNoMark v
+premises_kept es v h = equations_kept premises_text commas_text Comma 8 limit.Premises (omega arith) (λ v. refl)
+    (λ e es v. refl) (λ n v. refl) (λ n e es v. refl) es v h
 
-conclusions_kept : (es : List RawEq) (v : List Marked) → HasNoMark (conclusions_text es v) → (length es ≤ 4) × AllByRecursion EquationKeepsLimits es × HasNoMark v
-conclusions_kept es v h = equations_kept conclusions_text bars_text Bar 4 limit.Conclusions (omega arith) (λ v. refl) (λ e es v. refl) (λ n v. refl) (λ n e es v. refl) es v h
+conclusions_kept : (es : List RawEq) (v : List Marked) → HasNoMark (conclusions_text es v) →
+    (length es ≤ 4) × AllByRecursion EquationKeepsLimits es × HasNoMark v
+conclusions_kept es v h = equations_kept conclusions_text bars_text Bar 4 limit.Conclusions (omega arith)
+    (λ v. refl) (λ e es v. refl) (λ n v. refl) (λ n e es v. refl) es v h
 
 -- the premises and the conclusions of a goal
 abbrev ClauseKept : List RawEq → List RawEq → List Marked → Type 0
-ClauseKept ps cs v = (length ps ≤ 8) × AllByRecursion EquationKeepsLimits ps × (length cs ≤ 4) × AllByRecursion EquationKeepsLimits cs × HasNoMark v
+ClauseKept ps cs v = (length ps ≤ 8) × AllByRecursion EquationKeepsLimits ps × (length cs ≤ 4)
+    × AllByRecursion EquationKeepsLimits cs × HasNoMark v
 
 clause_kept : (ps cs : List RawEq) (text v : List Marked) → IsClause ps cs text v → HasNoMark text → ClauseKept ps cs v
 clause_kept ps cs text v (inl is) h =
@@ -294,13 +369,15 @@ clause_kept ps cs text v (inr is) h =
     subst (λ (es : List RawEq). ClauseKept es cs v) (sym is.0) made
 
 -- goals
-bind_kept : (m : Option LimitKind) (b : RawBind) (v : List Marked) → HasNoMark (bind_text m b v) → (m ≡ None) × BindKeepsLimits b × HasNoMark v
+bind_kept : (m : Option LimitKind) (b : RawBind) (v : List Marked) → HasNoMark (bind_text m b v) →
+    (m ≡ None) × BindKeepsLimits b × HasNoMark v
 bind_kept m b v h =
     let name = name_none b.name.name m h.0 in
     let sort = name_none b.sort.name None h.1.1.0 in
     (name.1, (name.0, sort.0), h.1.1.1)
 
-more_binds_kept : (n : ℕ) (bs : List RawBind) (v : List Marked) → n ≤ 16 → HasNoMark (more_binds_text n bs v) → (n + length bs ≤ 16) × AllByRecursion BindKeepsLimits bs × HasNoMark v
+more_binds_kept : (n : ℕ) (bs : List RawBind) (v : List Marked) → n ≤ 16 → HasNoMark (more_binds_text n bs v) →
+    (n + length bs ≤ 16) × AllByRecursion BindKeepsLimits bs × HasNoMark v
 more_binds_kept n [] v le h = (omega arith, tt, h)
 more_binds_kept n (b ∷ bs) v le h =
     let bind = bind_kept (variable_mark n) b (more_binds_text (n + 1) bs v) h.1 in
@@ -308,14 +385,16 @@ more_binds_kept n (b ∷ bs) v le h =
     let rest = more_binds_kept (n + 1) bs v (omega (arith, below)) bind.2 in
     (omega (arith, rest.0), (bind.1, rest.1), rest.2)
 
-binds_kept : (bs : List RawBind) (v : List Marked) → HasNoMark (binds_text bs v) → (length bs ≤ 16) × AllByRecursion BindKeepsLimits bs × HasNoMark v
+binds_kept : (bs : List RawBind) (v : List Marked) → HasNoMark (binds_text bs v) →
+    (length bs ≤ 16) × AllByRecursion BindKeepsLimits bs × HasNoMark v
 binds_kept [] v h = (omega arith, tt, h)
 binds_kept (b ∷ bs) v h =
     let bind = bind_kept (variable_mark 0) b (more_binds_text 1 bs (sign RightPar ∷ v)) h.1 in
     let rest = more_binds_kept 1 bs (sign RightPar ∷ v) (omega arith) bind.2 in
     (omega (arith, rest.0), (bind.1, rest.1), rest.2.1)
 
-goals_kept : (n : ℕ) (gs : List RawGoal) (text v : List Marked) → n ≤ 200 → AreGoals n gs text v → HasNoMark text → (n + length gs ≤ 200) × AllByRecursion GoalKeepsLimits gs
+goals_kept : (n : ℕ) (gs : List RawGoal) (text v : List Marked) → n ≤ 200 → AreGoals n gs text v →
+    HasNoMark text → (n + length gs ≤ 200) × AllByRecursion GoalKeepsLimits gs
 goals_kept n [] text v le are h = (omega arith, tt)
 goals_kept n (g ∷ gs) text v le (clause, after, is, are_clause, are) h =
     let marks = subst HasNoMark is h in
@@ -324,7 +403,15 @@ goals_kept n (g ∷ gs) text v le (clause, after, is, are_clause, are) h =
     let binds = binds_kept g.binds (sign Colon ∷ clause) marks.1.1 in
     let equations = clause_kept g.premises g.conclusions clause after are_clause binds.2.1 in
     let rest = goals_kept (n + 1) gs after v (omega (arith, below)) are equations.4 in
-    let goal : GoalKeepsLimits g = record { name = name.0; few_binds = binds.0; binds = binds.1; few_premises = equations.0; premises = equations.1; few_conclusions = equations.2; conclusions = equations.3 } in
+    let goal : GoalKeepsLimits g = record {
+      name = name.0;
+      few_binds = binds.0;
+      binds = binds.1;
+      few_premises = equations.0;
+      premises = equations.1;
+      few_conclusions = equations.2;
+      conclusions = equations.3;
+    } in
     (omega (arith, rest.0), (goal, rest.1))
 
 -- a specification, and a term alone

@@ -1,5 +1,6 @@
 -- A text has at least as many tokens as each of its terms has words.
-use Rattle.std.proofs.Common.{◌≡◌, ℕ, ◌+◌, ◌≤◌, List, [], ◌∷◌, inl, inr, Option, Some, None, length, ap, sym, subst, arith}
+use Rattle.std.proofs.Common.{◌≡◌, ℕ, ◌+◌, ◌≤◌, List, [], ◌∷◌, inl, inr, Option, Some, None, length, ap, sym, subst}
+use Rattle.std.proofs.Common.{arith}
 use Rattle.std.specs.List.{AllByRecursion}
 use Rattle.spec_grammar.specs.declared.limits.LimitKind.{LimitKind}
 use Rattle.spec_grammar.specs.declared.raw.RawName.{RawName}
@@ -19,46 +20,76 @@ use Rattle.spec_grammar.specs.declared.raw.RawSpec.{RawSpec}
 use Rattle.spec_grammar.specs.declared.keys.Key.TheVariants.{Equals, Colon, Arrow, RightPar}
 use Rattle.spec_grammar.specs.RawTree.{RawTree, RawTrees, word, none, some}
 use Rattle.spec_grammar.specs.Limits.{term_mark, premise_mark, conclusion_mark}
-use Rattle.spec_grammar.specs.Grammar.{Marked, sign, name_text, term_text, args_text, more_text, more_names_text, names_text, constructors_text, AreSorts, funs_text, more_equal_text, AreEquals, more_numbers_text, AreStatuses, more_weights_text, weights_text, order_text, IsOrderText, guards_text, sides_text, rules_text, commas_text, premises_text, bars_text, conclusions_text, IsClause, more_binds_text, binds_text, AreGoals, IsSpecText}
-use Rattle.spec_grammar.specs.Sizes.{words, words_all, EquationHasFewWords, RuleHasFewWords, GoalHasFewWords, HasFewWords}
+use Rattle.spec_grammar.specs.Grammar.{Marked, sign, name_text, term_text, args_text, more_text, more_names_text}
+use Rattle.spec_grammar.specs.Grammar.{names_text, constructors_text, AreSorts, funs_text, more_equal_text, AreEquals}
+use Rattle.spec_grammar.specs.Grammar.{more_numbers_text, AreStatuses, more_weights_text, weights_text, order_text}
+use Rattle.spec_grammar.specs.Grammar.{IsOrderText, guards_text, sides_text, rules_text, commas_text, premises_text}
+use Rattle.spec_grammar.specs.Grammar.{bars_text, conclusions_text, IsClause, more_binds_text, binds_text, AreGoals}
+use Rattle.spec_grammar.specs.Grammar.{IsSpecText}
+use Rattle.spec_grammar.specs.Sizes.{words, words_all, EquationHasFewWords, RuleHasFewWords, GoalHasFewWords}
+use Rattle.spec_grammar.specs.Sizes.{HasFewWords}
 
 mutual
-  term_len : (d : ℕ) (m : Option LimitKind) (t : RawTree) (v : List Marked) → words t + length v ≤ length (term_text d m t v)
+  term_len : (d : ℕ) (m : Option LimitKind) (t : RawTree) (v : List Marked) →
+      words t + length v ≤ length (term_text d m t v)
   term_len d m (word b a ts) v = omega (arith, args_len d ts v)
 
   args_len : (d : ℕ) (ts : RawTrees) (v : List Marked) → words_all ts + length v ≤ length (args_text d ts v)
   args_len d none v = omega arith
-  args_len d (some t ts) v = omega (arith, term_len (d + 1) (term_mark (d + 1) 0) t (more_text (d + 1) 1 ts (sign RightPar ∷ v)), more_len (d + 1) 1 ts (sign RightPar ∷ v))
+  args_len d (some t ts) v = omega (
+    arith,
+    term_len (d + 1) (term_mark (d + 1) 0) t (more_text (d + 1) 1 ts (sign RightPar ∷ v)),
+    more_len (d + 1) 1 ts (sign RightPar ∷ v),
+  )
 
   more_len : (d n : ℕ) (ts : RawTrees) (v : List Marked) → words_all ts + length v ≤ length (more_text d n ts v)
   more_len d n none v = omega arith
-  more_len d n (some t ts) v = omega (arith, term_len d (term_mark d n) t (more_text d (n + 1) ts v), more_len d (n + 1) ts v)
+  more_len d n (some t ts) v = omega (
+    arith,
+    term_len d (term_mark d n) t (more_text d (n + 1) ts v),
+    more_len d (n + 1) ts v,
+  )
 
 pub term_words : (d : ℕ) (m : Option LimitKind) (t : RawTree) → words t ≤ length (term_text d m t [])
 term_words d m t = omega (arith, term_len d m t [])
 
-sides_len : (m : Option LimitKind) (l r : RawTree) (v : List Marked) → words l + words r + length v ≤ length (sides_text m l r v)
+sides_len : (m : Option LimitKind) (l r : RawTree) (v : List Marked) →
+    words l + words r + length v ≤ length (sides_text m l r v)
 sides_len m l r v = omega (arith, term_len 0 m l (sign Equals ∷ term_text 0 None r v), term_len 0 None r v)
 
 -- more words are allowed if there are more tokens
-equations_more : (n k : ℕ) (es : List RawEq) → n ≤ k → AllByRecursion (EquationHasFewWords n) es → AllByRecursion (EquationHasFewWords k) es
+equations_more : (n k : ℕ) (es : List RawEq) → n ≤ k → AllByRecursion (EquationHasFewWords n) es →
+    AllByRecursion (EquationHasFewWords k) es
 equations_more n k [] le h = tt
 equations_more n k (e ∷ es) le h = ((omega (arith, h.0.0), omega (arith, h.0.1)), equations_more n k es le h.1)
 
-guards_more : (n k : ℕ) (gs : List RawGuard) → n ≤ k → AllByRecursion (λ (g : RawGuard). words g.test ≤ n) gs → AllByRecursion (λ (g : RawGuard). words g.test ≤ k) gs
+guards_more : (n k : ℕ) (gs : List RawGuard) → n ≤ k → AllByRecursion (λ (g : RawGuard). words g.test ≤ n) gs →
+    AllByRecursion (λ (g : RawGuard). words g.test ≤ k) gs
 guards_more n k [] le h = tt
 guards_more n k (g ∷ gs) le h = (omega (arith, h.0), guards_more n k gs le h.1)
 
-rules_more : (n k : ℕ) (rs : List RawRule) → n ≤ k → AllByRecursion (RuleHasFewWords n) rs → AllByRecursion (RuleHasFewWords k) rs
+rules_more : (n k : ℕ) (rs : List RawRule) → n ≤ k → AllByRecursion (RuleHasFewWords n) rs →
+    AllByRecursion (RuleHasFewWords k) rs
 rules_more n k [] le h = tt
-rules_more n k (r ∷ rs) le h = ((omega (arith, h.0.0), omega (arith, h.0.1), guards_more n k r.guards le h.0.2), rules_more n k rs le h.1)
+rules_more n k (r ∷ rs) le h = (
+  (omega (arith, h.0.0), omega (arith, h.0.1), guards_more n k r.guards le h.0.2),
+  rules_more n k rs le h.1,
+)
 
-goals_more : (n k : ℕ) (gs : List RawGoal) → n ≤ k → AllByRecursion (GoalHasFewWords n) gs → AllByRecursion (GoalHasFewWords k) gs
+goals_more : (n k : ℕ) (gs : List RawGoal) → n ≤ k → AllByRecursion (GoalHasFewWords n) gs →
+    AllByRecursion (GoalHasFewWords k) gs
 goals_more n k [] le h = tt
-goals_more n k (g ∷ gs) le h = ((equations_more n k g.premises le h.0.0, equations_more n k g.conclusions le h.0.1), goals_more n k gs le h.1)
+goals_more n k (g ∷ gs) le h = (
+  (
+    equations_more n k g.premises le h.0.0,
+    equations_more n k g.conclusions le h.0.1,
+  ),
+  goals_more n k gs le h.1,
+)
 
 -- the parts of a text
-guards_len : (n : ℕ) (gs : List RawGuard) (v : List Marked) → (length v ≤ length (guards_text n gs v)) × AllByRecursion (λ (g : RawGuard). words g.test ≤ length (guards_text n gs v)) gs
+guards_len : (n : ℕ) (gs : List RawGuard) (v : List Marked) → (length v ≤ length (guards_text n gs v))
+    × AllByRecursion (λ (g : RawGuard). words g.test ≤ length (guards_text n gs v)) gs
 guards_len n [] v = (omega arith, tt)
 guards_len n (g ∷ gs) v =
     let r = guards_len (n + 1) gs v in
@@ -66,17 +97,30 @@ guards_len n (g ∷ gs) v =
     let le : length (guards_text (n + 1) gs v) ≤ length (guards_text n (g ∷ gs) v) = omega (arith, t) in
     (omega (arith, le, r.0), (omega (arith, t), guards_more _ _ gs le r.1))
 
-rules_len : (version n : ℕ) (rs : List RawRule) (v : List Marked) → (length v ≤ length (rules_text version n rs v)) × AllByRecursion (RuleHasFewWords (length (rules_text version n rs v))) rs
+rules_len : (version n : ℕ) (rs : List RawRule) (v : List Marked) →
+    (length v ≤ length (rules_text version n rs v))
+    × AllByRecursion (RuleHasFewWords (length (rules_text version n rs v))) rs
 rules_len version n [] v = (omega arith, tt)
 rules_len version n (r ∷ rs) v =
     let rest = rules_len version (n + 1) rs v in
     let tests = guards_len 0 r.guards (rules_text version (n + 1) rs v) in
     let sides = sides_len None r.left r.right (guards_text 0 r.guards (rules_text version (n + 1) rs v)) in
-    let le : length (rules_text version (n + 1) rs v) ≤ length (rules_text version n (r ∷ rs) v) = omega (arith, tests.0, sides) in
-    let inner : length (guards_text 0 r.guards (rules_text version (n + 1) rs v)) ≤ length (rules_text version n (r ∷ rs) v) = omega (arith, sides) in
-    (omega (arith, le, rest.0), ((omega (arith, sides), omega (arith, sides), guards_more _ _ r.guards inner tests.1), rules_more _ _ rs le rest.1))
+    let le : length (rules_text version (n + 1) rs v) ≤ length (rules_text version n (r ∷ rs) v) = omega (
+      arith,
+      tests.0,
+      sides,
+    ) in
+    let inner : length (guards_text 0 r.guards (rules_text version (n + 1) rs v)) ≤ length
+    (rules_text version n (r ∷ rs) v) = omega (arith, sides) in (
+      omega (arith, le, rest.0),
+      (
+        (omega (arith, sides), omega (arith, sides), guards_more _ _ r.guards inner tests.1),
+        rules_more _ _ rs le rest.1,
+      ),
+    )
 
-commas_len : (n : ℕ) (es : List RawEq) (v : List Marked) → (length v ≤ length (commas_text n es v)) × AllByRecursion (EquationHasFewWords (length (commas_text n es v))) es
+commas_len : (n : ℕ) (es : List RawEq) (v : List Marked) → (length v ≤ length (commas_text n es v))
+    × AllByRecursion (EquationHasFewWords (length (commas_text n es v))) es
 commas_len n [] v = (omega arith, tt)
 commas_len n (e ∷ es) v =
     let rest = commas_len (n + 1) es v in
@@ -84,7 +128,8 @@ commas_len n (e ∷ es) v =
     let le : length (commas_text (n + 1) es v) ≤ length (commas_text n (e ∷ es) v) = omega (arith, sides) in
     (omega (arith, le, rest.0), ((omega (arith, sides), omega (arith, sides)), equations_more _ _ es le rest.1))
 
-premises_len : (es : List RawEq) (v : List Marked) → (length v ≤ length (premises_text es v)) × AllByRecursion (EquationHasFewWords (length (premises_text es v))) es
+premises_len : (es : List RawEq) (v : List Marked) → (length v ≤ length (premises_text es v))
+    × AllByRecursion (EquationHasFewWords (length (premises_text es v))) es
 premises_len [] v = (omega arith, tt)
 premises_len (e ∷ es) v =
     let rest = commas_len 1 es v in
@@ -92,7 +137,8 @@ premises_len (e ∷ es) v =
     let le : length (commas_text 1 es v) ≤ length (premises_text (e ∷ es) v) = omega (arith, sides) in
     (omega (arith, le, rest.0), ((omega (arith, sides), omega (arith, sides)), equations_more _ _ es le rest.1))
 
-bars_len : (n : ℕ) (es : List RawEq) (v : List Marked) → (length v ≤ length (bars_text n es v)) × AllByRecursion (EquationHasFewWords (length (bars_text n es v))) es
+bars_len : (n : ℕ) (es : List RawEq) (v : List Marked) → (length v ≤ length (bars_text n es v))
+    × AllByRecursion (EquationHasFewWords (length (bars_text n es v))) es
 bars_len n [] v = (omega arith, tt)
 bars_len n (e ∷ es) v =
     let rest = bars_len (n + 1) es v in
@@ -100,7 +146,8 @@ bars_len n (e ∷ es) v =
     let le : length (bars_text (n + 1) es v) ≤ length (bars_text n (e ∷ es) v) = omega (arith, sides) in
     (omega (arith, le, rest.0), ((omega (arith, sides), omega (arith, sides)), equations_more _ _ es le rest.1))
 
-conclusions_len : (es : List RawEq) (v : List Marked) → (length v ≤ length (conclusions_text es v)) × AllByRecursion (EquationHasFewWords (length (conclusions_text es v))) es
+conclusions_len : (es : List RawEq) (v : List Marked) → (length v ≤ length (conclusions_text es v))
+    × AllByRecursion (EquationHasFewWords (length (conclusions_text es v))) es
 conclusions_len [] v = (omega arith, tt)
 conclusions_len (e ∷ es) v =
     let rest = bars_len 1 es v in
@@ -111,12 +158,17 @@ conclusions_len (e ∷ es) v =
 none_few : (n : ℕ) (ps : List RawEq) → ps ≡ [] → AllByRecursion (EquationHasFewWords n) ps
 none_few n ps e = subst (AllByRecursion (EquationHasFewWords n)) (sym e) tt
 
-clause_len : (ps cs : List RawEq) (w v : List Marked) → IsClause ps cs w v → (length v ≤ length w) × AllByRecursion (EquationHasFewWords (length w)) ps × AllByRecursion (EquationHasFewWords (length w)) cs
+clause_len : (ps cs : List RawEq) (w v : List Marked) → IsClause ps cs w v →
+    (length v ≤ length w) × AllByRecursion (EquationHasFewWords (length w)) ps
+    × AllByRecursion (EquationHasFewWords (length w)) cs
 clause_len ps cs w v (inl e) =
     let c = conclusions_len cs v in
     let p = premises_len ps (sign Arrow ∷ conclusions_text cs v) in
-    let same = ap (λ (x : List Marked). length x) e in
-    (omega (arith, c.0, p.0, same), equations_more _ _ ps (omega (arith, same)) p.1, equations_more _ _ cs (omega (arith, p.0, same)) c.1)
+    let same = ap (λ (x : List Marked). length x) e in (
+      omega (arith, c.0, p.0, same),
+      equations_more _ _ ps (omega (arith, same)) p.1,
+      equations_more _ _ cs (omega (arith, p.0, same)) c.1,
+    )
 clause_len ps cs w v (inr e) =
     let c = conclusions_len cs v in
     let same = ap (λ (x : List Marked). length x) e.2 in
@@ -130,15 +182,18 @@ binds_len : (bs : List RawBind) (v : List Marked) → length v ≤ length (binds
 binds_len [] v = omega arith
 binds_len (b ∷ bs) v = omega (arith, more_binds_len 1 bs (sign RightPar ∷ v))
 
-goals_len : (n : ℕ) (gs : List RawGoal) (w v : List Marked) → AreGoals n gs w v → AllByRecursion (GoalHasFewWords (length w)) gs
+goals_len : (n : ℕ) (gs : List RawGoal) (w v : List Marked) → AreGoals n gs w v →
+    AllByRecursion (GoalHasFewWords (length w)) gs
 goals_len n [] w v h = tt
 goals_len n (g ∷ gs) w v h =
     let rest = goals_len (n + 1) gs h.1 v h.4 in
     let body = clause_len g.premises g.conclusions h.0 h.1 h.3 in
     let same = ap (λ (x : List Marked). length x) h.2 in
     let bound = binds_len g.binds (sign Colon ∷ h.0) in
-    let le : length h.0 ≤ length w = omega (arith, same, bound) in
-    ((equations_more _ _ g.premises le body.1, equations_more _ _ g.conclusions le body.2), goals_more _ _ gs (omega (arith, le, body.0)) rest)
+    let le : length h.0 ≤ length w = omega (arith, same, bound) in (
+      (equations_more _ _ g.premises le body.1, equations_more _ _ g.conclusions le body.2),
+      goals_more _ _ gs (omega (arith, le, body.0)) rest,
+    )
 
 -- what comes after declarations is no longer than the whole
 more_names_len : (n : ℕ) (xs : List RawName) (v : List Marked) → length v ≤ length (more_names_text n xs v)
@@ -151,13 +206,23 @@ names_len (x ∷ xs) v = omega (arith, more_names_len 1 xs (sign RightPar ∷ v)
 
 funs_len : (version n : ℕ) (fs : List RawFun) (v : List Marked) → length v ≤ length (funs_text version n fs v)
 funs_len version n [] v = omega arith
-funs_len version n (f ∷ fs) v = omega (arith, funs_len version (n + 1) fs v, names_len f.head.args (sign Colon ∷ name_text None f.result (funs_text version (n + 1) fs v)))
+funs_len version n (f ∷ fs) v = omega (
+  arith,
+  funs_len version (n + 1) fs v,
+  names_len f.head.args (sign Colon ∷ name_text None f.result (funs_text version (n + 1) fs v)),
+)
 
-constructors_len : (version k t : ℕ) (cs : List RawNames) (v : List Marked) → length v ≤ length (constructors_text version k t cs v)
+constructors_len : (version k t : ℕ) (cs : List RawNames) (v : List Marked) →
+    length v ≤ length (constructors_text version k t cs v)
 constructors_len version k t [] v = omega arith
-constructors_len version k t (c ∷ cs) v = omega (arith, constructors_len version (k + 1) (t + 1) cs v, names_len c.args (constructors_text version (k + 1) (t + 1) cs v))
+constructors_len version k t (c ∷ cs) v = omega (
+  arith,
+  constructors_len version (k + 1) (t + 1) cs v,
+  names_len c.args (constructors_text version (k + 1) (t + 1) cs v),
+)
 
-sorts_len : (version n t : ℕ) (ss : List RawSort) (w v : List Marked) → AreSorts version n t ss w v → length v ≤ length w
+sorts_len : (version n t : ℕ) (ss : List RawSort) (w v : List Marked) → AreSorts version n t ss w v →
+    length v ≤ length w
 sorts_len version n t [] w v h = omega (arith, ap (λ (x : List Marked). length x) h)
 sorts_len version n t (s ∷ ss) w v h =
     let rest = sorts_len version (n + 1) (t + 1 + length h.1) ss h.2 v h.5 in

@@ -1,9 +1,11 @@
 -- Tokens are a text of one raw specification only.
-use Rattle.std.proofs.Common.{◌≡◌, ◌≢◌, ℕ, ◌+◌, List, [], ◌∷◌, inl, inr, Option, Some, None, Bool, true, false, length, refl, ap, sym, subst, ◌∙◌}
+use Rattle.std.proofs.Common.{◌≡◌, ◌≢◌, ℕ, ◌+◌, List, [], ◌∷◌, inl, inr, Option, Some, None, Bool, true, false, length}
+use Rattle.std.proofs.Common.{refl, ap, sym, subst, ◌∙◌}
 use Rattle.std.specs.Prelude.{◌==◌}
 use Rattle.std.proofs.lemmas.Bool.{eqb-false}
 use Rattle.spec_grammar.specs.declared.keys.Key.{Key}
-use Rattle.spec_grammar.specs.declared.keys.Key.TheVariants.{Sort, Fun, Rule, Goal, If, Unless, Equal, Status, Order, LeftPar, RightPar, Comma, Colon, Equals, Bar, Arrow}
+use Rattle.spec_grammar.specs.declared.keys.Key.TheVariants.{Sort, Fun, Rule, Goal, If, Unless, Equal, Status, Order}
+use Rattle.spec_grammar.specs.declared.keys.Key.TheVariants.{LeftPar, RightPar, Comma, Colon, Equals, Bar, Arrow}
 use Rattle.spec_grammar.specs.declared.limits.LimitKind.{LimitKind}
 use Rattle.spec_grammar.specs.declared.raw.RawName.{RawName}
 use Rattle.spec_grammar.specs.declared.raw.RawNames.{RawNames}
@@ -21,10 +23,19 @@ use Rattle.spec_grammar.specs.declared.raw.RawGoal.{RawGoal}
 use Rattle.spec_grammar.specs.declared.raw.RawSpec.{RawSpec}
 use Rattle.spec_grammar.specs.RawTree.{RawTree, RawTrees, word, none, some}
 use Rattle.spec_grammar.specs.Items.{Item, Word, Sign, Number}
-use Rattle.spec_grammar.specs.Limits.{constructor_mark, arity_mark, term_mark, guard_mark, variable_mark, premise_mark, conclusion_mark}
-use Rattle.spec_grammar.specs.Grammar.{Marked, sign, name_text, term_text, args_text, more_text, more_names_text, names_text, con_text, constructors_text, AreSorts, funs_text, more_equal_text, AreEquals, numeral_text, more_numbers_text, AreStatuses, weight_text, more_weights_text, weights_text, order_text, IsOrderText, guard_key, guards_text, sides_text, rules_text, commas_text, premises_text, bars_text, conclusions_text, IsClause, bind_text, more_binds_text, binds_text, AreGoals, IsSpecText, IsTermText}
+use Rattle.spec_grammar.specs.Limits.{constructor_mark, arity_mark, term_mark, guard_mark, variable_mark, premise_mark}
+use Rattle.spec_grammar.specs.Limits.{conclusion_mark}
+use Rattle.spec_grammar.specs.Grammar.{Marked, sign, name_text, term_text, args_text, more_text, more_names_text}
+use Rattle.spec_grammar.specs.Grammar.{names_text, con_text, constructors_text, AreSorts, funs_text, more_equal_text}
+use Rattle.spec_grammar.specs.Grammar.{AreEquals, numeral_text, more_numbers_text, AreStatuses, weight_text}
+use Rattle.spec_grammar.specs.Grammar.{more_weights_text, weights_text, order_text, IsOrderText, guard_key}
+use Rattle.spec_grammar.specs.Grammar.{guards_text, sides_text, rules_text, commas_text, premises_text, bars_text}
+use Rattle.spec_grammar.specs.Grammar.{conclusions_text, IsClause, bind_text, more_binds_text, binds_text, AreGoals}
+use Rattle.spec_grammar.specs.Grammar.{IsSpecText, IsTermText}
 use Rattle.spec_grammar.specs.Symbols.{key_code}
-use Rattle.spec_grammar.proofs.Agrees.{BeginsIn, HeadIn, after_statuses, after_equals, after_funs, after_sorts, head_order_line, head_statuses, head_equals, head_order, head_goals, head_rules, head_funs, head_sorts, head_constructors, head_guards, head_bars}
+use Rattle.spec_grammar.proofs.Agrees.{BeginsIn, HeadIn, after_statuses, after_equals, after_funs, after_sorts}
+use Rattle.spec_grammar.proofs.Agrees.{head_order_line, head_statuses, head_equals, head_order, head_goals, head_rules}
+use Rattle.spec_grammar.proofs.Agrees.{head_funs, head_sorts, head_constructors, head_guards, head_bars}
 
 heads : {x y : Marked} {xs ys : List Marked} → x ∷ xs ≡ y ∷ ys → x ≡ y
 heads e = cc
@@ -51,7 +62,8 @@ apart_keys : (j k : Key) → (key_code j == key_code k) ≡ false → Sign j ≡
 apart_keys j k f e = eqb-false (key_code j) (key_code k) f (ap key_code (sign_key e))
 
 -- two texts that begin with different keys
-other : (j k : Key) (m n : Option LimitKind) (u v : List Marked) → (key_code j == key_code k) ≡ false → (Sign j, m) ∷ u ≡ (Sign k, n) ∷ v → ⊥
+other : (j k : Key) (m n : Option LimitKind) (u v : List Marked) → (key_code j == key_code k) ≡ false →
+    (Sign j, m) ∷ u ≡ (Sign k, n) ∷ v → ⊥
 other j k m n u v f e = apart_keys j k f (ap (λ (x : Marked). x.0) (heads e))
 
 -- the text doesn't begin with the key
@@ -81,7 +93,8 @@ apart_sign j k v f = λ m w e. other j k None m v w f e
 name_is : (n k : RawName) → n.name ≡ k.name → n.at ≡ k.at → n ≡ k
 name_is n k a b = λ i. record { name = a i; at = b i }
 
-one_name : (m : Option LimitKind) (n k : RawName) (u v : List Marked) → name_text m n u ≡ name_text m k v → (n ≡ k) × (u ≡ v)
+one_name : (m : Option LimitKind) (n k : RawName) (u v : List Marked) → name_text m n u ≡ name_text m k v →
+    (n ≡ k) × (u ≡ v)
 one_name m n k u v e =
     let w : Word n.name n.at ≡ Word k.name k.at = ap (λ (x : Marked). x.0) (heads e) in
     (name_is n k (word_name w) (word_place w), tails e)
@@ -89,7 +102,8 @@ one_name m n k u v e =
 both : {A : Type 0} {x y : A} {xs ys : List A} → x ≡ y → xs ≡ ys → x ∷ xs ≡ y ∷ ys
 both {A} {x} {y} {xs} {ys} e f = λ i. e i ∷ f i
 
-one_more_names : (n : ℕ) (xs ys : List RawName) (u v : List Marked) → more_names_text n xs (sign RightPar ∷ u) ≡ more_names_text n ys (sign RightPar ∷ v) → (xs ≡ ys) × (u ≡ v)
+one_more_names : (n : ℕ) (xs ys : List RawName) (u v : List Marked) →
+    more_names_text n xs (sign RightPar ∷ u) ≡ more_names_text n ys (sign RightPar ∷ v) → (xs ≡ ys) × (u ≡ v)
 one_more_names n [] [] u v e = (refl, tails e)
 one_more_names n [] (y ∷ ys) u v e = absurd (other RightPar Comma None None _ _ refl e)
 one_more_names n (x ∷ xs) [] u v e = absurd (other Comma RightPar None None _ _ refl e)
@@ -98,7 +112,8 @@ one_more_names n (x ∷ xs) (y ∷ ys) u v e =
     let b = one_more_names (n + 1) xs ys u v a.1 in
     (both a.0 b.0, b.1)
 
-one_names : (xs ys : List RawName) (u v : List Marked) → Apart LeftPar u → Apart LeftPar v → names_text xs u ≡ names_text ys v → (xs ≡ ys) × (u ≡ v)
+one_names : (xs ys : List RawName) (u v : List Marked) → Apart LeftPar u → Apart LeftPar v →
+    names_text xs u ≡ names_text ys v → (xs ≡ ys) × (u ≡ v)
 one_names [] [] u v hu hv e = (refl, e)
 one_names [] (y ∷ ys) u v hu hv e = absurd (hu None _ e)
 one_names (x ∷ xs) [] u v hu hv e = absurd (hv None _ (sym e))
@@ -110,7 +125,8 @@ one_names (x ∷ xs) (y ∷ ys) u v hu hv e =
 con_is : (c d : RawNames) → c.name ≡ d.name → c.at ≡ d.at → c.args ≡ d.args → c ≡ d
 con_is c d a b e = λ i. record { name = a i; at = b i; args = e i }
 
-one_con : (m : Option LimitKind) (c d : RawNames) (u v : List Marked) → Apart LeftPar u → Apart LeftPar v → con_text m c u ≡ con_text m d v → (c ≡ d) × (u ≡ v)
+one_con : (m : Option LimitKind) (c d : RawNames) (u v : List Marked) → Apart LeftPar u → Apart LeftPar v →
+    con_text m c u ≡ con_text m d v → (c ≡ d) × (u ≡ v)
 one_con m c d u v hu hv e =
     let w : Word c.name c.at ≡ Word d.name d.at = ap (λ (x : Marked). x.0) (heads e) in
     let a = one_names c.args d.args u v hu hv (tails e) in
@@ -122,7 +138,8 @@ more_apart d n none v = apart_sign RightPar LeftPar v refl
 more_apart d n (some t ts) v = apart_sign Comma LeftPar _ refl
 
 mutual
-  pub one_term : (d : ℕ) (m : Option LimitKind) (s t : RawTree) (u v : List Marked) → Apart LeftPar u → Apart LeftPar v → term_text d m s u ≡ term_text d m t v → (s ≡ t) × (u ≡ v)
+  pub one_term : (d : ℕ) (m : Option LimitKind) (s t : RawTree) (u v : List Marked) → Apart LeftPar u →
+      Apart LeftPar v → term_text d m s u ≡ term_text d m t v → (s ≡ t) × (u ≡ v)
   one_term d m (word b a ss) (word c p ts) u v hu hv e =
       let w : Word b a ≡ Word c p = ap (λ (x : Marked). x.0) (heads e) in
       let r = one_args d ss ts u v hu hv (tails e) in
@@ -131,18 +148,21 @@ mutual
       let z : ss ≡ ts = r.0 in
       (λ i. word (x i) (y i) (z i), r.1)
 
-  pub one_args : (d : ℕ) (ss ts : RawTrees) (u v : List Marked) → Apart LeftPar u → Apart LeftPar v → args_text d ss u ≡ args_text d ts v → (ss ≡ ts) × (u ≡ v)
+  pub one_args : (d : ℕ) (ss ts : RawTrees) (u v : List Marked) → Apart LeftPar u → Apart LeftPar v →
+      args_text d ss u ≡ args_text d ts v → (ss ≡ ts) × (u ≡ v)
   one_args d none none u v hu hv e = (refl, e)
   one_args d none (some t ts) u v hu hv e = absurd (hu None _ e)
   one_args d (some s ss) none u v hu hv e = absurd (hv None _ (sym e))
   one_args d (some s ss) (some t ts) u v hu hv e =
-      let a = one_term (d + 1) (term_mark (d + 1) 0) s t _ _ (more_apart (d + 1) 1 ss u) (more_apart (d + 1) 1 ts v) (tails e) in
+      let a = one_term (d + 1) (term_mark (d + 1) 0) s t _ _ (more_apart (d + 1) 1 ss u)
+      (more_apart (d + 1) 1 ts v) (tails e) in
       let b = one_more (d + 1) 1 ss ts u v a.1 in
       let x : s ≡ t = a.0 in
       let y : ss ≡ ts = b.0 in
       (λ i. some (x i) (y i), b.1)
 
-  pub one_more : (d n : ℕ) (ss ts : RawTrees) (u v : List Marked) → more_text d n ss (sign RightPar ∷ u) ≡ more_text d n ts (sign RightPar ∷ v) → (ss ≡ ts) × (u ≡ v)
+  pub one_more : (d n : ℕ) (ss ts : RawTrees) (u v : List Marked) →
+      more_text d n ss (sign RightPar ∷ u) ≡ more_text d n ts (sign RightPar ∷ v) → (ss ≡ ts) × (u ≡ v)
   one_more d n none none u v e = (refl, tails e)
   one_more d n none (some t ts) u v e = absurd (other RightPar Comma None None _ _ refl e)
   one_more d n (some s ss) none u v e = absurd (other Comma RightPar None None _ _ refl e)
@@ -153,22 +173,36 @@ mutual
       let y : ss ≡ ts = b.0 in
       (λ i. some (x i) (y i), b.1)
 
-one_sides : (m : Option LimitKind) (l r p q : RawTree) (u v : List Marked) → Apart LeftPar u → Apart LeftPar v → sides_text m l r u ≡ sides_text m p q v → (l ≡ p) × (r ≡ q) × (u ≡ v)
+one_sides : (m : Option LimitKind) (l r p q : RawTree) (u v : List Marked) → Apart LeftPar u → Apart LeftPar v →
+    sides_text m l r u ≡ sides_text m p q v → (l ≡ p) × (r ≡ q) × (u ≡ v)
 one_sides m l r p q u v hu hv e =
     let a = one_term 0 m l p _ _ (apart_sign Equals LeftPar _ refl) (apart_sign Equals LeftPar _ refl) e in
     let b = one_term 0 None r q u v hu hv (tails a.1) in
     (a.0, b.0, b.1)
 
 -- constructors and sorts
-no_names : (version i j : ℕ) (es : List RawNames) (w : List Marked) → HeadIn (Sort ∷ after_sorts) w → Apart LeftPar (constructors_text version i j es w)
-no_names version i j es w h = apart_head LeftPar (Bar ∷ Sort ∷ after_sorts) _ (refl, (refl, (refl, (refl, (refl, (refl, (refl, (refl, tt)))))))) (head_constructors version i j es w h)
+no_names : (version i j : ℕ) (es : List RawNames) (w : List Marked) → HeadIn (Sort ∷ after_sorts) w →
+    Apart LeftPar (constructors_text version i j es w)
+no_names version i j es w h = apart_head LeftPar (Bar ∷ Sort ∷ after_sorts) _ (
+  refl,
+  (refl, (refl, (refl, (refl, (refl, (refl, (refl, tt))))))),
+) (head_constructors version i j es w h)
 
-one_constructors : (version k t : ℕ) (cs ds : List RawNames) (u v : List Marked) → HeadIn (Sort ∷ after_sorts) u → HeadIn (Sort ∷ after_sorts) v → constructors_text version k t cs u ≡ constructors_text version k t ds v → (cs ≡ ds) × (u ≡ v)
+one_constructors : (version k t : ℕ) (cs ds : List RawNames) (u v : List Marked) →
+    HeadIn (Sort ∷ after_sorts) u → HeadIn (Sort ∷ after_sorts) v →
+    constructors_text version k t cs u ≡ constructors_text version k t ds v → (cs ≡ ds) × (u ≡ v)
 one_constructors version k t [] [] u v hu hv e = (refl, e)
-one_constructors version k t [] (d ∷ ds) u v hu hv e = absurd (apart_head Bar (Sort ∷ after_sorts) u (refl, (refl, (refl, (refl, (refl, (refl, (refl, tt))))))) hu None _ e)
-one_constructors version k t (c ∷ cs) [] u v hu hv e = absurd (apart_head Bar (Sort ∷ after_sorts) v (refl, (refl, (refl, (refl, (refl, (refl, (refl, tt))))))) hv None _ (sym e))
+one_constructors version k t [] (d ∷ ds) u v hu hv e = absurd (apart_head Bar (Sort ∷ after_sorts) u (
+  refl,
+  (refl, (refl, (refl, (refl, (refl, (refl, tt)))))),
+) hu None _ e)
+one_constructors version k t (c ∷ cs) [] u v hu hv e = absurd (apart_head Bar (Sort ∷ after_sorts) v (
+  refl,
+  (refl, (refl, (refl, (refl, (refl, (refl, tt)))))),
+) hv None _ (sym e))
 one_constructors version k t (c ∷ cs) (d ∷ ds) u v hu hv e =
-    let a = one_con (constructor_mark version k t) c d _ _ (no_names version (k + 1) (t + 1) cs u hu) (no_names version (k + 1) (t + 1) ds v hv) (tails e) in
+    let a = one_con (constructor_mark version k t) c d _ _ (no_names version (k + 1) (t + 1) cs u hu)
+    (no_names version (k + 1) (t + 1) ds v hv) (tails e) in
     let b = one_constructors version (k + 1) (t + 1) cs ds u v hu hv a.1 in
     (both a.0 b.0, b.1)
 
@@ -178,7 +212,8 @@ sort_is s r a b = λ i. record { head = a i; constructors = b i }
 no_sort : (v : List Marked) → HeadIn after_sorts v → Apart Sort v
 no_sort v h = apart_head Sort after_sorts v (refl, (refl, (refl, (refl, (refl, (refl, tt)))))) h
 
-one_sorts : (version n t : ℕ) (ss rs : List RawSort) (w u v : List Marked) → HeadIn after_sorts u → HeadIn after_sorts v → AreSorts version n t ss w u → AreSorts version n t rs w v → (ss ≡ rs) × (u ≡ v)
+one_sorts : (version n t : ℕ) (ss rs : List RawSort) (w u v : List Marked) → HeadIn after_sorts u →
+    HeadIn after_sorts v → AreSorts version n t ss w u → AreSorts version n t rs w v → (ss ≡ rs) × (u ≡ v)
 one_sorts version n t [] [] w u v hu hv a b = (refl, sym a ∙ b)
 one_sorts version n t [] (r ∷ rs) w u v hu hv a b = absurd (no_sort u hu _ _ (sym a ∙ b.4))
 one_sorts version n t (s ∷ ss) [] w u v hu hv a b = absurd (no_sort v hv _ _ (sym b ∙ a.4))
@@ -187,10 +222,13 @@ one_sorts version n t (s ∷ ss) (r ∷ rs) w u v hu hv a b =
     let named = one_name None s.head r.head _ _ e in
     let ha = head_sorts version (n + 1) (t + 1 + length a.1) ss a.2 u hu a.5 in
     let hb = head_sorts version (n + 1) (t + 1 + length b.1) rs b.2 v hv b.5 in
-    let con = one_con (constructor_mark version 0 t) a.0 b.0 _ _ (no_names version 1 (t + 1) a.1 a.2 ha) (no_names version 1 (t + 1) b.1 b.2 hb) (tails named.1) in
+    let con = one_con (constructor_mark version 0 t) a.0 b.0 _ _ (no_names version 1 (t + 1) a.1 a.2 ha)
+    (no_names version 1 (t + 1) b.1 b.2 hb) (tails named.1) in
     let cons = one_constructors version 1 (t + 1) a.1 b.1 a.2 b.2 ha hb con.1 in
     let same : s.constructors ≡ r.constructors = a.3 ∙ both con.0 cons.0 ∙ sym b.3 in
-    let moved : AreSorts version (n + 1) (t + 1 + length a.1) rs a.2 v = subst (λ (x : List Marked). AreSorts version (n + 1) (t + 1 + length a.1) rs x v) (sym cons.1) (subst (λ (cs : List RawNames). AreSorts version (n + 1) (t + 1 + length cs) rs b.2 v) (sym cons.0) b.5) in
+    let moved : AreSorts version (n + 1) (t + 1 + length a.1) rs a.2 v = subst
+    (λ (x : List Marked). AreSorts version (n + 1) (t + 1 + length a.1) rs x v) (sym cons.1)
+    (subst (λ (cs : List RawNames). AreSorts version (n + 1) (t + 1 + length cs) rs b.2 v) (sym cons.0) b.5) in
     let others = one_sorts version (n + 1) (t + 1 + length a.1) ss rs a.2 u v hu hv a.5 moved in
     (both (sort_is s r named.0 same) others.0, others.1)
 
@@ -200,12 +238,14 @@ fun_is f g a b = λ i. record { head = a i; result = b i }
 no_fun : (v : List Marked) → HeadIn after_funs v → Apart Fun v
 no_fun v h = apart_head Fun after_funs v (refl, (refl, (refl, (refl, (refl, tt))))) h
 
-one_funs : (version n : ℕ) (fs gs : List RawFun) (u v : List Marked) → HeadIn after_funs u → HeadIn after_funs v → funs_text version n fs u ≡ funs_text version n gs v → (fs ≡ gs) × (u ≡ v)
+one_funs : (version n : ℕ) (fs gs : List RawFun) (u v : List Marked) → HeadIn after_funs u →
+    HeadIn after_funs v → funs_text version n fs u ≡ funs_text version n gs v → (fs ≡ gs) × (u ≡ v)
 one_funs version n [] [] u v hu hv e = (refl, e)
 one_funs version n [] (g ∷ gs) u v hu hv e = absurd (no_fun u hu _ _ e)
 one_funs version n (f ∷ fs) [] u v hu hv e = absurd (no_fun v hv _ _ (sym e))
 one_funs version n (f ∷ fs) (g ∷ gs) u v hu hv e =
-    let con = one_con None f.head g.head _ _ (apart_sign Colon LeftPar _ refl) (apart_sign Colon LeftPar _ refl) (tails e) in
+    let con = one_con None f.head g.head _ _ (apart_sign Colon LeftPar _ refl) (apart_sign Colon LeftPar _ refl)
+    (tails e) in
     let result = one_name None f.result g.result _ _ (tails con.1) in
     let others = one_funs version (n + 1) fs gs u v hu hv result.1 in
     (both (fun_is f g con.0 result.0) others.0, others.1)
@@ -354,7 +394,8 @@ one_order r q w u v hu hv (a, m, a_equals, a_statuses, a_line) (b, n, b_equals, 
 guard_is : (g h : RawGuard) → g.test ≡ h.test → g.wanted ≡ h.wanted → g ≡ h
 guard_is g h a b = λ i. record { test = a i; wanted = b i }
 
-one_wanted : (b c : Bool) (m n : Option LimitKind) → ◌≡◌ {A = Marked} (Sign (guard_key b), m) (Sign (guard_key c), n) → b ≡ c
+one_wanted : (b c : Bool) (m n : Option LimitKind) →
+    ◌≡◌ {A = Marked} (Sign (guard_key b), m) (Sign (guard_key c), n) → b ≡ c
 one_wanted true true m n e = refl
 one_wanted true false m n e = absurd (apart_keys If Unless refl (ap (λ (x : Marked). x.0) e))
 one_wanted false true m n e = absurd (apart_keys Unless If refl (ap (λ (x : Marked). x.0) e))
@@ -364,10 +405,13 @@ no_guard : (b : Bool) (v : List Marked) → HeadIn (Rule ∷ Goal ∷ []) v → 
 no_guard true v h = apart_head If (Rule ∷ Goal ∷ []) v (refl, (refl, tt)) h
 no_guard false v h = apart_head Unless (Rule ∷ Goal ∷ []) v (refl, (refl, tt)) h
 
-guards_apart : (n : ℕ) (gs : List RawGuard) (v : List Marked) → HeadIn (Rule ∷ Goal ∷ []) v → Apart LeftPar (guards_text n gs v)
-guards_apart n gs v h = apart_head LeftPar (If ∷ Unless ∷ Rule ∷ Goal ∷ []) _ (refl, (refl, (refl, (refl, tt)))) (head_guards n gs v h)
+guards_apart : (n : ℕ) (gs : List RawGuard) (v : List Marked) → HeadIn (Rule ∷ Goal ∷ []) v →
+    Apart LeftPar (guards_text n gs v)
+guards_apart n gs v h = apart_head LeftPar (If ∷ Unless ∷ Rule ∷ Goal ∷ []) _ (refl, (refl, (refl, (refl, tt))))
+    (head_guards n gs v h)
 
-one_guards : (n : ℕ) (gs hs : List RawGuard) (u v : List Marked) → HeadIn (Rule ∷ Goal ∷ []) u → HeadIn (Rule ∷ Goal ∷ []) v → guards_text n gs u ≡ guards_text n hs v → (gs ≡ hs) × (u ≡ v)
+one_guards : (n : ℕ) (gs hs : List RawGuard) (u v : List Marked) → HeadIn (Rule ∷ Goal ∷ []) u →
+    HeadIn (Rule ∷ Goal ∷ []) v → guards_text n gs u ≡ guards_text n hs v → (gs ≡ hs) × (u ≡ v)
 one_guards n [] [] u v hu hv e = (refl, e)
 one_guards n [] (h ∷ hs) u v hu hv e = absurd (no_guard h.wanted u hu _ _ e)
 one_guards n (g ∷ gs) [] u v hu hv e = absurd (no_guard g.wanted v hv _ _ (sym e))
@@ -382,14 +426,16 @@ rule_is r q a b c = λ i. record { left = a i; right = b i; guards = c i }
 no_rule : (v : List Marked) → HeadIn (Goal ∷ []) v → Apart Rule v
 no_rule v h = apart_head Rule (Goal ∷ []) v (refl, tt) h
 
-one_rules : (version n : ℕ) (rs qs : List RawRule) (u v : List Marked) → HeadIn (Goal ∷ []) u → HeadIn (Goal ∷ []) v → rules_text version n rs u ≡ rules_text version n qs v → (rs ≡ qs) × (u ≡ v)
+one_rules : (version n : ℕ) (rs qs : List RawRule) (u v : List Marked) → HeadIn (Goal ∷ []) u →
+    HeadIn (Goal ∷ []) v → rules_text version n rs u ≡ rules_text version n qs v → (rs ≡ qs) × (u ≡ v)
 one_rules version n [] [] u v hu hv e = (refl, e)
 one_rules version n [] (q ∷ qs) u v hu hv e = absurd (no_rule u hu _ _ e)
 one_rules version n (r ∷ rs) [] u v hu hv e = absurd (no_rule v hv _ _ (sym e))
 one_rules version n (r ∷ rs) (q ∷ qs) u v hu hv e =
     let ha = head_rules version (n + 1) rs u hu in
     let hb = head_rules version (n + 1) qs v hv in
-    let s = one_sides None r.left r.right q.left q.right _ _ (guards_apart 0 r.guards _ ha) (guards_apart 0 q.guards _ hb) (tails e) in
+    let s = one_sides None r.left r.right q.left q.right _ _ (guards_apart 0 r.guards _ ha)
+    (guards_apart 0 q.guards _ hb) (tails e) in
     let g = one_guards 0 r.guards q.guards _ _ ha hb s.2 in
     let others = one_rules version (n + 1) rs qs u v hu hv g.1 in
     (both (rule_is r q s.0 s.1 g.0) others.0, others.1)
@@ -398,11 +444,13 @@ one_rules version n (r ∷ rs) (q ∷ qs) u v hu hv e =
 eq_is : (p q : RawEq) → p.left ≡ q.left → p.right ≡ q.right → p ≡ q
 eq_is p q a b = λ i. record { left = a i; right = b i }
 
-one_eq : (m : Option LimitKind) (p q : RawEq) (u v : List Marked) → Apart LeftPar u → Apart LeftPar v → sides_text m p.left p.right u ≡ sides_text m q.left q.right v → (p ≡ q) × (u ≡ v)
+one_eq : (m : Option LimitKind) (p q : RawEq) (u v : List Marked) → Apart LeftPar u → Apart LeftPar v →
+    sides_text m p.left p.right u ≡ sides_text m q.left q.right v → (p ≡ q) × (u ≡ v)
 one_eq m p q u v hu hv e = let s = one_sides m p.left p.right q.left q.right u v hu hv e in (eq_is p q s.0 s.1, s.2)
 
 -- an equation begins with a name
-sides_word : (k : Key) (m n : Option LimitKind) (l r : RawTree) (u v : List Marked) → sides_text m l r u ≡ (Sign k, n) ∷ v → ⊥
+sides_word : (k : Key) (m n : Option LimitKind) (l r : RawTree) (u v : List Marked) →
+    sides_text m l r u ≡ (Sign k, n) ∷ v → ⊥
 sides_word k m n (word b a ts) r u v e = word_sign (ap (λ (x : Marked). x.0) (heads e))
 
 goal_apart : (k : Key) (v : List Marked) → (key_code Goal == key_code k) ≡ false → HeadIn (Goal ∷ []) v → Apart k v
@@ -411,7 +459,8 @@ goal_apart k v f h = apart_head k (Goal ∷ []) v (f, tt) h
 bars_apart : (n : ℕ) (es : List RawEq) (v : List Marked) → HeadIn (Goal ∷ []) v → Apart LeftPar (bars_text n es v)
 bars_apart n es v h = apart_head LeftPar (Bar ∷ Goal ∷ []) _ (refl, (refl, tt)) (head_bars n es v h)
 
-one_bars : (n : ℕ) (es qs : List RawEq) (u v : List Marked) → HeadIn (Goal ∷ []) u → HeadIn (Goal ∷ []) v → bars_text n es u ≡ bars_text n qs v → (es ≡ qs) × (u ≡ v)
+one_bars : (n : ℕ) (es qs : List RawEq) (u v : List Marked) → HeadIn (Goal ∷ []) u → HeadIn (Goal ∷ []) v →
+    bars_text n es u ≡ bars_text n qs v → (es ≡ qs) × (u ≡ v)
 one_bars n [] [] u v hu hv e = (refl, e)
 one_bars n [] (q ∷ qs) u v hu hv e = absurd (goal_apart Bar u refl hu _ _ e)
 one_bars n (p ∷ es) [] u v hu hv e = absurd (goal_apart Bar v refl hv _ _ (sym e))
@@ -420,7 +469,8 @@ one_bars n (p ∷ es) (q ∷ qs) u v hu hv e =
     let b = one_bars (n + 1) es qs u v hu hv a.1 in
     (both a.0 b.0, b.1)
 
-goal_word : (q : RawEq) (m : Option LimitKind) (x v : List Marked) → HeadIn (Goal ∷ []) v → v ≡ sides_text m q.left q.right x → ⊥
+goal_word : (q : RawEq) (m : Option LimitKind) (x v : List Marked) → HeadIn (Goal ∷ []) v →
+    v ≡ sides_text m q.left q.right x → ⊥
 goal_word q m x [] h e = no_sides q.left e
   where
     no_sides : (l : RawTree) → [] ≡ sides_text m l q.right x → ⊥
@@ -428,7 +478,8 @@ goal_word q m x [] h e = no_sides q.left e
 goal_word q m x (y ∷ v) (inl g) e = sides_word Goal m y.1 q.left q.right x v (sym e ∙ ap (λ (z : Item). (z, y.1) ∷ v) g)
 goal_word q m x (y ∷ v) (inr h) e = h
 
-one_conclusions : (cs ds : List RawEq) (u v : List Marked) → HeadIn (Goal ∷ []) u → HeadIn (Goal ∷ []) v → conclusions_text cs u ≡ conclusions_text ds v → (cs ≡ ds) × (u ≡ v)
+one_conclusions : (cs ds : List RawEq) (u v : List Marked) → HeadIn (Goal ∷ []) u → HeadIn (Goal ∷ []) v →
+    conclusions_text cs u ≡ conclusions_text ds v → (cs ≡ ds) × (u ≡ v)
 one_conclusions [] [] u v hu hv e = (refl, e)
 one_conclusions [] (q ∷ qs) u v hu hv e = absurd (goal_word q _ _ u hu e)
 one_conclusions (p ∷ ps) [] u v hu hv e = absurd (goal_word p _ _ v hv (sym e))
@@ -441,7 +492,8 @@ commas_apart : (n : ℕ) (es : List RawEq) (u : List Marked) → Apart LeftPar (
 commas_apart n [] u = apart_sign Arrow LeftPar u refl
 commas_apart n (e ∷ es) u = apart_sign Comma LeftPar _ refl
 
-one_commas : (n : ℕ) (es qs : List RawEq) (u v : List Marked) → commas_text n es (sign Arrow ∷ u) ≡ commas_text n qs (sign Arrow ∷ v) → (es ≡ qs) × (u ≡ v)
+one_commas : (n : ℕ) (es qs : List RawEq) (u v : List Marked) →
+    commas_text n es (sign Arrow ∷ u) ≡ commas_text n qs (sign Arrow ∷ v) → (es ≡ qs) × (u ≡ v)
 one_commas n [] [] u v e = (refl, tails e)
 one_commas n [] (q ∷ qs) u v e = absurd (other Arrow Comma None None _ _ refl e)
 one_commas n (p ∷ es) [] u v e = absurd (other Comma Arrow None None _ _ refl e)
@@ -450,7 +502,8 @@ one_commas n (p ∷ es) (q ∷ qs) u v e =
     let b = one_commas (n + 1) es qs u v a.1 in
     (both a.0 b.0, b.1)
 
-one_premises : (ps qs : List RawEq) (u v : List Marked) → premises_text ps (sign Arrow ∷ u) ≡ premises_text qs (sign Arrow ∷ v) → (ps ≡ qs) × (u ≡ v)
+one_premises : (ps qs : List RawEq) (u v : List Marked) →
+    premises_text ps (sign Arrow ∷ u) ≡ premises_text qs (sign Arrow ∷ v) → (ps ≡ qs) × (u ≡ v)
 one_premises [] [] u v e = (refl, tails e)
 one_premises [] (q ∷ qs) u v e = absurd (sides_word Arrow _ _ q.left q.right _ _ (sym e))
 one_premises (p ∷ ps) [] u v e = absurd (sides_word Arrow _ _ p.left p.right _ _ e)
@@ -460,20 +513,23 @@ one_premises (p ∷ ps) (q ∷ qs) u v e =
     (both a.0 b.0, b.1)
 
 -- premises have their arrow, conclusions alone have none
-commas_bars : (n k : ℕ) (es qs : List RawEq) (u v : List Marked) → HeadIn (Goal ∷ []) v → commas_text n es (sign Arrow ∷ u) ≡ bars_text k qs v → ⊥
+commas_bars : (n k : ℕ) (es qs : List RawEq) (u v : List Marked) → HeadIn (Goal ∷ []) v →
+    commas_text n es (sign Arrow ∷ u) ≡ bars_text k qs v → ⊥
 commas_bars n k [] [] u v h e = goal_apart Arrow v refl h _ _ (sym e)
 commas_bars n k [] (q ∷ qs) u v h e = other Arrow Bar None None _ _ refl e
 commas_bars n k (p ∷ es) [] u v h e = goal_apart Comma v refl h _ _ (sym e)
 commas_bars n k (p ∷ es) (q ∷ qs) u v h e = other Comma Bar None None _ _ refl e
 
-arrow_or_not : (ps cs : List RawEq) (u v : List Marked) → cs ≢ [] → HeadIn (Goal ∷ []) v → premises_text ps (sign Arrow ∷ u) ≡ conclusions_text cs v → ⊥
+arrow_or_not : (ps cs : List RawEq) (u v : List Marked) → cs ≢ [] → HeadIn (Goal ∷ []) v →
+    premises_text ps (sign Arrow ∷ u) ≡ conclusions_text cs v → ⊥
 arrow_or_not ps [] u v n h e = n refl
 arrow_or_not [] (c ∷ cs) u v n h e = sides_word Arrow _ _ c.left c.right _ _ (sym e)
 arrow_or_not (p ∷ ps) (c ∷ cs) u v n h e =
     let a = one_eq (premise_mark 0) p c _ _ (commas_apart 1 ps u) (bars_apart 1 cs v h) e in
     commas_bars 1 1 ps cs u v h a.1
 
-one_clause : (ps cs qs ds : List RawEq) (w u v : List Marked) → HeadIn (Goal ∷ []) u → HeadIn (Goal ∷ []) v → IsClause ps cs w u → IsClause qs ds w v → (ps ≡ qs) × (cs ≡ ds) × (u ≡ v)
+one_clause : (ps cs qs ds : List RawEq) (w u v : List Marked) → HeadIn (Goal ∷ []) u → HeadIn (Goal ∷ []) v →
+    IsClause ps cs w u → IsClause qs ds w v → (ps ≡ qs) × (cs ≡ ds) × (u ≡ v)
 one_clause ps cs qs ds w u v hu hv (inl a) (inl b) =
     let p = one_premises ps qs _ _ (sym a ∙ b) in
     let c = one_conclusions cs ds u v hu hv p.1 in
@@ -488,13 +544,15 @@ one_clause ps cs qs ds w u v hu hv (inr a) (inr b) =
 bind_is : (b c : RawBind) → b.name ≡ c.name → b.sort ≡ c.sort → b ≡ c
 bind_is b c x y = λ i. record { name = x i; sort = y i }
 
-one_bind : (m : Option LimitKind) (b c : RawBind) (u v : List Marked) → bind_text m b u ≡ bind_text m c v → (b ≡ c) × (u ≡ v)
+one_bind : (m : Option LimitKind) (b c : RawBind) (u v : List Marked) → bind_text m b u ≡ bind_text m c v →
+    (b ≡ c) × (u ≡ v)
 one_bind m b c u v e =
     let n = one_name m b.name c.name _ _ e in
     let s = one_name None b.sort c.sort _ _ (tails n.1) in
     (bind_is b c n.0 s.0, s.1)
 
-one_more_binds : (n : ℕ) (bs cs : List RawBind) (u v : List Marked) → more_binds_text n bs (sign RightPar ∷ u) ≡ more_binds_text n cs (sign RightPar ∷ v) → (bs ≡ cs) × (u ≡ v)
+one_more_binds : (n : ℕ) (bs cs : List RawBind) (u v : List Marked) →
+    more_binds_text n bs (sign RightPar ∷ u) ≡ more_binds_text n cs (sign RightPar ∷ v) → (bs ≡ cs) × (u ≡ v)
 one_more_binds n [] [] u v e = (refl, tails e)
 one_more_binds n [] (c ∷ cs) u v e = absurd (other RightPar Comma None None _ _ refl e)
 one_more_binds n (b ∷ bs) [] u v e = absurd (other Comma RightPar None None _ _ refl e)
@@ -503,7 +561,8 @@ one_more_binds n (b ∷ bs) (c ∷ cs) u v e =
     let y = one_more_binds (n + 1) bs cs u v x.1 in
     (both x.0 y.0, y.1)
 
-one_binds : (bs cs : List RawBind) (u v : List Marked) → binds_text bs (sign Colon ∷ u) ≡ binds_text cs (sign Colon ∷ v) → (bs ≡ cs) × (u ≡ v)
+one_binds : (bs cs : List RawBind) (u v : List Marked) →
+    binds_text bs (sign Colon ∷ u) ≡ binds_text cs (sign Colon ∷ v) → (bs ≡ cs) × (u ≡ v)
 one_binds [] [] u v e = (refl, tails e)
 one_binds [] (c ∷ cs) u v e = absurd (other Colon LeftPar None None _ _ refl e)
 one_binds (b ∷ bs) [] u v e = absurd (other LeftPar Colon None None _ _ refl e)
@@ -512,7 +571,8 @@ one_binds (b ∷ bs) (c ∷ cs) u v e =
     let y = one_more_binds 1 bs cs _ _ x.1 in
     (both x.0 y.0, tails y.1)
 
-goal_is : (g h : RawGoal) → g.head ≡ h.head → g.binds ≡ h.binds → g.premises ≡ h.premises → g.conclusions ≡ h.conclusions → g ≡ h
+goal_is : (g h : RawGoal) → g.head ≡ h.head → g.binds ≡ h.binds → g.premises ≡ h.premises →
+    g.conclusions ≡ h.conclusions → g ≡ h
 goal_is g h a b c d = λ i. record { head = a i; binds = b i; premises = c i; conclusions = d i }
 
 one_goals : (n : ℕ) (gs hs : List RawGoal) (w : List Marked) → AreGoals n gs w [] → AreGoals n hs w [] → gs ≡ hs
@@ -522,12 +582,26 @@ one_goals n (g ∷ gs) [] w a b = absurd (nil_cons (sym b ∙ a.2))
 one_goals n (g ∷ gs) (h ∷ hs) w a b =
     let named = one_name None g.head h.head _ _ (tails (sym a.2 ∙ b.2)) in
     let bound = one_binds g.binds h.binds a.0 b.0 named.1 in
-    let body = one_clause g.premises g.conclusions h.premises h.conclusions a.0 a.1 b.1 (head_goals (n + 1) gs a.1 a.4) (head_goals (n + 1) hs b.1 b.4) a.3 (subst (λ (x : List Marked). IsClause h.premises h.conclusions x b.1) (sym bound.1) b.3) in
-    let others = one_goals (n + 1) gs hs a.1 a.4 (subst (λ (x : List Marked). AreGoals (n + 1) hs x []) (sym body.2) b.4) in
+    let body = one_clause g.premises g.conclusions h.premises h.conclusions a.0 a.1 b.1
+    (head_goals (n + 1) gs a.1 a.4) (head_goals (n + 1) hs b.1 b.4) a.3
+    (subst (λ (x : List Marked). IsClause h.premises h.conclusions x b.1) (sym bound.1) b.3) in
+    let others = one_goals (n + 1) gs hs a.1 a.4 (subst (λ (x : List Marked). AreGoals (n + 1) hs x [])
+    (sym body.2) b.4) in
     both (goal_is g h named.0 bound.0 body.0 body.1) others
 
-spec_is : (r q : RawSpec) → r.version ≡ q.version → r.sorts ≡ q.sorts → r.funs ≡ q.funs → r.equals ≡ q.equals → r.statuses ≡ q.statuses → r.order ≡ q.order → r.rules ≡ q.rules → r.goals ≡ q.goals → r ≡ q
-spec_is r q n a b e t o c d = λ i. record { version = n i; sorts = a i; funs = b i; equals = e i; statuses = t i; order = o i; rules = c i; goals = d i }
+spec_is : (r q : RawSpec) → r.version ≡ q.version → r.sorts ≡ q.sorts → r.funs ≡ q.funs → r.equals ≡ q.equals →
+    r.statuses ≡ q.statuses → r.order ≡ q.order → r.rules ≡ q.rules → r.goals ≡ q.goals → r ≡ q
+spec_is r q n a b e t o c d = λ i. record {
+  version = n i;
+  sorts = a i;
+  funs = b i;
+  equals = e i;
+  statuses = t
+      i;
+  order = o i;
+  rules = c i;
+  goals = d i;
+}
 
 -- the texts of the declarations of a format: its sorts and functions, and its lines that order these
 abbrev HasDeclarations : ℕ → RawSpec → List Marked → List Marked → List Marked → Type 0

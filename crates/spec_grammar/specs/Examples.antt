@@ -1,6 +1,7 @@
 -- Small texts and faults.
 use Rattle.std.specs.Prelude.{◌≡◌, ℕ, zero, suc, List, [], ◌∷◌, ◌++◌, Option, Some, None, codes}
-use Rattle.spec_grammar.specs.declared.keys.Key.TheVariants.{Spike, Goal, Equal, Status, Order, LeftPar, RightPar, Comma, Colon, Equals, Arrow}
+use Rattle.spec_grammar.specs.declared.keys.Key.TheVariants.{Spike, Goal, Equal, Status, Order, LeftPar, RightPar}
+use Rattle.spec_grammar.specs.declared.keys.Key.TheVariants.{Comma, Colon, Equals, Arrow}
 use Rattle.spec_grammar.specs.declared.limits.LimitKind.TheVariants as limit
 use Rattle.spec_grammar.specs.declared.raw.RawEq.{RawEq}
 use Rattle.spec_grammar.specs.declared.raw.RawEqual.{RawEqual}

@@ -5,7 +5,9 @@ use Rattle.spec_text.specs.declared.tokens.Token.{Token}
 use Rattle.spec_text.specs.declared.tokens.TokenKind.{TokenKind}
 use Rattle.spec_text.specs.declared.tokens.TokenKind.TheVariants as kinds
 use Rattle.spec_grammar.specs.declared.keys.Key.{Key}
-use Rattle.spec_grammar.specs.declared.keys.Key.TheVariants.{Spike, Sort, Fun, Rule, Goal, If, Unless, Equal, Status, Order, LeftPar, RightPar, Comma, Colon, Equals, Bar, Arrow, Stray}
+use Rattle.spec_grammar.specs.declared.keys.Key.TheVariants.{Spike, Sort, Fun, Rule, Goal, If, Unless, Equal, Status}
+use Rattle.spec_grammar.specs.declared.keys.Key.TheVariants.{Order, LeftPar, RightPar, Comma, Colon, Equals, Bar}
+use Rattle.spec_grammar.specs.declared.keys.Key.TheVariants.{Arrow, Stray}
 
 pub data Item : Type 0 where
   Word : List ℕ → ℕ → Item

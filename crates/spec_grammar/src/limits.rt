@@ -2,7 +2,8 @@
 //! each.
 
 ghost use Rattle.std.specs.Prelude.{◌≡◌};
-ghost use Rattle.spec_grammar.specs.Limits.{file_limit as most_bytes, most_constructors, most_functions, most_rules};
+ghost use Rattle.spec_grammar.specs.Limits.{file_limit as most_bytes, most_constructors};
+ghost use Rattle.spec_grammar.specs.Limits.{most_functions, most_rules};
 
 use std::fmt;
 

@@ -38,7 +38,8 @@ pub struct RawEqual {
     pub names: Seq<RawName>,
 }
 
-/// `status HEAD(2, 1)`: the numbers of the arguments, from 1, in the order in which they are compared.
+/// `status HEAD(2, 1)`: the numbers of the arguments, from 1, in the order in which they are
+/// compared.
 #[derive(Drop)]
 pub struct RawStatus {
     pub head: RawName,

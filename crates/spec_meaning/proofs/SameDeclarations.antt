@@ -14,8 +14,13 @@ use Rattle.spec_grammar.specs.declared.raw.RawSort.{RawSort}
 use Rattle.spec_grammar.specs.declared.raw.RawFun.{RawFun}
 use Rattle.spec_grammar.specs.declared.raw.RawSpec.{RawSpec}
 use Rattle.spec_printing.specs.SamePlaces.{SameName, SameNames, SameSort, SameFun, IsSameButPlaces}
-use Rattle.sort_check.specs.Signatures.{sort_names, SortStands, ConstructorStands, ConstructorsStand, FunctionStands, SignatureStands}
-use Rattle.sort_check.specs.DeclarationTests.{sorts_tests, sort_test, symbol_tests, constructors_tests, all_constructors_tests, functions_tests, small_tests, sort_number, constructor_of, constructors_of, function_of, all_sorts, all_constructors, values_sig, sig_of, boolean_names, constructor_names, declarations_tests}
+use Rattle.sort_check.specs.Signatures.{sort_names, SortStands, ConstructorStands, ConstructorsStand, FunctionStands}
+use Rattle.sort_check.specs.Signatures.{SignatureStands}
+use Rattle.sort_check.specs.DeclarationTests.{sorts_tests, sort_test, symbol_tests, constructors_tests}
+use Rattle.sort_check.specs.DeclarationTests.{all_constructors_tests, functions_tests, small_tests, sort_number}
+use Rattle.sort_check.specs.DeclarationTests.{constructor_of, constructors_of, function_of, all_sorts}
+use Rattle.sort_check.specs.DeclarationTests.{all_constructors, values_sig, sig_of, boolean_names, constructor_names}
+use Rattle.sort_check.specs.DeclarationTests.{declarations_tests}
 
 -- Lists whose elements are the same place by place.
 

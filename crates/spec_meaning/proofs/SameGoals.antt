@@ -1,6 +1,7 @@
 -- Goals that are the same apart from places: they stand for the same goals, and their tests find
 -- something in both or in neither.
-use Rattle.std.proofs.Common.{◌≡◌, ℕ, zero, suc, ◌+◌, inl, inr, List, [], ◌∷◌, ◌++◌, Option, Some, None, length, take, drop, refl, ap, sym, ◌∙◌, subst, arith}
+use Rattle.std.proofs.Common.{◌≡◌, ℕ, zero, suc, ◌+◌, inl, inr, List, [], ◌∷◌, ◌++◌, Option, Some, None, length, take}
+use Rattle.std.proofs.Common.{drop, refl, ap, sym, ◌∙◌, subst, arith}
 use Rattle.std.specs.Prelude.{map, option_map, position}
 use Rattle.std.specs.List.{AllZip, AllByRecursion, slice_set}
 use Rattle.std.specs.Str.{bytes_eq}
@@ -24,12 +25,19 @@ use Rattle.sort_check.specs.Words.{entries_after}
 use Rattle.sort_check.specs.Occurrence.{names_after, names_after_sides}
 use Rattle.sort_check.specs.Terms.{EquationStands}
 use Rattle.sort_check.specs.Goals.{goal_names, VariableStands, GoalStands}
-use Rattle.sort_check.specs.Inference.{IsBareVariable, HasResult, IsTaken, IsAnyTaken, IsEquation, Gets, bound as bound_gets, left_argument, right_argument, left_side, right_side, as_right, as_left}
-use Rattle.sort_check.specs.GoalTests.{bind_names, seventeenth_test, inferred_tests, wanted, number_of, with_pair, rounds, equations_of, in_turn, left_by, bind_tests, bound, own_sort, sides_tests, after_sides, opposed_tests, after_opposed, opposite_tests, after_opposite, pair_of, pairs_in, opposed_by, inferred, sorts_tests, equations_tests, goal_tests}
+use Rattle.sort_check.specs.Inference.{IsBareVariable, HasResult, IsTaken, IsAnyTaken, IsEquation, Gets}
+use Rattle.sort_check.specs.Inference.{bound as bound_gets, left_argument, right_argument, left_side, right_side}
+use Rattle.sort_check.specs.Inference.{as_right, as_left}
+use Rattle.sort_check.specs.GoalTests.{bind_names, seventeenth_test, inferred_tests, wanted, number_of, with_pair}
+use Rattle.sort_check.specs.GoalTests.{rounds, equations_of, in_turn, left_by, bind_tests, bound, own_sort}
+use Rattle.sort_check.specs.GoalTests.{sides_tests, after_sides, opposed_tests, after_opposed, opposite_tests}
+use Rattle.sort_check.specs.GoalTests.{after_opposite, pair_of, pairs_in, opposed_by, inferred, sorts_tests}
+use Rattle.sort_check.specs.GoalTests.{equations_tests, goal_tests}
 use Rattle.sort_check.specs.declared.faults.SortFault.{SortFault}
 use Rattle.sort_check.specs.declared.faults.SortKind.TheVariants.{WrongSort}
 use Rattle.spec_meaning.proofs.SortCheckTypes.{Entry, Pair, goal_part}
-use Rattle.spec_meaning.proofs.SameWords.{Alike, goal_placeless, named_alike, long_alike, term_stands, same_names_after, after_alike, clean_term}
+use Rattle.spec_meaning.proofs.SameWords.{Alike, goal_placeless, named_alike, long_alike, term_stands}
+use Rattle.spec_meaning.proofs.SameWords.{same_names_after, after_alike, clean_term}
 use Rattle.spec_meaning.proofs.SameDeclarations.{same_map, same_zip, same_each_after}
 
 -- Lists.

@@ -1,6 +1,7 @@
 -- Lines that give an order and are the same apart from places: their tests find something in both or
 -- in neither, and they give the same levels and statuses, or the same weights.
-use Rattle.std.proofs.Common.{◌≡◌, ◌≢◌, ◌∙◌, ◌≤◌, ◌⊎◌, inl, inr, ℕ, List, [], ◌∷◌, ◌++◌, Option, Some, None, refl, ap, sym, subst}
+use Rattle.std.proofs.Common.{◌≡◌, ◌≢◌, ◌∙◌, ◌≤◌, ◌⊎◌, inl, inr, ℕ, List, [], ◌∷◌, ◌++◌, Option, Some, None, refl, ap}
+use Rattle.std.proofs.Common.{sym, subst}
 use Rattle.std.specs.Prelude.{map, if◌then◌else◌, ◌==◌, IsTrue}
 use Rattle.std.specs.List.{AllZip}
 use Rattle.spec_core.specs.Sig.{Sig}
@@ -14,8 +15,11 @@ use Rattle.spec_grammar.specs.declared.raw.RawWeight.{RawWeight}
 use Rattle.spec_grammar.specs.declared.raw.RawOrder.{RawOrder}
 use Rattle.spec_grammar.specs.declared.raw.RawSpec.{RawSpec}
 use Rattle.spec_printing.specs.SamePlaces.{SameName, SameEqual, SameStatus, SameWeight, SameOrder, IsSameButPlaces}
-use Rattle.sort_check.specs.Orders.{is_among, greatest, symbol_number, symbol_numbers, level_in, status_in, weight_in, all_numbers, OrderStands}
-use Rattle.sort_check.specs.OrderTests.{names_in, heads_of, weighed_names, arity, function_tests, IsUnlikeFirst, name_tests, equal_tests, IsOrderOfArguments, status_tests, weight_tests, order_line_tests, order_tests}
+use Rattle.sort_check.specs.Orders.{is_among, greatest, symbol_number, symbol_numbers, level_in, status_in, weight_in}
+use Rattle.sort_check.specs.Orders.{all_numbers, OrderStands}
+use Rattle.sort_check.specs.OrderTests.{names_in, heads_of, weighed_names, arity, function_tests, IsUnlikeFirst}
+use Rattle.sort_check.specs.OrderTests.{name_tests, equal_tests, IsOrderOfArguments, status_tests, weight_tests}
+use Rattle.sort_check.specs.OrderTests.{order_line_tests, order_tests}
 use Rattle.sort_check.specs.Words.{symbol_named}
 use Rattle.sort_check.specs.declared.faults.SortKind.{SortKind}
 use Rattle.sort_check.specs.declared.faults.SortKind.TheVariants.{EqualTwice, StatusTwice}

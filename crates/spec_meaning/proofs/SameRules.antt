@@ -1,6 +1,7 @@
 -- Rules that are the same apart from places: they stand for the same rules, and their tests find
 -- something in both or in neither.
-use Rattle.std.proofs.Common.{◌≡◌, ℕ, ◌+◌, ◌<◌, ◌≤◌, List, [], ◌∷◌, Option, Some, None, length, refl, ap, sym, ◌∙◌, subst}
+use Rattle.std.proofs.Common.{◌≡◌, ℕ, ◌+◌, ◌<◌, ◌≤◌, List, [], ◌∷◌, Option, Some, None, length, refl, ap, sym, ◌∙◌}
+use Rattle.std.proofs.Common.{subst}
 use Rattle.std.specs.Prelude.{Bool, cond}
 use Rattle.std.specs.List.{AllZip, fold}
 use Rattle.term_core.specs.declared.ids.SortId.{SortId}
@@ -17,10 +18,12 @@ use Rattle.spec_grammar.specs.declared.raw.RawRule.{RawRule}
 use Rattle.spec_printing.specs.SamePlaces.{SameTerm, SameTerms, SameGuard, SameRule}
 use Rattle.sort_check.specs.Words.{count, symbol_named, info_at, entries_after_all}
 use Rattle.sort_check.specs.Rules.{GuardStands, RuleStands}
-use Rattle.sort_check.specs.RuleTests.{has_root, rules_of, root_tests, guard_tests, body_tests, inner_tests, left_tests, rule_tests}
+use Rattle.sort_check.specs.RuleTests.{has_root, rules_of, root_tests, guard_tests, body_tests, inner_tests}
+use Rattle.sort_check.specs.RuleTests.{left_tests, rule_tests}
 use Rattle.spec_meaning.proofs.SortCheckTypes.{Entry, left_part, right_part}
 use Rattle.sort_check.specs.declared.faults.SortKind.TheVariants.{WrongSort, GuardNotBool}
-use Rattle.spec_meaning.proofs.SameWords.{Alike, left_placeless, right_placeless, alike_self, term_stands, same_count, same_words, all_after_alike, clean_term, clean_terms}
+use Rattle.spec_meaning.proofs.SameWords.{Alike, left_placeless, right_placeless, alike_self, term_stands, same_count}
+use Rattle.spec_meaning.proofs.SameWords.{same_words, all_after_alike, clean_term, clean_terms}
 use Rattle.spec_meaning.proofs.SameDeclarations.{same_zip, same_each_after}
 
 same_root : (name : List ℕ) (t u : RawTree) → SameTerm t u → has_root name t ≡ has_root name u

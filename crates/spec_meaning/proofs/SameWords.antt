@@ -1,7 +1,8 @@
 -- Terms that are the same apart from places: they stand for the same terms, the same variables come
 -- after them, and a test finds something in both or in neither. The first of two is described by the
 -- second.
-use Rattle.std.proofs.Common.{◌≡◌, ℕ, ◌+◌, ◌≤◌, List, [], ◌∷◌, ◌++◌, Option, Some, None, length, refl, ap, sym, ◌∙◌, subst}
+use Rattle.std.proofs.Common.{◌≡◌, ℕ, ◌+◌, ◌≤◌, List, [], ◌∷◌, ◌++◌, Option, Some, None, length, refl, ap, sym, ◌∙◌}
+use Rattle.std.proofs.Common.{subst}
 use Rattle.std.specs.Prelude.{position, slice_get}
 use Rattle.std.specs.List.{slice_set}
 use Rattle.std.specs.Str.{bytes_eq}
@@ -15,10 +16,13 @@ use Rattle.spec_core.proofs.Names.{position-map}
 use Rattle.spec_grammar.specs.RawTree.{RawTree, RawTrees, word, none as no_raws, some as more_raws}
 use Rattle.spec_grammar.specs.Sizes.{words, words_all}
 use Rattle.spec_printing.specs.SamePlaces.{SameTerm, SameTerms}
-use Rattle.sort_check.specs.Entries.{entry_named, entry_names, known_sorts, sort_at, sort_so_far, given, with_variable, Differ}
+use Rattle.sort_check.specs.Entries.{entry_named, entry_names, known_sorts, sort_at, sort_so_far, given, with_variable}
+use Rattle.sort_check.specs.Entries.{Differ}
 use Rattle.sort_check.specs.Occurrence.{after_word as names_after_word, names_after, names_after_all}
 use Rattle.sort_check.specs.Terms.{TermStands, TermsStand}
-use Rattle.sort_check.specs.Words.{count, variable_tests, other_tests, symbol_named, info_at, after_word, entries_after, entries_after_all, pattern_test, place_test, symbol_tests, word_tests, term_tests, terms_tests}
+use Rattle.sort_check.specs.Words.{count, variable_tests, other_tests, symbol_named, info_at, after_word}
+use Rattle.sort_check.specs.Words.{entries_after, entries_after_all, pattern_test, place_test, symbol_tests}
+use Rattle.sort_check.specs.Words.{word_tests, term_tests, terms_tests}
 use Rattle.spec_meaning.proofs.SortCheckTypes.{Entry, Part, left_part, right_part, goal_part}
 use Rattle.sort_check.specs.declared.faults.SortFault.{SortFault}
 use Rattle.sort_check.specs.declared.faults.SortKind.{SortKind}

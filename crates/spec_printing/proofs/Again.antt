@@ -31,10 +31,15 @@ plain_reads_back raw w plain good =
     let are : AreTokens text tokens = written_tokens ws (codes "\n") (pieces_sound true w good) (refl, tt) in
     let moved : Moved w (clean (items_of text tokens)) = pieces_moved w true [] (codes "\n") text 0 good refl refl in
     let m = spec_moves raw w (clean (items_of text tokens)) plain moved in
-    let derives : TextDerives IsSpecText text m.0 = (tokens, are, plain_is_text m.0 (clean (items_of text tokens)) m.1) in
+    let derives : TextDerives IsSpecText text m.0 = (
+      tokens,
+      are,
+      plain_is_text m.0 (clean (items_of text tokens)) m.1,
+    ) in
     (m.0, subst (λ (bytes : List ℕ). TextDerives IsSpecText bytes m.0) (sym (printed_is raw w plain)) derives, m.2)
 
-pub reads_back : (bytes : List ℕ) (raw : RawSpec) → TextDerives IsSpecText bytes raw → (again : RawSpec) × TextDerives IsSpecText (printed raw) again × IsSameButPlaces again raw
+pub reads_back : (bytes : List ℕ) (raw : RawSpec) → TextDerives IsSpecText bytes raw →
+    (again : RawSpec) × TextDerives IsSpecText (printed raw) again × IsSameButPlaces again raw
 reads_back bytes raw h =
     let spans = spans_hold bytes h.0 h.1 in
     let plain = plain_text raw (clean (items_of bytes h.0)) h.2 (tokens_good bytes h.0 spans.spelled) in

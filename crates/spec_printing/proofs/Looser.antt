@@ -4,7 +4,8 @@ use Rattle.std.specs.Prelude.{if◌then◌else◌}
 use Rattle.std.proofs.lemmas.Bool.{leb-true, leb-false}
 use Rattle.spec_grammar.specs.declared.limits.LimitKind.{LimitKind}
 use Rattle.spec_grammar.specs.declared.limits.LimitKind.TheVariants as limit
-use Rattle.spec_grammar.specs.Limits.{most_constructors, most_functions, most_rules, over, or_else, name_mark, constructor_mark, fun_mark, rule_mark}
+use Rattle.spec_grammar.specs.Limits.{most_constructors, most_functions, most_rules, over, or_else, name_mark}
+use Rattle.spec_grammar.specs.Limits.{constructor_mark, fun_mark, rule_mark}
 
 -- what has no mark in the first place has none in the second
 abbrev pub StaysClean : Option LimitKind → Option LimitKind → Type 0

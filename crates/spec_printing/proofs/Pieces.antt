@@ -1,5 +1,6 @@
 -- The pieces that the printed form writes of marked tokens: a gap depends on the token and on the one before it.
-use Rattle.std.proofs.Common.{◌≡◌, ℕ, ◌+◌, ◌<◌, ◌^◌, List, [], ◌∷◌, ◌++◌, Bool, true, false, ◌&&◌, Option, Some, None, length, take, drop, refl, ap, sym, subst, ◌∙◌, append_assoc, length-append, arith, lit<}
+use Rattle.std.proofs.Common.{◌≡◌, ℕ, ◌+◌, ◌<◌, ◌^◌, List, [], ◌∷◌, ◌++◌, Bool, true, false, ◌&&◌, Option, Some, None}
+use Rattle.std.proofs.Common.{length, take, drop, refl, ap, sym, subst, ◌∙◌, append_assoc, length-append, arith, lit<}
 use Rattle.std.specs.Prelude.{◌==◌, ◌||◌, IsTrue, codes, nat_lt}
 use Rattle.std.specs.Char.{is_ascii_alphabetic, is_ascii_alphanumeric}
 use Rattle.std.specs.List.{AllByRecursion}
@@ -21,7 +22,9 @@ use Rattle.spec_text.specs.declared.tokens.TokenKind.{TokenKind}
 use Rattle.spec_text.specs.declared.tokens.TokenKind.TheVariants as kinds
 use Rattle.spec_text.proofs.WrittenLemmas.{word_sound, sign_sound, number_sound}
 use Rattle.spec_grammar.specs.declared.keys.Key.{Key}
-use Rattle.spec_grammar.specs.declared.keys.Key.TheVariants.{Spike, Sort, Fun, Rule, Goal, If, Unless, Equal, Status, Order, LeftPar, RightPar, Comma, Colon, Equals, Bar, Arrow, Stray}
+use Rattle.spec_grammar.specs.declared.keys.Key.TheVariants.{Spike, Sort, Fun, Rule, Goal, If, Unless, Equal, Status}
+use Rattle.spec_grammar.specs.declared.keys.Key.TheVariants.{Order, LeftPar, RightPar, Comma, Colon, Equals, Bar}
+use Rattle.spec_grammar.specs.declared.keys.Key.TheVariants.{Arrow, Stray}
 use Rattle.spec_grammar.specs.declared.limits.LimitKind.{LimitKind}
 use Rattle.spec_grammar.specs.Items.{Item, Word, Sign, Number, reserved, key_or_name, item_as, items_of, text_of}
 use Rattle.spec_grammar.specs.Grammar.{Marked}
@@ -78,7 +81,8 @@ opens (Number n) = false
 
 abbrev pub pieces : Bool → List Marked → List Written
 pieces inner [] = []
-pieces inner (x ∷ w) = record { gap = gap_of inner x.0; text = item_text x.0; kind = item_kind x.0 } ∷ pieces (opens x.0) w
+pieces inner (x ∷ w) = record { gap = gap_of inner x.0; text = item_text x.0; kind = item_kind x.0 } ∷ pieces
+    (opens x.0) w
 
 abbrev is_letter : ℕ → Bool
 is_letter c = nat_lt c 128 && (is_ascii_alphanumeric c || (c == 95))
@@ -101,15 +105,23 @@ letters_ascii (c ∷ cs) h =
     let q = and_parts (nat_lt c 128) (is_ascii_alphanumeric c || (c == 95)) p.0 in
     IsAscii-cons c cs (ltb-true c 128 q.0) (letters_ascii cs p.1)
 
-letters_name : (c : ℕ) (cs : List ℕ) → c < 128 → (is_ascii_alphabetic c || (c == 95)) ≡ true → are_letters (c ∷ cs) ≡ true → IsName (c ∷ cs)
-letters_name c cs lt first h = (rw (is_xid_start-ascii c lt) first, letters_continue cs (and_parts (is_letter c) (are_letters cs) h).1)
+letters_name : (c : ℕ) (cs : List ℕ) → c < 128 → (is_ascii_alphabetic c || (c == 95)) ≡ true →
+    are_letters (c ∷ cs) ≡ true → IsName (c ∷ cs)
+letters_name c cs lt first h = (
+  rw (is_xid_start-ascii c lt) first,
+  letters_continue cs (and_parts (is_letter c) (are_letters cs) h).1,
+)
 
-letters_sound : (c : ℕ) (cs gap : List ℕ) → AllBlank gap → c < 128 → (is_ascii_alphabetic c || (c == 95)) ≡ true → are_letters (c ∷ cs) ≡ true → Sound (record { gap = gap; text = c ∷ cs; kind = kinds.Word })
+letters_sound : (c : ℕ) (cs gap : List ℕ) → AllBlank gap → c < 128 →
+    (is_ascii_alphabetic c || (c == 95)) ≡ true → are_letters (c ∷ cs) ≡ true →
+    Sound (record { gap = gap; text = c ∷ cs; kind = kinds.Word })
 letters_sound c cs gap b lt first h =
     let a = letters_ascii (c ∷ cs) h in
-    word_sound gap (c ∷ cs) b (IsUtf8-from_ascii (c ∷ cs) a) (subst (λ (xs : List ℕ). IsName xs) (sym (chars-IsAscii (c ∷ cs) a)) (letters_name c cs lt first h))
+    word_sound gap (c ∷ cs) b (IsUtf8-from_ascii (c ∷ cs) a)
+    (subst (λ (xs : List ℕ). IsName xs) (sym (chars-IsAscii (c ∷ cs) a)) (letters_name c cs lt first h))
 
-key_sound : (key : Key) (gap : List ℕ) → AllBlank gap → Sound (record { gap = gap; text = key_text key; kind = key_kind key })
+key_sound : (key : Key) (gap : List ℕ) → AllBlank gap →
+    Sound (record { gap = gap; text = key_text key; kind = key_kind key })
 key_sound Spike gap b = letters_sound 115 (codes "pike") gap b (lit< tt) refl refl
 key_sound Sort gap b = letters_sound 115 (codes "ort") gap b (lit< tt) refl refl
 key_sound Fun gap b = letters_sound 102 (codes "un") gap b (lit< tt) refl refl
@@ -158,8 +170,10 @@ gap_blank true (Number n) = tt
 gap_blank false (Number n) = (refl, tt)
 
 -- each piece is sound
-piece_sound : (inner : Bool) (x : Item) → IsGood x → Sound (record { gap = gap_of inner x; text = item_text x; kind = item_kind x })
-piece_sound inner (Word name at) g = word_sound (gap_of inner (Word name at)) name (gap_blank inner (Word name at)) g.0 g.1
+piece_sound : (inner : Bool) (x : Item) → IsGood x →
+    Sound (record { gap = gap_of inner x; text = item_text x; kind = item_kind x })
+piece_sound inner (Word name at) g = word_sound (gap_of inner (Word name at)) name
+    (gap_blank inner (Word name at)) g.0 g.1
 piece_sound inner (Sign key) g = key_sound key (gap_of inner (Sign key)) (gap_blank inner (Sign key))
 piece_sound inner (Number n) g = number_sound (gap_of inner (Number n)) n (gap_blank inner (Number n)) g
 
@@ -178,7 +192,8 @@ apart_from : (kind : TokenKind) (w : List Marked) → Apart kind (pieces false w
 apart_from kind [] = tt
 apart_from kind (x ∷ w) = by x.0
   where
-    by : (y : Item) → Apart kind (record { gap = gap_of false y; text = item_text y; kind = item_kind y } ∷ pieces (opens x.0) w)
+    by : (y : Item) → Apart kind
+        (record { gap = gap_of false y; text = item_text y; kind = item_kind y } ∷ pieces (opens x.0) w)
     by (Word name at) = tt
     by (Sign LeftPar) = touches_sign kind kinds.LeftPar tt
     by (Sign RightPar) = touches_sign kind kinds.RightPar tt
@@ -204,7 +219,8 @@ apart_open : (w : List Marked) → Apart kinds.LeftPar (pieces true w)
 apart_open [] = tt
 apart_open (x ∷ w) = by x.0
   where
-    by : (y : Item) → Apart kinds.LeftPar (record { gap = gap_of true y; text = item_text y; kind = item_kind y } ∷ pieces (opens x.0) w)
+    by : (y : Item) → Apart kinds.LeftPar
+        (record { gap = gap_of true y; text = item_text y; kind = item_kind y } ∷ pieces (opens x.0) w)
     by (Word name at) = tt
     by (Sign key) = tt
     by (Number n) = tt
@@ -257,26 +273,36 @@ key_read Arrow at = refl
 key_read Stray at = refl
 
 -- a token of an item that was written, before others
-next_token : (x y : Item) (mark : Option LimitKind) (u : List Marked) → x ≡ y → mark ≡ None → ◌≡◌ {A = List Marked} ((x, None) ∷ u) ((y, mark) ∷ u)
+next_token : (x y : Item) (mark : Option LimitKind) (u : List Marked) → x ≡ y → mark ≡ None →
+    ◌≡◌ {A = List Marked} ((x, None) ∷ u) ((y, mark) ∷ u)
 next_token x y mark u e m = ap (λ (z : Item). (z, None) ∷ u) e ∙ ap (λ (k : Option LimitKind). (y, k) ∷ u) (sym m)
 
-item_step : (x : Item) (mark : Option LimitKind) (Next : List Marked → Type 0) (slice : List ℕ) (at : ℕ) (u : List Marked) → IsGood x → mark ≡ None → slice ≡ item_text x → Next u → Step x mark Next ((item_as (item_kind x) slice at, None) ∷ u)
+item_step : (x : Item) (mark : Option LimitKind) (Next : List Marked → Type 0) (slice : List ℕ) (at : ℕ)
+    (u : List Marked) → IsGood x → mark ≡ None → slice ≡ item_text x → Next u →
+    Step x mark Next ((item_as (item_kind x) slice at, None) ∷ u)
 item_step (Word name place) mark Next slice at u g m s h =
-    let named : key_or_name (reserved name) name at ≡ Word name at = ap (λ (o : Option Key). key_or_name o name at) g.2 in
+    let named : key_or_name (reserved name) name at ≡ Word name at = ap
+    (λ (o : Option Key). key_or_name o name at) g.2 in
     let read : item_as kinds.Word slice at ≡ Word name at = ap (λ (bs : List ℕ). item_as kinds.Word bs at) s ∙ named in
     (at, u, next_token (item_as kinds.Word slice at) (Word name at) mark u read m, h)
 item_step (Sign key) mark Next slice at u g m s h =
-    let read : item_as (key_kind key) slice at ≡ Sign key = ap (λ (bs : List ℕ). item_as (key_kind key) bs at) s ∙ key_read key at in
+    let read : item_as (key_kind key) slice at ≡ Sign key = ap (λ (bs : List ℕ). item_as (key_kind key) bs at) s
+    ∙ key_read key at in
     (u, next_token (item_as (key_kind key) slice at) (Sign key) mark u read m, h)
 item_step (Number n) mark Next slice at u g m s h = (u, next_token (Number n) (Number n) mark u refl m, h)
 
 -- what is written in a row, and the slice of a part of it
-slice_is : (bytes before text rest : List ℕ) (at : ℕ) → bytes ≡ before ++ (text ++ rest) → at ≡ length before → take (length text) (drop at bytes) ≡ text
+slice_is : (bytes before text rest : List ℕ) (at : ℕ) → bytes ≡ before ++ (text ++ rest) → at ≡ length before →
+    take (length text) (drop at bytes) ≡ text
 slice_is bytes before text rest at whole place =
-    ap (λ (ys : List ℕ). take (length text) (drop at ys)) whole ∙ ap (λ (k : ℕ). take (length text) (drop k (before ++ (text ++ rest)))) place ∙ ap (take (length text)) (drop-append_seam before (text ++ rest)) ∙ take-append_seam text rest
+    ap (λ (ys : List ℕ). take (length text) (drop at ys)) whole
+    ∙ ap (λ (k : ℕ). take (length text) (drop k (before ++ (text ++ rest)))) place
+    ∙ ap (take (length text)) (drop-append_seam before (text ++ rest)) ∙ take-append_seam text rest
 
 -- the tokens of the pieces are the marked tokens, with names at other places
-pub pieces_moved : (w : List Marked) (inner : Bool) (front tail bytes : List ℕ) (n : ℕ) → AllGood w → n ≡ length front → bytes ≡ front ++ written (pieces inner w) tail → Moved w (clean (items_of bytes (placed n (pieces inner w))))
+pub pieces_moved : (w : List Marked) (inner : Bool) (front tail bytes : List ℕ) (n : ℕ) → AllGood w →
+    n ≡ length front → bytes ≡ front ++ written (pieces inner w) tail →
+    Moved w (clean (items_of bytes (placed n (pieces inner w))))
 pieces_moved [] inner front tail bytes n g e h = refl
 pieces_moved (x ∷ w) inner front tail bytes n g e h =
     let gap : List ℕ = gap_of inner x.0 in
@@ -289,13 +315,16 @@ pieces_moved (x ∷ w) inner front tail bytes n g e h =
     let slice : take (length text) (drop at bytes) ≡ text = slice_is bytes before text rest at here place in
     let next : at + length text ≡ length (before ++ text) = omega (arith, place, length-append before text) in
     let whole : bytes ≡ (before ++ text) ++ rest = here ∙ sym (append_assoc before text rest) in
-    item_step x.0 x.1 (Moved w) (take (length text) (drop at bytes)) at (clean (items_of bytes (placed (at + length text) (pieces (opens x.0) w)))) g.0 g.1 slice (pieces_moved w (opens x.0) (before ++ text) tail bytes (at + length text) g.2 next whole)
+    item_step x.0 x.1 (Moved w) (take (length text) (drop at bytes))
+    at (clean (items_of bytes (placed (at + length text) (pieces (opens x.0) w)))) g.0 g.1 slice
+    (pieces_moved w (opens x.0) (before ++ text) tail bytes (at + length text) g.2 next whole)
 
 -- the tokens of a text are good
 decimal_numerals : IsNumeralModel (AllDigits 10) (digits_value 10)
 decimal_numerals = record { to = λ ds h. h; from = λ ds h. h; same = λ ds h. refl }
 
-named_good : (key : Option Key) (name : List ℕ) (at : ℕ) → key ≡ reserved name → IsUtf8 name → IsName (chars name) → IsGood (key_or_name key name at)
+named_good : (key : Option Key) (name : List ℕ) (at : ℕ) → key ≡ reserved name → IsUtf8 name →
+    IsName (chars name) → IsGood (key_or_name key name at)
 named_good (Some key) name at e u n = tt
 named_good None name at e u n = (u, n, sym e)
 
@@ -319,6 +348,11 @@ token_good bytes token kinds.Equals u s = tt
 token_good bytes token kinds.Bar u s = tt
 token_good bytes token kinds.Arrow u s = tt
 
-pub tokens_good : (bytes : List ℕ) (tokens : List Token) → AllByRecursion (SpelledIn bytes) tokens → AllGood (clean (items_of bytes tokens))
+pub tokens_good : (bytes : List ℕ) (tokens : List Token) → AllByRecursion (SpelledIn bytes) tokens →
+    AllGood (clean (items_of bytes tokens))
 tokens_good bytes [] h = tt
-tokens_good bytes (token ∷ tokens) h = (token_good bytes token token.kind h.0.0 h.0.1, refl, tokens_good bytes tokens h.1)
+tokens_good bytes (token ∷ tokens) h = (
+  token_good bytes token token.kind h.0.0 h.0.1,
+  refl,
+  tokens_good bytes tokens h.1,
+)

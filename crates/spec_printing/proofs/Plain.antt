@@ -1,10 +1,12 @@
 -- The text of a raw specification that the printed form has: no arrow if there are conclusions only. Its tokens are as
 -- good as those of each other text of it, and no longer, also in a format with looser limits.
-use Rattle.std.proofs.Common.{◌≡◌, ◌≢◌, inl, inr, ℕ, ◌+◌, ◌<◌, ◌≤◌, ◌^◌, List, [], ◌∷◌, Option, Some, None, length, refl, sym, subst, arith}
+use Rattle.std.proofs.Common.{◌≡◌, ◌≢◌, inl, inr, ℕ, ◌+◌, ◌<◌, ◌≤◌, ◌^◌, List, [], ◌∷◌, Option, Some, None, length}
+use Rattle.std.proofs.Common.{refl, sym, subst, arith}
 use Rattle.std.specs.Fmt.{decimal}
 use Rattle.std.specs.Str.{chars, IsUtf8}
 use Rattle.spec_text.specs.Names.{IsName}
-use Rattle.spec_grammar.specs.declared.keys.Key.TheVariants.{Spike, Sort, Equal, Status, Goal, LeftPar, RightPar, Colon, Equals, Arrow}
+use Rattle.spec_grammar.specs.declared.keys.Key.TheVariants.{Spike, Sort, Equal, Status, Goal, LeftPar, RightPar}
+use Rattle.spec_grammar.specs.declared.keys.Key.TheVariants.{Colon, Equals, Arrow}
 use Rattle.spec_grammar.specs.declared.limits.LimitKind.{LimitKind}
 use Rattle.spec_grammar.specs.declared.raw.RawName.{RawName}
 use Rattle.spec_grammar.specs.declared.raw.RawNames.{RawNames}
@@ -22,8 +24,14 @@ use Rattle.spec_grammar.specs.declared.raw.RawGoal.{RawGoal}
 use Rattle.spec_grammar.specs.declared.raw.RawSpec.{RawSpec}
 use Rattle.spec_grammar.specs.RawTree.{RawTree, RawTrees, word, none, some}
 use Rattle.spec_grammar.specs.Items.{Item, Word, Sign, Number, reserved}
-use Rattle.spec_grammar.specs.Limits.{sort_mark, constructor_mark, arity_mark, term_mark, goal_mark, premise_mark, conclusion_mark}
-use Rattle.spec_grammar.specs.Grammar.{Marked, sign, number, name_text, term_text, args_text, more_text, more_names_text, names_text, con_text, constructors_text, AreSorts, funs_text, more_equal_text, AreEquals, numeral_text, more_numbers_text, AreStatuses, more_weights_text, weights_text, order_text, IsOrderText, guards_text, sides_text, rules_text, commas_text, premises_text, bars_text, conclusions_text, IsClause, more_binds_text, binds_text, AreGoals, IsFormat, IsSpecText}
+use Rattle.spec_grammar.specs.Limits.{sort_mark, constructor_mark, arity_mark, term_mark, goal_mark, premise_mark}
+use Rattle.spec_grammar.specs.Limits.{conclusion_mark}
+use Rattle.spec_grammar.specs.Grammar.{Marked, sign, number, name_text, term_text, args_text, more_text}
+use Rattle.spec_grammar.specs.Grammar.{more_names_text, names_text, con_text, constructors_text, AreSorts, funs_text}
+use Rattle.spec_grammar.specs.Grammar.{more_equal_text, AreEquals, numeral_text, more_numbers_text, AreStatuses}
+use Rattle.spec_grammar.specs.Grammar.{more_weights_text, weights_text, order_text, IsOrderText, guards_text}
+use Rattle.spec_grammar.specs.Grammar.{sides_text, rules_text, commas_text, premises_text, bars_text, conclusions_text}
+use Rattle.spec_grammar.specs.Grammar.{IsClause, more_binds_text, binds_text, AreGoals, IsFormat, IsSpecText}
 use Rattle.spec_printing.proofs.Spellings.{item_text}
 use Rattle.spec_printing.proofs.Looser.{StaysClean, Looser, same_limits, named_clean}
 
@@ -35,7 +43,8 @@ clause_text (p ∷ ps) cs rest = premises_text (p ∷ ps) (sign Arrow ∷ conclu
 
 abbrev pub goals_text : ℕ → List RawGoal → List Marked → List Marked
 goals_text n [] rest = rest
-goals_text n (g ∷ gs) rest = (Sign Goal, goal_mark n) ∷ name_text None g.head (binds_text g.binds (sign Colon ∷ clause_text g.premises g.conclusions (goals_text (n + 1) gs rest)))
+goals_text n (g ∷ gs) rest = (Sign Goal, goal_mark n) ∷ name_text None g.head
+    (binds_text g.binds (sign Colon ∷ clause_text g.premises g.conclusions (goals_text (n + 1) gs rest)))
 
 -- The tokens are the text of the raw specification that the printed form has.
 pub record IsPlainText (raw : RawSpec) (text : List Marked) : Type 0 where
@@ -55,8 +64,13 @@ clause_is (p ∷ ps) cs rest = inl refl
 goals_are : (n : ℕ) (gs : List RawGoal) (rest : List Marked) → AreGoals n gs (goals_text n gs rest) rest
 goals_are n [] rest = refl
 goals_are n (g ∷ gs) rest =
-    let later : List Marked = goals_text (n + 1) gs rest in
-    (clause_text g.premises g.conclusions later, later, refl, clause_is g.premises g.conclusions later, goals_are (n + 1) gs rest)
+    let later : List Marked = goals_text (n + 1) gs rest in (
+      clause_text g.premises g.conclusions later,
+      later,
+      refl,
+      clause_is g.premises g.conclusions later,
+      goals_are (n + 1) gs rest,
+    )
 
 pub plain_is_text : (raw : RawSpec) (text : List Marked) → IsPlainText raw text → IsSpecText raw text
 plain_is_text raw text p =
@@ -95,13 +109,16 @@ marked clean f =
     record { good = λ h. (h.0, clean h.1, f.good h.2); short = omega (arith, short) }
 
 -- the texts of each part before other tokens
-more_names_good : (n : ℕ) (xs : List RawName) (rest other : List Marked) → Follows rest other → Follows (more_names_text n xs rest) (more_names_text n xs other)
+more_names_good : (n : ℕ) (xs : List RawName) (rest other : List Marked) → Follows rest other →
+    Follows (more_names_text n xs rest) (more_names_text n xs other)
 more_names_good n [] rest other f = f
 more_names_good n (x ∷ xs) rest other f = behind (behind (more_names_good (n + 1) xs rest other f))
 
-names_good : (xs : List RawName) (rest other : List Marked) → Follows rest other → Follows (names_text xs rest) (names_text xs other)
+names_good : (xs : List RawName) (rest other : List Marked) → Follows rest other →
+    Follows (names_text xs rest) (names_text xs other)
 names_good [] rest other f = f
-names_good (x ∷ xs) rest other f = behind (behind (more_names_good 1 xs (sign RightPar ∷ rest) (sign RightPar ∷ other) (behind f)))
+names_good (x ∷ xs) rest other f = behind
+    (behind (more_names_good 1 xs (sign RightPar ∷ rest) (sign RightPar ∷ other) (behind f)))
 
 con_good :
     (mark other : Option LimitKind) (c : RawNames) (rest plain : List Marked) → StaysClean mark other →
@@ -168,21 +185,29 @@ order_good raw text rest other f a =
     (e.0, (s.0, line, e.1, s.1, refl), e.2)
 
 mutual
-  term_good : (d : ℕ) (mark : Option LimitKind) (t : RawTree) (rest other : List Marked) → Follows rest other → Follows (term_text d mark t rest) (term_text d mark t other)
+  term_good : (d : ℕ) (mark : Option LimitKind) (t : RawTree) (rest other : List Marked) → Follows rest other →
+      Follows (term_text d mark t rest) (term_text d mark t other)
   term_good d mark (word name at ts) rest other f = behind (args_good d ts rest other f)
 
-  args_good : (d : ℕ) (ts : RawTrees) (rest other : List Marked) → Follows rest other → Follows (args_text d ts rest) (args_text d ts other)
+  args_good : (d : ℕ) (ts : RawTrees) (rest other : List Marked) → Follows rest other →
+      Follows (args_text d ts rest) (args_text d ts other)
   args_good d none rest other f = f
-  args_good d (some t ts) rest other f = behind (term_good (d + 1) (term_mark (d + 1) 0) t _ _ (more_good (d + 1) 1 ts (sign RightPar ∷ rest) (sign RightPar ∷ other) (behind f)))
+  args_good d (some t ts) rest other f = behind
+      (term_good (d + 1) (term_mark (d + 1) 0) t _ _
+      (more_good (d + 1) 1 ts (sign RightPar ∷ rest) (sign RightPar ∷ other) (behind f)))
 
-  more_good : (d n : ℕ) (ts : RawTrees) (rest other : List Marked) → Follows rest other → Follows (more_text d n ts rest) (more_text d n ts other)
+  more_good : (d n : ℕ) (ts : RawTrees) (rest other : List Marked) → Follows rest other →
+      Follows (more_text d n ts rest) (more_text d n ts other)
   more_good d n none rest other f = f
-  more_good d n (some t ts) rest other f = behind (term_good d (term_mark d n) t _ _ (more_good d (n + 1) ts rest other f))
+  more_good d n (some t ts) rest other f = behind
+      (term_good d (term_mark d n) t _ _ (more_good d (n + 1) ts rest other f))
 
-sides_good : (mark : Option LimitKind) (left right : RawTree) (rest other : List Marked) → Follows rest other → Follows (sides_text mark left right rest) (sides_text mark left right other)
+sides_good : (mark : Option LimitKind) (left right : RawTree) (rest other : List Marked) → Follows rest other →
+    Follows (sides_text mark left right rest) (sides_text mark left right other)
 sides_good mark left right rest other f = term_good 0 mark left _ _ (behind (term_good 0 None right rest other f))
 
-guards_good : (n : ℕ) (gs : List RawGuard) (rest other : List Marked) → Follows rest other → Follows (guards_text n gs rest) (guards_text n gs other)
+guards_good : (n : ℕ) (gs : List RawGuard) (rest other : List Marked) → Follows rest other →
+    Follows (guards_text n gs rest) (guards_text n gs other)
 guards_good n [] rest other f = f
 guards_good n (g ∷ gs) rest other f = behind (term_good 0 None g.test _ _ (guards_good (n + 1) gs rest other f))
 
@@ -225,32 +250,42 @@ module _ (version later : ℕ) (looser : Looser version later) where
       marked (looser.rules n)
       (sides_good None r.left r.right _ _ (guards_good 0 r.guards _ _ (rules_good (n + 1) rs rest other f)))
 
-commas_good : (n : ℕ) (es : List RawEq) (rest other : List Marked) → Follows rest other → Follows (commas_text n es rest) (commas_text n es other)
+commas_good : (n : ℕ) (es : List RawEq) (rest other : List Marked) → Follows rest other →
+    Follows (commas_text n es rest) (commas_text n es other)
 commas_good n [] rest other f = f
-commas_good n (e ∷ es) rest other f = behind (sides_good (premise_mark n) e.left e.right _ _ (commas_good (n + 1) es rest other f))
+commas_good n (e ∷ es) rest other f = behind
+    (sides_good (premise_mark n) e.left e.right _ _ (commas_good (n + 1) es rest other f))
 
-bars_good : (n : ℕ) (es : List RawEq) (rest other : List Marked) → Follows rest other → Follows (bars_text n es rest) (bars_text n es other)
+bars_good : (n : ℕ) (es : List RawEq) (rest other : List Marked) → Follows rest other →
+    Follows (bars_text n es rest) (bars_text n es other)
 bars_good n [] rest other f = f
-bars_good n (e ∷ es) rest other f = behind (sides_good (conclusion_mark n) e.left e.right _ _ (bars_good (n + 1) es rest other f))
+bars_good n (e ∷ es) rest other f = behind
+    (sides_good (conclusion_mark n) e.left e.right _ _ (bars_good (n + 1) es rest other f))
 
-conclusions_good : (cs : List RawEq) (rest other : List Marked) → Follows rest other → Follows (conclusions_text cs rest) (conclusions_text cs other)
+conclusions_good : (cs : List RawEq) (rest other : List Marked) → Follows rest other →
+    Follows (conclusions_text cs rest) (conclusions_text cs other)
 conclusions_good [] rest other f = f
 conclusions_good (c ∷ cs) rest other f = sides_good (conclusion_mark 0) c.left c.right _ _ (bars_good 1 cs rest other f)
 
-premises_good : (ps : List RawEq) (rest other : List Marked) → Follows rest other → Follows (premises_text ps rest) (premises_text ps other)
+premises_good : (ps : List RawEq) (rest other : List Marked) → Follows rest other →
+    Follows (premises_text ps rest) (premises_text ps other)
 premises_good [] rest other f = f
 premises_good (p ∷ ps) rest other f = sides_good (premise_mark 0) p.left p.right _ _ (commas_good 1 ps rest other f)
 
-more_binds_good : (n : ℕ) (bs : List RawBind) (rest other : List Marked) → Follows rest other → Follows (more_binds_text n bs rest) (more_binds_text n bs other)
+more_binds_good : (n : ℕ) (bs : List RawBind) (rest other : List Marked) → Follows rest other →
+    Follows (more_binds_text n bs rest) (more_binds_text n bs other)
 more_binds_good n [] rest other f = f
 more_binds_good n (b ∷ bs) rest other f = behind (behind (behind (behind (more_binds_good (n + 1) bs rest other f))))
 
-binds_good : (bs : List RawBind) (rest other : List Marked) → Follows rest other → Follows (binds_text bs rest) (binds_text bs other)
+binds_good : (bs : List RawBind) (rest other : List Marked) → Follows rest other →
+    Follows (binds_text bs rest) (binds_text bs other)
 binds_good [] rest other f = f
-binds_good (b ∷ bs) rest other f = behind (behind (behind (behind (more_binds_good 1 bs (sign RightPar ∷ rest) (sign RightPar ∷ other) (behind f)))))
+binds_good (b ∷ bs) rest other f = behind
+    (behind (behind (behind (more_binds_good 1 bs (sign RightPar ∷ rest) (sign RightPar ∷ other) (behind f)))))
 
 -- a clause with the arrow, and a clause without it
-with_arrow : (ps cs : List RawEq) (rest other : List Marked) → Follows rest other → Follows (premises_text ps (sign Arrow ∷ conclusions_text cs rest)) (clause_text ps cs other)
+with_arrow : (ps cs : List RawEq) (rest other : List Marked) → Follows rest other →
+    Follows (premises_text ps (sign Arrow ∷ conclusions_text cs rest)) (clause_text ps cs other)
 with_arrow [] [] rest other f = behind f
 with_arrow [] (c ∷ cs) rest other f =
     let k = conclusions_good (c ∷ cs) rest other f in
@@ -258,23 +293,29 @@ with_arrow [] (c ∷ cs) rest other f =
     record { good = λ h. k.good h.2; short = omega (arith, short) }
 with_arrow (p ∷ ps) cs rest other f = premises_good (p ∷ ps) _ _ (behind (conclusions_good cs rest other f))
 
-without_arrow : (cs : List RawEq) (rest other : List Marked) → cs ≢ [] → Follows rest other → Follows (conclusions_text cs rest) (clause_text [] cs other)
+without_arrow : (cs : List RawEq) (rest other : List Marked) → cs ≢ [] → Follows rest other →
+    Follows (conclusions_text cs rest) (clause_text [] cs other)
 without_arrow [] rest other n f = absurd (n refl)
 without_arrow (c ∷ cs) rest other n f = conclusions_good (c ∷ cs) rest other f
 
-clause_good : (ps cs : List RawEq) (text rest other : List Marked) → IsClause ps cs text rest → Follows rest other → Follows text (clause_text ps cs other)
-clause_good ps cs text rest other (inl e) f = subst (λ (w : List Marked). Follows w (clause_text ps cs other)) (sym e) (with_arrow ps cs rest other f)
+clause_good : (ps cs : List RawEq) (text rest other : List Marked) → IsClause ps cs text rest →
+    Follows rest other → Follows text (clause_text ps cs other)
+clause_good ps cs text rest other (inl e) f = subst (λ (w : List Marked). Follows w (clause_text ps cs other))
+    (sym e) (with_arrow ps cs rest other f)
 clause_good ps cs text rest other (inr h) f =
-    let k : Follows text (clause_text [] cs other) = subst (λ (w : List Marked). Follows w (clause_text [] cs other)) (sym h.2) (without_arrow cs rest other h.1 f) in
+    let k : Follows text (clause_text [] cs other) = subst
+    (λ (w : List Marked). Follows w (clause_text [] cs other)) (sym h.2) (without_arrow cs rest other h.1 f) in
     subst (λ (ps : List RawEq). Follows text (clause_text ps cs other)) (sym h.0) k
 
-goals_good : (n : ℕ) (gs : List RawGoal) (text : List Marked) → AreGoals n gs text [] → Follows text (goals_text n gs [])
+goals_good : (n : ℕ) (gs : List RawGoal) (text : List Marked) → AreGoals n gs text [] →
+    Follows text (goals_text n gs [])
 goals_good n [] text e =
     subst (λ (w : List Marked). Follows w []) (sym e) (record { good = λ h. h; short = omega arith })
 goals_good n (g ∷ gs) text a =
     let later = goals_good (n + 1) gs a.1 a.4 in
     let clause = clause_good g.premises g.conclusions a.0 a.1 (goals_text (n + 1) gs []) a.3 later in
-    subst (λ (w : List Marked). Follows w (goals_text n (g ∷ gs) [])) (sym a.2) (behind (behind (binds_good g.binds _ _ (behind clause))))
+    subst (λ (w : List Marked). Follows w (goals_text n (g ∷ gs) [])) (sym a.2)
+    (behind (behind (binds_good g.binds _ _ (behind clause))))
 
 -- A plain text of the raw specification whose tokens are good and no longer than these.
 pub record HasPlainText (raw : RawSpec) (text : List Marked) : Type 0 where

@@ -18,8 +18,13 @@ use Rattle.spec_grammar.specs.declared.raw.RawRule.{RawRule}
 use Rattle.spec_grammar.specs.declared.raw.RawBind.{RawBind}
 use Rattle.spec_grammar.specs.declared.raw.RawGoal.{RawGoal}
 use Rattle.spec_grammar.specs.declared.raw.RawSpec.{RawSpec}
-use Rattle.spec_printing.specs.Printed.{listed, spaced, term_printed, others_printed, equation_printed, names_printed, sort_line, fun_line, equal_line, status_line, weight_printed, weights_printed, order_line, guard_printed, rule_line, bind_printed, arrow_printed, goal_line, header_line, printed}
-use Rattle.spec_printing.specs.SamePlaces.{SameName, SameNames, SameTerm, SameTerms, SameSort, SameFun, SameEqual, SameStatus, SameWeight, SameOrder, SameEquation, SameGuard, SameRule, SameBind, SameGoal, IsSameButPlaces}
+use Rattle.spec_printing.specs.Printed.{listed, spaced, term_printed, others_printed, equation_printed, names_printed}
+use Rattle.spec_printing.specs.Printed.{sort_line, fun_line, equal_line, status_line, weight_printed, weights_printed}
+use Rattle.spec_printing.specs.Printed.{order_line, guard_printed, rule_line, bind_printed, arrow_printed, goal_line}
+use Rattle.spec_printing.specs.Printed.{header_line, printed}
+use Rattle.spec_printing.specs.SamePlaces.{SameName, SameNames, SameTerm, SameTerms, SameSort, SameFun, SameEqual}
+use Rattle.spec_printing.specs.SamePlaces.{SameStatus, SameWeight, SameOrder, SameEquation, SameGuard, SameRule}
+use Rattle.spec_printing.specs.SamePlaces.{SameBind, SameGoal, IsSameButPlaces}
 
 -- lists whose elements have the same texts
 module _ {X : Type 0} (text : X → List ℕ) (Same : X → X → Type 0) (one : (x y : X) → Same x y → text x ≡ text y) where

@@ -1,6 +1,7 @@
 -- How long the printed form is: a gap has one byte at most, and a token's spelling is no longer than what
 -- occurs in the text.
-use Rattle.std.proofs.Common.{◌≡◌, ℕ, ◌+◌, ◌*◌, ◌<◌, ◌≤◌, ◌^◌, List, [], ◌∷◌, ◌++◌, Bool, true, false, Option, Some, None, length, drop, refl, ap, arith}
+use Rattle.std.proofs.Common.{◌≡◌, ℕ, ◌+◌, ◌*◌, ◌<◌, ◌≤◌, ◌^◌, List, [], ◌∷◌, ◌++◌, Bool, true, false, Option, Some}
+use Rattle.std.proofs.Common.{None, length, drop, refl, ap, arith}
 use Rattle.std.proofs.Common.{length-append}
 use Rattle.std.specs.Prelude.{codes}
 use Rattle.std.specs.List.{AllByRecursion}
@@ -18,7 +19,9 @@ use Rattle.spec_text.specs.declared.tokens.TokenKind.{TokenKind}
 use Rattle.spec_text.specs.declared.tokens.TokenKind.TheVariants as kinds
 use Rattle.spec_text.proofs.TokenLemmas.{size_is}
 use Rattle.spec_grammar.specs.declared.keys.Key.{Key}
-use Rattle.spec_grammar.specs.declared.keys.Key.TheVariants.{Spike, Sort, Fun, Rule, Goal, If, Unless, Equal, Status, Order, LeftPar, RightPar, Comma, Colon, Equals, Bar, Arrow, Stray}
+use Rattle.spec_grammar.specs.declared.keys.Key.TheVariants.{Spike, Sort, Fun, Rule, Goal, If, Unless, Equal, Status}
+use Rattle.spec_grammar.specs.declared.keys.Key.TheVariants.{Order, LeftPar, RightPar, Comma, Colon, Equals, Bar}
+use Rattle.spec_grammar.specs.declared.keys.Key.TheVariants.{Arrow, Stray}
 use Rattle.spec_grammar.specs.Items.{Item, Word, Sign, Number, reserved, key_or_name, item_as, items_of, text_of}
 use Rattle.spec_grammar.specs.Grammar.{Marked}
 use Rattle.spec_grammar.specs.Derives.{clean}

@@ -1,5 +1,6 @@
 -- The printed form is what the pieces of the plain text write.
-use Rattle.std.proofs.Common.{◌≡◌, ℕ, ◌+◌, List, [], ◌∷◌, ◌++◌, Bool, true, false, Option, Some, None, length, refl, ap, sym, ◌∙◌, append_assoc}
+use Rattle.std.proofs.Common.{◌≡◌, ℕ, ◌+◌, List, [], ◌∷◌, ◌++◌, Bool, true, false, Option, Some, None, length, refl}
+use Rattle.std.proofs.Common.{ap, sym, ◌∙◌, append_assoc}
 use Rattle.std.specs.Prelude.{codes, map, if◌then◌else◌}
 use Rattle.std.specs.Fmt.{decimal}
 use Rattle.std.specs.List.{flat_map}
@@ -23,9 +24,18 @@ use Rattle.spec_grammar.specs.declared.raw.RawGoal.{RawGoal}
 use Rattle.spec_grammar.specs.declared.raw.RawSpec.{RawSpec}
 use Rattle.spec_grammar.specs.RawTree.{RawTree, RawTrees, word, none, some}
 use Rattle.spec_grammar.specs.Items.{Sign}
-use Rattle.spec_grammar.specs.Limits.{constructor_mark, term_mark, guard_mark, variable_mark, premise_mark, conclusion_mark}
-use Rattle.spec_grammar.specs.Grammar.{Marked, sign, name_text, term_text, more_text, more_names_text, names_text, con_text, constructors_text, AreSorts, funs_text, more_equal_text, AreEquals, more_numbers_text, AreStatuses, weight_text, more_weights_text, weights_text, order_text, guard_key, guards_text, sides_text, rules_text, commas_text, premises_text, bars_text, conclusions_text, bind_text, more_binds_text, binds_text}
-use Rattle.spec_printing.specs.Printed.{listed, spaced, term_printed, others_printed, sides_printed, equation_printed, names_printed, sort_line, fun_line, equal_line, status_line, weight_printed, weights_printed, order_line, guard_printed, rule_line, bind_printed, clause_printed, goal_line, header_line, printed}
+use Rattle.spec_grammar.specs.Limits.{constructor_mark, term_mark, guard_mark, variable_mark, premise_mark}
+use Rattle.spec_grammar.specs.Limits.{conclusion_mark}
+use Rattle.spec_grammar.specs.Grammar.{Marked, sign, name_text, term_text, more_text, more_names_text, names_text}
+use Rattle.spec_grammar.specs.Grammar.{con_text, constructors_text, AreSorts, funs_text, more_equal_text, AreEquals}
+use Rattle.spec_grammar.specs.Grammar.{more_numbers_text, AreStatuses, weight_text, more_weights_text, weights_text}
+use Rattle.spec_grammar.specs.Grammar.{order_text, guard_key, guards_text, sides_text, rules_text, commas_text}
+use Rattle.spec_grammar.specs.Grammar.{premises_text, bars_text, conclusions_text, bind_text, more_binds_text}
+use Rattle.spec_grammar.specs.Grammar.{binds_text}
+use Rattle.spec_printing.specs.Printed.{listed, spaced, term_printed, others_printed, sides_printed, equation_printed}
+use Rattle.spec_printing.specs.Printed.{names_printed, sort_line, fun_line, equal_line, status_line, weight_printed}
+use Rattle.spec_printing.specs.Printed.{weights_printed, order_line, guard_printed, rule_line, bind_printed}
+use Rattle.spec_printing.specs.Printed.{clause_printed, goal_line, header_line, printed}
 use Rattle.spec_printing.proofs.Plain.{clause_text, goals_text, IsPlainText}
 use Rattle.spec_printing.proofs.Pieces.{blank, pieces}
 
@@ -43,59 +53,98 @@ regroup_four a b c d s = simp append_assoc
 regroup_five : (a b c d e s : List ℕ) → ((((a ++ b) ++ c) ++ d) ++ e) ++ s ≡ a ++ (b ++ (c ++ (d ++ (e ++ s))))
 regroup_five a b c d e s = simp append_assoc
 
-regroup_six : (a b c d e f s : List ℕ) → (((((a ++ b) ++ c) ++ d) ++ e) ++ f) ++ s ≡ a ++ (b ++ (c ++ (d ++ (e ++ (f ++ s)))))
+regroup_six : (a b c d e f s : List ℕ) → (((((a ++ b) ++ c) ++ d) ++ e) ++ f) ++ s ≡ a
+    ++ (b ++ (c ++ (d ++ (e ++ (f ++ s)))))
 regroup_six a b c d e f s = simp append_assoc
 
-regroup_seven : (a b c d e f g s : List ℕ) → ((((((a ++ b) ++ c) ++ d) ++ e) ++ f) ++ g) ++ s ≡ a ++ (b ++ (c ++ (d ++ (e ++ (f ++ (g ++ s))))))
+regroup_seven : (a b c d e f g s : List ℕ) → ((((((a ++ b) ++ c) ++ d) ++ e) ++ f) ++ g) ++ s ≡ a
+    ++ (b ++ (c ++ (d ++ (e ++ (f ++ (g ++ s))))))
 regroup_seven a b c d e f g s = simp append_assoc
 
 -- names
-more_names_shown : (n : ℕ) (xs : List RawName) (rest : List Marked) → shown false (more_names_text n xs rest) ≡ flat_map (λ u. codes ", " ++ u) (map (λ (x : RawName). x.name) xs) ++ shown false rest
+more_names_shown : (n : ℕ) (xs : List RawName) (rest : List Marked) →
+    shown false (more_names_text n xs rest) ≡ flat_map (λ u. codes ", " ++ u) (map (λ (x : RawName). x.name) xs)
+    ++ shown false rest
 more_names_shown n [] rest = refl
 more_names_shown n (x ∷ xs) rest =
-    ap (λ (ys : List ℕ). codes ", " ++ (x.name ++ ys)) (more_names_shown (n + 1) xs rest) ∙ sym (regroup_three (codes ", ") x.name (flat_map (λ u. codes ", " ++ u) (map (λ (y : RawName). y.name) xs)) (shown false rest))
+    ap (λ (ys : List ℕ). codes ", " ++ (x.name ++ ys)) (more_names_shown (n + 1) xs rest)
+    ∙ sym (regroup_three (codes ", ") x.name
+    (flat_map (λ u. codes ", " ++ u) (map (λ (y : RawName). y.name) xs)) (shown false rest))
 
-names_shown : (xs : List RawName) (rest : List Marked) → shown false (names_text xs rest) ≡ listed (map (λ (x : RawName). x.name) xs) ++ shown false rest
+names_shown : (xs : List RawName) (rest : List Marked) →
+    shown false (names_text xs rest) ≡ listed (map (λ (x : RawName). x.name) xs) ++ shown false rest
 names_shown [] rest = refl
 names_shown (x ∷ xs) rest =
-    ap (λ (ys : List ℕ). codes "(" ++ (x.name ++ ys)) (more_names_shown 1 xs (sign RightPar ∷ rest)) ∙ sym (regroup_four (codes "(") x.name (flat_map (λ u. codes ", " ++ u) (map (λ (y : RawName). y.name) xs)) (codes ")") (shown false rest))
+    ap (λ (ys : List ℕ). codes "(" ++ (x.name ++ ys)) (more_names_shown 1 xs (sign RightPar ∷ rest))
+    ∙ sym (regroup_four (codes "(") x.name
+    (flat_map (λ u. codes ", " ++ u) (map (λ (y : RawName). y.name) xs)) (codes ")") (shown false rest))
 
-con_shown : (mark : Option LimitKind) (c : RawNames) (rest : List Marked) → shown false (con_text mark c rest) ≡ codes " " ++ (names_printed c ++ shown false rest)
+con_shown : (mark : Option LimitKind) (c : RawNames) (rest : List Marked) →
+    shown false (con_text mark c rest) ≡ codes " " ++ (names_printed c ++ shown false rest)
 con_shown mark c rest =
-    ap (λ (ys : List ℕ). codes " " ++ (c.name ++ ys)) (names_shown c.args rest) ∙ ap (λ (ys : List ℕ). codes " " ++ ys) (sym (append_assoc c.name (listed (map (λ (x : RawName). x.name) c.args)) (shown false rest)))
+    ap (λ (ys : List ℕ). codes " " ++ (c.name ++ ys)) (names_shown c.args rest)
+    ∙ ap (λ (ys : List ℕ). codes " " ++ ys)
+    (sym (append_assoc c.name (listed (map (λ (x : RawName). x.name) c.args)) (shown false rest)))
 
-constructors_shown : (version k t : ℕ) (cs : List RawNames) (rest : List Marked) → shown false (constructors_text version k t cs rest) ≡ flat_map (λ u. codes " | " ++ u) (map names_printed cs) ++ shown false rest
+constructors_shown : (version k t : ℕ) (cs : List RawNames) (rest : List Marked) →
+    shown false (constructors_text version k t cs rest) ≡ flat_map (λ u. codes " | " ++ u)
+    (map names_printed cs) ++ shown false rest
 constructors_shown version k t [] rest = refl
 constructors_shown version k t (c ∷ cs) rest =
-    ap (λ (ys : List ℕ). codes " |" ++ ys) (con_shown (constructor_mark version k t) c (constructors_text version (k + 1) (t + 1) cs rest)) ∙ ap (λ (ys : List ℕ). codes " | " ++ (names_printed c ++ ys)) (constructors_shown version (k + 1) (t + 1) cs rest) ∙ sym (regroup_three (codes " | ") (names_printed c) (flat_map (λ u. codes " | " ++ u) (map names_printed cs)) (shown false rest))
+    ap (λ (ys : List ℕ). codes " |" ++ ys)
+    (con_shown (constructor_mark version k t) c (constructors_text version (k + 1) (t + 1) cs rest))
+    ∙ ap (λ (ys : List ℕ). codes " | " ++ (names_printed c ++ ys))
+    (constructors_shown version (k + 1) (t + 1) cs rest)
+    ∙ sym (regroup_three (codes " | ") (names_printed c)
+    (flat_map (λ u. codes " | " ++ u) (map names_printed cs)) (shown false rest))
 
 -- sorts, before what begins a line
-sort_joined : (a b c d e f g y x : List ℕ) → (((((a ++ b) ++ c) ++ ((d ++ e) ++ f)) ++ g) ++ y) ++ x ≡ a ++ (b ++ (c ++ (d ++ (e ++ (f ++ (g ++ (y ++ x)))))))
+sort_joined : (a b c d e f g y x : List ℕ) → (((((a ++ b) ++ c) ++ ((d ++ e) ++ f)) ++ g) ++ y) ++ x ≡ a
+    ++ (b ++ (c ++ (d ++ (e ++ (f ++ (g ++ (y ++ x)))))))
 sort_joined a b c d e f g y x = simp append_assoc
 
-sort_shown : (s : RawSort) (first : RawNames) (others : List RawNames) (later x : List ℕ) → s.constructors ≡ first ∷ others → codes "sort " ++ (s.head.name ++ (codes " =" ++ (codes " " ++ (names_printed first ++ (flat_map (λ u. codes " | " ++ u) (map names_printed others) ++ (codes "\n" ++ (later ++ x))))))) ≡ (sort_line s ++ later) ++ x
+sort_shown : (s : RawSort) (first : RawNames) (others : List RawNames) (later x : List ℕ) →
+    s.constructors ≡ first ∷ others →
+    codes "sort " ++ (s.head.name
+    ++ (codes " =" ++ (codes " "
+    ++ (names_printed first ++ (flat_map (λ u. codes " | " ++ u) (map names_printed others)
+    ++ (codes "\n" ++ (later ++ x))))))) ≡ (sort_line s ++ later) ++ x
 sort_shown s first others later x e =
-    sym (sort_joined (codes "sort ") s.head.name (codes " =") (codes " ") (names_printed first) (flat_map (λ u. codes " | " ++ u) (map names_printed others)) (codes "\n") later x)
-    ∙ ap (λ (cs : List RawNames). (((((codes "sort " ++ s.head.name) ++ codes " =") ++ spaced (codes " | ") (map names_printed cs)) ++ codes "\n") ++ later) ++ x) (sym e)
+    sym (sort_joined (codes "sort ") s.head.name (codes " =") (codes " ") (names_printed first)
+    (flat_map (λ u. codes " | " ++ u) (map names_printed others)) (codes "\n") later x)
+    ∙ ap (λ (cs : List RawNames).
+    (((((codes "sort " ++ s.head.name) ++ codes " =") ++ spaced (codes " | ") (map names_printed cs))
+    ++ codes "\n") ++ later) ++ x) (sym e)
 
-sorts_shown : (version n t : ℕ) (ss : List RawSort) (text rest : List Marked) (x : List ℕ) → AreSorts version n t ss text rest → shown false rest ≡ codes "\n" ++ x → shown false text ≡ codes "\n" ++ (flat_map sort_line ss ++ x)
+sorts_shown : (version n t : ℕ) (ss : List RawSort) (text rest : List Marked) (x : List ℕ) →
+    AreSorts version n t ss text rest → shown false rest ≡ codes "\n" ++ x → shown false text ≡ codes "\n"
+    ++ (flat_map sort_line ss ++ x)
 sorts_shown version n t [] text rest x s h = ap (shown false) s ∙ h
 sorts_shown version n t (s ∷ ss) text rest x a h =
     let later : List ℕ = flat_map sort_line ss in
     let before : List ℕ → List ℕ = λ (ys : List ℕ). codes "\nsort " ++ (s.head.name ++ (codes " =" ++ ys)) in
     let others : List ℕ = flat_map (λ u. codes " | " ++ u) (map names_printed a.1) in
-    ap (shown false) a.4 ∙ ap before (con_shown (constructor_mark version 0 t) a.0 (constructors_text version 1 (t + 1) a.1 a.2)) ∙ ap (λ (ys : List ℕ). before (codes " " ++ (names_printed a.0 ++ ys))) (constructors_shown version 1 (t + 1) a.1 a.2)
-    ∙ ap (λ (ys : List ℕ). before (codes " " ++ (names_printed a.0 ++ (others ++ ys)))) (sorts_shown version (n + 1) (t + 1 + length a.1) ss a.2 rest x a.5 h)
+    ap (shown false) a.4 ∙ ap before
+    (con_shown (constructor_mark version 0 t) a.0 (constructors_text version 1 (t + 1) a.1 a.2))
+    ∙ ap (λ (ys : List ℕ). before (codes " " ++ (names_printed a.0 ++ ys)))
+    (constructors_shown version 1 (t + 1) a.1 a.2)
+    ∙ ap (λ (ys : List ℕ). before (codes " " ++ (names_printed a.0 ++ (others ++ ys))))
+    (sorts_shown version (n + 1) (t + 1 + length a.1) ss a.2 rest x a.5 h)
     ∙ ap (λ (ys : List ℕ). codes "\n" ++ ys) (sort_shown s a.0 a.1 later x a.3)
 
 -- functions
-funs_shown : (version n : ℕ) (fs : List RawFun) (rest : List Marked) (x : List ℕ) → shown false rest ≡ codes "\n" ++ x → shown false (funs_text version n fs rest) ≡ codes "\n" ++ (flat_map fun_line fs ++ x)
+funs_shown : (version n : ℕ) (fs : List RawFun) (rest : List Marked) (x : List ℕ) →
+    shown false rest ≡ codes "\n" ++ x → shown false (funs_text version n fs rest) ≡ codes "\n"
+    ++ (flat_map fun_line fs ++ x)
 funs_shown version n [] rest x h = h
 funs_shown version n (f ∷ fs) rest x h =
     let later : List ℕ = flat_map fun_line fs in
     let after : List Marked = sign Colon ∷ name_text None f.result (funs_text version (n + 1) fs rest) in
-    ap (λ (ys : List ℕ). codes "\nfun" ++ ys) (con_shown None f.head after) ∙ ap (λ (ys : List ℕ). codes "\nfun " ++ (names_printed f.head ++ (codes " : " ++ (f.result.name ++ ys)))) (funs_shown version (n + 1) fs rest x h)
-    ∙ ap (λ (ys : List ℕ). codes "\n" ++ ys) (sym (regroup_six (codes "fun ") (names_printed f.head) (codes " : ") f.result.name (codes "\n") later x))
+    ap (λ (ys : List ℕ). codes "\nfun" ++ ys) (con_shown None f.head after)
+    ∙ ap (λ (ys : List ℕ). codes "\nfun "
+    ++ (names_printed f.head ++ (codes " : " ++ (f.result.name ++ ys)))) (funs_shown version (n + 1) fs rest x h)
+    ∙ ap (λ (ys : List ℕ). codes "\n" ++ ys)
+    (sym (regroup_six (codes "fun ") (names_printed f.head) (codes " : ") f.result.name (codes "\n") later x))
 
 -- how functions are ordered
 abbrev names_more : List RawName → List ℕ
@@ -219,109 +268,157 @@ order_shown (Some o) rest x h =
 
 -- terms
 mutual
-  term_shown : (d : ℕ) (mark : Option LimitKind) (t : RawTree) (rest : List Marked) (inner : Bool) → shown inner (term_text d mark t rest) ≡ blank inner ++ (term_printed t ++ shown false rest)
+  term_shown : (d : ℕ) (mark : Option LimitKind) (t : RawTree) (rest : List Marked) (inner : Bool) →
+      shown inner (term_text d mark t rest) ≡ blank inner ++ (term_printed t ++ shown false rest)
   term_shown d mark (word name at none) rest inner = refl
   term_shown d mark (word name at (some t ts)) rest inner =
       let close : List Marked = sign RightPar ∷ rest in
       let before : List ℕ → List ℕ = λ (ys : List ℕ). blank inner ++ (name ++ (codes "(" ++ ys)) in
-      ap before (term_shown (d + 1) (term_mark (d + 1) 0) t (more_text (d + 1) 1 ts close) true) ∙ ap (λ (ys : List ℕ). before (term_printed t ++ ys)) (more_shown (d + 1) 1 ts close)
-      ∙ ap (λ (ys : List ℕ). blank inner ++ ys) (sym (regroup_five name (codes "(") (term_printed t) (others_printed ts) (codes ")") (shown false rest)))
+      ap before (term_shown (d + 1) (term_mark (d + 1) 0) t (more_text (d + 1) 1 ts close) true)
+      ∙ ap (λ (ys : List ℕ). before (term_printed t ++ ys)) (more_shown (d + 1) 1 ts close)
+      ∙ ap (λ (ys : List ℕ). blank inner ++ ys)
+      (sym (regroup_five name (codes "(") (term_printed t) (others_printed ts) (codes ")") (shown false rest)))
 
-  more_shown : (d n : ℕ) (ts : RawTrees) (rest : List Marked) → shown false (more_text d n ts rest) ≡ others_printed ts ++ shown false rest
+  more_shown : (d n : ℕ) (ts : RawTrees) (rest : List Marked) →
+      shown false (more_text d n ts rest) ≡ others_printed ts ++ shown false rest
   more_shown d n none rest = refl
   more_shown d n (some t ts) rest =
-      ap (λ (ys : List ℕ). codes "," ++ ys) (term_shown d (term_mark d n) t (more_text d (n + 1) ts rest) false) ∙ ap (λ (ys : List ℕ). codes ", " ++ (term_printed t ++ ys)) (more_shown d (n + 1) ts rest)
+      ap (λ (ys : List ℕ). codes "," ++ ys) (term_shown d (term_mark d n) t (more_text d (n + 1) ts rest) false)
+      ∙ ap (λ (ys : List ℕ). codes ", " ++ (term_printed t ++ ys)) (more_shown d (n + 1) ts rest)
       ∙ sym (regroup_three (codes ", ") (term_printed t) (others_printed ts) (shown false rest))
 
-sides_shown : (mark : Option LimitKind) (left right : RawTree) (rest : List Marked) → shown false (sides_text mark left right rest) ≡ codes " " ++ (sides_printed left right ++ shown false rest)
+sides_shown : (mark : Option LimitKind) (left right : RawTree) (rest : List Marked) →
+    shown false (sides_text mark left right rest) ≡ codes " " ++ (sides_printed left right ++ shown false rest)
 sides_shown mark left right rest =
-    term_shown 0 mark left (sign Equals ∷ term_text 0 None right rest) false ∙ ap (λ (ys : List ℕ). codes " " ++ (term_printed left ++ (codes " =" ++ ys))) (term_shown 0 None right rest false)
-    ∙ ap (λ (ys : List ℕ). codes " " ++ ys) (sym (regroup_three (term_printed left) (codes " = ") (term_printed right) (shown false rest)))
+    term_shown 0 mark left (sign Equals ∷ term_text 0 None right rest) false
+    ∙ ap (λ (ys : List ℕ). codes " " ++ (term_printed left ++ (codes " =" ++ ys)))
+    (term_shown 0 None right rest false)
+    ∙ ap (λ (ys : List ℕ). codes " " ++ ys)
+    (sym (regroup_three (term_printed left) (codes " = ") (term_printed right) (shown false rest)))
 
 -- rules
-guard_shown : (wanted : Bool) (mark : Option LimitKind) (w : List Marked) (ys : List ℕ) → shown false w ≡ codes " " ++ ys → shown false ((Sign (guard_key wanted), mark) ∷ w) ≡ (if wanted then codes " if " else codes " unless ") ++ ys
+guard_shown : (wanted : Bool) (mark : Option LimitKind) (w : List Marked) (ys : List ℕ) →
+    shown false w ≡ codes " " ++ ys →
+    shown false ((Sign (guard_key wanted), mark) ∷ w) ≡ (if wanted then codes " if " else codes " unless ") ++ ys
 guard_shown true mark w ys h = ap (λ (xs : List ℕ). codes " if" ++ xs) h
 guard_shown false mark w ys h = ap (λ (xs : List ℕ). codes " unless" ++ xs) h
 
-guards_shown : (n : ℕ) (gs : List RawGuard) (rest : List Marked) → shown false (guards_text n gs rest) ≡ flat_map guard_printed gs ++ shown false rest
+guards_shown : (n : ℕ) (gs : List RawGuard) (rest : List Marked) →
+    shown false (guards_text n gs rest) ≡ flat_map guard_printed gs ++ shown false rest
 guards_shown n [] rest = refl
 guards_shown n (g ∷ gs) rest =
     let key : List ℕ = if g.wanted then codes " if " else codes " unless " in
     let after : List Marked = guards_text (n + 1) gs rest in
-    guard_shown g.wanted (guard_mark n) (term_text 0 None g.test after) (term_printed g.test ++ shown false after) (term_shown 0 None g.test after false)
-    ∙ ap (λ (ys : List ℕ). key ++ (term_printed g.test ++ ys)) (guards_shown (n + 1) gs rest) ∙ sym (regroup_three key (term_printed g.test) (flat_map guard_printed gs) (shown false rest))
+    guard_shown g.wanted (guard_mark n) (term_text 0 None g.test after) (term_printed g.test
+    ++ shown false after) (term_shown 0 None g.test after false)
+    ∙ ap (λ (ys : List ℕ). key ++ (term_printed g.test ++ ys)) (guards_shown (n + 1) gs rest)
+    ∙ sym (regroup_three key (term_printed g.test) (flat_map guard_printed gs) (shown false rest))
 
-rules_shown : (version n : ℕ) (rs : List RawRule) (rest : List Marked) (x : List ℕ) → shown false rest ≡ codes "\n" ++ x → shown false (rules_text version n rs rest) ≡ codes "\n" ++ (flat_map rule_line rs ++ x)
+rules_shown : (version n : ℕ) (rs : List RawRule) (rest : List Marked) (x : List ℕ) →
+    shown false rest ≡ codes "\n" ++ x → shown false (rules_text version n rs rest) ≡ codes "\n"
+    ++ (flat_map rule_line rs ++ x)
 rules_shown version n [] rest x h = h
 rules_shown version n (r ∷ rs) rest x h =
     let later : List ℕ = flat_map rule_line rs in
     let after : List Marked = rules_text version (n + 1) rs rest in
     let sides : List ℕ = sides_printed r.left r.right in
     let guards : List ℕ = flat_map guard_printed r.guards in
-    ap (λ (ys : List ℕ). codes "\nrule" ++ ys) (sides_shown None r.left r.right (guards_text 0 r.guards after)) ∙ ap (λ (ys : List ℕ). codes "\nrule " ++ (sides ++ ys)) (guards_shown 0 r.guards after)
-    ∙ ap (λ (ys : List ℕ). codes "\nrule " ++ (sides ++ (guards ++ ys))) (rules_shown version (n + 1) rs rest x h) ∙ ap (λ (ys : List ℕ). codes "\n" ++ ys) (sym (regroup_five (codes "rule ") sides guards (codes "\n") later x))
+    ap (λ (ys : List ℕ). codes "\nrule" ++ ys) (sides_shown None r.left r.right (guards_text 0 r.guards after))
+    ∙ ap (λ (ys : List ℕ). codes "\nrule " ++ (sides ++ ys)) (guards_shown 0 r.guards after)
+    ∙ ap (λ (ys : List ℕ). codes "\nrule " ++ (sides ++ (guards ++ ys)))
+    (rules_shown version (n + 1) rs rest x h)
+    ∙ ap (λ (ys : List ℕ). codes "\n" ++ ys) (sym (regroup_five (codes "rule ") sides guards (codes "\n") later x))
 
 -- clauses
-commas_shown : (n : ℕ) (es : List RawEq) (rest : List Marked) → shown false (commas_text n es rest) ≡ flat_map (λ u. codes ", " ++ u) (map equation_printed es) ++ shown false rest
+commas_shown : (n : ℕ) (es : List RawEq) (rest : List Marked) →
+    shown false (commas_text n es rest) ≡ flat_map (λ u. codes ", " ++ u) (map equation_printed es) ++ shown false rest
 commas_shown n [] rest = refl
 commas_shown n (e ∷ es) rest =
-    ap (λ (ys : List ℕ). codes "," ++ ys) (sides_shown (premise_mark n) e.left e.right (commas_text (n + 1) es rest)) ∙ ap (λ (ys : List ℕ). codes ", " ++ (equation_printed e ++ ys)) (commas_shown (n + 1) es rest)
-    ∙ sym (regroup_three (codes ", ") (equation_printed e) (flat_map (λ u. codes ", " ++ u) (map equation_printed es)) (shown false rest))
+    ap (λ (ys : List ℕ). codes "," ++ ys)
+    (sides_shown (premise_mark n) e.left e.right (commas_text (n + 1) es rest))
+    ∙ ap (λ (ys : List ℕ). codes ", " ++ (equation_printed e ++ ys)) (commas_shown (n + 1) es rest)
+    ∙ sym (regroup_three (codes ", ") (equation_printed e)
+    (flat_map (λ u. codes ", " ++ u) (map equation_printed es)) (shown false rest))
 
-bars_shown : (n : ℕ) (es : List RawEq) (rest : List Marked) → shown false (bars_text n es rest) ≡ flat_map (λ u. codes " | " ++ u) (map equation_printed es) ++ shown false rest
+bars_shown : (n : ℕ) (es : List RawEq) (rest : List Marked) →
+    shown false (bars_text n es rest) ≡ flat_map (λ u. codes " | " ++ u) (map equation_printed es) ++ shown false rest
 bars_shown n [] rest = refl
 bars_shown n (e ∷ es) rest =
-    ap (λ (ys : List ℕ). codes " |" ++ ys) (sides_shown (conclusion_mark n) e.left e.right (bars_text (n + 1) es rest)) ∙ ap (λ (ys : List ℕ). codes " | " ++ (equation_printed e ++ ys)) (bars_shown (n + 1) es rest)
-    ∙ sym (regroup_three (codes " | ") (equation_printed e) (flat_map (λ u. codes " | " ++ u) (map equation_printed es)) (shown false rest))
+    ap (λ (ys : List ℕ). codes " |" ++ ys)
+    (sides_shown (conclusion_mark n) e.left e.right (bars_text (n + 1) es rest))
+    ∙ ap (λ (ys : List ℕ). codes " | " ++ (equation_printed e ++ ys)) (bars_shown (n + 1) es rest)
+    ∙ sym (regroup_three (codes " | ") (equation_printed e)
+    (flat_map (λ u. codes " | " ++ u) (map equation_printed es)) (shown false rest))
 
-premises_shown : (ps : List RawEq) (rest : List Marked) → shown false (premises_text ps rest) ≡ spaced (codes ", ") (map equation_printed ps) ++ shown false rest
+premises_shown : (ps : List RawEq) (rest : List Marked) →
+    shown false (premises_text ps rest) ≡ spaced (codes ", ") (map equation_printed ps) ++ shown false rest
 premises_shown [] rest = refl
 premises_shown (e ∷ es) rest =
-    sides_shown (premise_mark 0) e.left e.right (commas_text 1 es rest) ∙ ap (λ (ys : List ℕ). codes " " ++ (equation_printed e ++ ys)) (commas_shown 1 es rest)
-    ∙ sym (regroup_three (codes " ") (equation_printed e) (flat_map (λ u. codes ", " ++ u) (map equation_printed es)) (shown false rest))
+    sides_shown (premise_mark 0) e.left e.right (commas_text 1 es rest)
+    ∙ ap (λ (ys : List ℕ). codes " " ++ (equation_printed e ++ ys)) (commas_shown 1 es rest)
+    ∙ sym (regroup_three (codes " ") (equation_printed e)
+    (flat_map (λ u. codes ", " ++ u) (map equation_printed es)) (shown false rest))
 
-conclusions_shown : (cs : List RawEq) (rest : List Marked) → shown false (conclusions_text cs rest) ≡ spaced (codes " | ") (map equation_printed cs) ++ shown false rest
+conclusions_shown : (cs : List RawEq) (rest : List Marked) →
+    shown false (conclusions_text cs rest) ≡ spaced (codes " | ") (map equation_printed cs) ++ shown false rest
 conclusions_shown [] rest = refl
 conclusions_shown (e ∷ es) rest =
-    sides_shown (conclusion_mark 0) e.left e.right (bars_text 1 es rest) ∙ ap (λ (ys : List ℕ). codes " " ++ (equation_printed e ++ ys)) (bars_shown 1 es rest)
-    ∙ sym (regroup_three (codes " ") (equation_printed e) (flat_map (λ u. codes " | " ++ u) (map equation_printed es)) (shown false rest))
+    sides_shown (conclusion_mark 0) e.left e.right (bars_text 1 es rest)
+    ∙ ap (λ (ys : List ℕ). codes " " ++ (equation_printed e ++ ys)) (bars_shown 1 es rest)
+    ∙ sym (regroup_three (codes " ") (equation_printed e)
+    (flat_map (λ u. codes " | " ++ u) (map equation_printed es)) (shown false rest))
 
-clause_shown : (ps cs : List RawEq) (rest : List Marked) → shown false (clause_text ps cs rest) ≡ clause_printed ps cs ++ shown false rest
+clause_shown : (ps cs : List RawEq) (rest : List Marked) →
+    shown false (clause_text ps cs rest) ≡ clause_printed ps cs ++ shown false rest
 clause_shown [] [] rest = refl
 clause_shown [] (c ∷ cs) rest = conclusions_shown (c ∷ cs) rest
 clause_shown (p ∷ ps) cs rest =
     let premises : List ℕ = spaced (codes ", ") (map equation_printed (p ∷ ps)) in
-    premises_shown (p ∷ ps) (sign Arrow ∷ conclusions_text cs rest) ∙ ap (λ (ys : List ℕ). premises ++ (codes " =>" ++ ys)) (conclusions_shown cs rest)
+    premises_shown (p ∷ ps) (sign Arrow ∷ conclusions_text cs rest)
+    ∙ ap (λ (ys : List ℕ). premises ++ (codes " =>" ++ ys)) (conclusions_shown cs rest)
     ∙ sym (regroup_three premises (codes " =>") (spaced (codes " | ") (map equation_printed cs)) (shown false rest))
 
 -- goals
-bind_shown : (mark : Option LimitKind) (b : RawBind) (rest : List Marked) (inner : Bool) → shown inner (bind_text mark b rest) ≡ blank inner ++ (bind_printed b ++ shown false rest)
-bind_shown mark b rest inner = ap (λ (ys : List ℕ). blank inner ++ ys) (sym (regroup_three b.name.name (codes " : ") b.sort.name (shown false rest)))
+bind_shown : (mark : Option LimitKind) (b : RawBind) (rest : List Marked) (inner : Bool) →
+    shown inner (bind_text mark b rest) ≡ blank inner ++ (bind_printed b ++ shown false rest)
+bind_shown mark b rest inner = ap (λ (ys : List ℕ). blank inner ++ ys)
+    (sym (regroup_three b.name.name (codes " : ") b.sort.name (shown false rest)))
 
-more_binds_shown : (n : ℕ) (bs : List RawBind) (rest : List Marked) → shown false (more_binds_text n bs rest) ≡ flat_map (λ u. codes ", " ++ u) (map bind_printed bs) ++ shown false rest
+more_binds_shown : (n : ℕ) (bs : List RawBind) (rest : List Marked) →
+    shown false (more_binds_text n bs rest) ≡ flat_map (λ u. codes ", " ++ u) (map bind_printed bs) ++ shown false rest
 more_binds_shown n [] rest = refl
 more_binds_shown n (b ∷ bs) rest =
-    ap (λ (ys : List ℕ). codes "," ++ ys) (bind_shown (variable_mark n) b (more_binds_text (n + 1) bs rest) false) ∙ ap (λ (ys : List ℕ). codes ", " ++ (bind_printed b ++ ys)) (more_binds_shown (n + 1) bs rest)
-    ∙ sym (regroup_three (codes ", ") (bind_printed b) (flat_map (λ u. codes ", " ++ u) (map bind_printed bs)) (shown false rest))
+    ap (λ (ys : List ℕ). codes "," ++ ys) (bind_shown (variable_mark n) b (more_binds_text (n + 1) bs rest)
+    false) ∙ ap (λ (ys : List ℕ). codes ", " ++ (bind_printed b ++ ys)) (more_binds_shown (n + 1) bs rest)
+    ∙ sym (regroup_three (codes ", ") (bind_printed b) (flat_map (λ u. codes ", " ++ u) (map bind_printed bs))
+    (shown false rest))
 
-binds_shown : (bs : List RawBind) (rest : List Marked) → shown false (binds_text bs rest) ≡ listed (map bind_printed bs) ++ shown false rest
+binds_shown : (bs : List RawBind) (rest : List Marked) →
+    shown false (binds_text bs rest) ≡ listed (map bind_printed bs) ++ shown false rest
 binds_shown [] rest = refl
 binds_shown (b ∷ bs) rest =
     let close : List Marked = sign RightPar ∷ rest in
-    ap (λ (ys : List ℕ). codes "(" ++ ys) (bind_shown (variable_mark 0) b (more_binds_text 1 bs close) true) ∙ ap (λ (ys : List ℕ). codes "(" ++ (bind_printed b ++ ys)) (more_binds_shown 1 bs close)
-    ∙ sym (regroup_four (codes "(") (bind_printed b) (flat_map (λ u. codes ", " ++ u) (map bind_printed bs)) (codes ")") (shown false rest))
+    ap (λ (ys : List ℕ). codes "(" ++ ys) (bind_shown (variable_mark 0) b (more_binds_text 1 bs close) true)
+    ∙ ap (λ (ys : List ℕ). codes "(" ++ (bind_printed b ++ ys)) (more_binds_shown 1 bs close)
+    ∙ sym (regroup_four (codes "(") (bind_printed b) (flat_map (λ u. codes ", " ++ u) (map bind_printed bs))
+    (codes ")") (shown false rest))
 
-goals_shown : (n : ℕ) (gs : List RawGoal) (rest : List Marked) (x : List ℕ) → shown false rest ≡ codes "\n" ++ x → shown false (goals_text n gs rest) ≡ codes "\n" ++ (flat_map goal_line gs ++ x)
+goals_shown : (n : ℕ) (gs : List RawGoal) (rest : List Marked) (x : List ℕ) → shown false rest ≡ codes "\n"
+    ++ x → shown false (goals_text n gs rest) ≡ codes "\n" ++ (flat_map goal_line gs ++ x)
 goals_shown n [] rest x h = h
 goals_shown n (g ∷ gs) rest x h =
     let later : List ℕ = flat_map goal_line gs in
     let after : List Marked = goals_text (n + 1) gs rest in
     let binds : List ℕ = listed (map bind_printed g.binds) in
     let clause : List ℕ = clause_printed g.premises g.conclusions in
-    ap (λ (ys : List ℕ). codes "\ngoal " ++ (g.head.name ++ ys)) (binds_shown g.binds (sign Colon ∷ clause_text g.premises g.conclusions after))
-    ∙ ap (λ (ys : List ℕ). codes "\ngoal " ++ (g.head.name ++ (binds ++ (codes " :" ++ ys)))) (clause_shown g.premises g.conclusions after)
-    ∙ ap (λ (ys : List ℕ). codes "\ngoal " ++ (g.head.name ++ (binds ++ (codes " :" ++ (clause ++ ys))))) (goals_shown (n + 1) gs rest x h)
-    ∙ ap (λ (ys : List ℕ). codes "\n" ++ ys) (sym (regroup_seven (codes "goal ") g.head.name binds (codes " :") clause (codes "\n") later x))
+    ap (λ (ys : List ℕ). codes "\ngoal " ++ (g.head.name ++ ys))
+    (binds_shown g.binds (sign Colon ∷ clause_text g.premises g.conclusions after))
+    ∙ ap (λ (ys : List ℕ). codes "\ngoal " ++ (g.head.name ++ (binds ++ (codes " :" ++ ys))))
+    (clause_shown g.premises g.conclusions after)
+    ∙ ap (λ (ys : List ℕ). codes "\ngoal " ++ (g.head.name ++ (binds ++ (codes " :" ++ (clause ++ ys)))))
+    (goals_shown (n + 1) gs rest x h)
+    ∙ ap (λ (ys : List ℕ). codes "\n" ++ ys)
+    (sym (regroup_seven (codes "goal ") g.head.name binds (codes " :") clause (codes "\n") later x))
 
 -- the whole
 parts_joined : (a s f e t o r g : List ℕ) →
@@ -329,7 +426,8 @@ parts_joined : (a s f e t o r g : List ℕ) →
 parts_joined a s f e t o r g = simp (append_assoc, append-nil)
 
 -- the header before all other lines
-headed : (version : ℕ) (x : List ℕ) → header_line version ++ x ≡ codes "spike " ++ (decimal version ++ (codes "\n" ++ x))
+headed : (version : ℕ) (x : List ℕ) → header_line version ++ x ≡ codes "spike "
+    ++ (decimal version ++ (codes "\n" ++ x))
 headed version x = regroup_three (codes "spike ") (decimal version) (codes "\n") x
 
 pub printed_is : (raw : RawSpec) (w : List Marked) → IsPlainText raw w → printed raw ≡ shown true w

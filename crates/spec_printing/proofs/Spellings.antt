@@ -7,7 +7,9 @@ use Rattle.std.proofs.lemmas.Slice.Eq.{bytes_eq-Decides}
 use Rattle.spec_text.specs.declared.tokens.TokenKind.{TokenKind}
 use Rattle.spec_text.specs.declared.tokens.TokenKind.TheVariants as kinds
 use Rattle.spec_grammar.specs.declared.keys.Key.{Key}
-use Rattle.spec_grammar.specs.declared.keys.Key.TheVariants.{Spike, Sort, Fun, Rule, Goal, If, Unless, Equal, Status, Order, LeftPar, RightPar, Comma, Colon, Equals, Bar, Arrow, Stray}
+use Rattle.spec_grammar.specs.declared.keys.Key.TheVariants.{Spike, Sort, Fun, Rule, Goal, If, Unless, Equal, Status}
+use Rattle.spec_grammar.specs.declared.keys.Key.TheVariants.{Order, LeftPar, RightPar, Comma, Colon, Equals, Bar}
+use Rattle.spec_grammar.specs.declared.keys.Key.TheVariants.{Arrow, Stray}
 use Rattle.spec_grammar.specs.Items.{Item, Word, Sign, Number, reserved}
 
 -- how a key is written

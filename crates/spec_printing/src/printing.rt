@@ -7,7 +7,12 @@ ghost use Rattle.spec_grammar.specs.RawTree.{raw_trees};
 ghost use Rattle.spec_grammar.specs.declared.raw.RawName.{RawName};
 ghost use Rattle.spec_printing.specs.ReadsBack.{ReadsBackAs};
 ghost use Rattle.spec_printing.specs.Upgraded.{upgraded};
-ghost use Rattle.spec_printing.specs.Printed.{printed, header_line, listed, spaced, term_printed, others_printed, sides_printed, equation_printed, names_printed, sort_line, fun_line, equal_line, status_line, weight_printed, weights_printed, order_line, guard_printed, rule_line, bind_printed, arrow_printed, clause_printed, goal_line};
+ghost use Rattle.spec_printing.specs.Printed.{printed, header_line, listed, spaced, term_printed};
+ghost use Rattle.spec_printing.specs.Printed.{others_printed, sides_printed, equation_printed};
+ghost use Rattle.spec_printing.specs.Printed.{names_printed, sort_line, fun_line, equal_line};
+ghost use Rattle.spec_printing.specs.Printed.{status_line, weight_printed, weights_printed};
+ghost use Rattle.spec_printing.specs.Printed.{order_line, guard_printed, rule_line, bind_printed};
+ghost use Rattle.spec_printing.specs.Printed.{arrow_printed, clause_printed, goal_line};
 
 use spec_grammar::{
     RawBind, RawEq, RawEqual, RawFun, RawGoal, RawGuard, RawName, RawNames, RawOrder, RawRule,

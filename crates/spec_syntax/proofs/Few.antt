@@ -18,19 +18,32 @@ length-clean : (items : List Item) → length (clean items) ≡ length items
 length-clean [] = refl
 length-clean (x ∷ items) = cc (length-clean items)
 
-few_tokens : (bytes : List ℕ) (tokens : List Token) → AreTokens bytes tokens → length (clean (items_of bytes tokens)) ≤ length bytes
-few_tokens bytes tokens h = omega (arith, length-clean (items_of bytes tokens), length-items_of bytes tokens, (spans_hold bytes tokens h).few)
+few_tokens : (bytes : List ℕ) (tokens : List Token) → AreTokens bytes tokens →
+    length (clean (items_of bytes tokens)) ≤ length bytes
+few_tokens bytes tokens h = omega (
+  arith,
+  length-clean (items_of bytes tokens),
+  length-items_of bytes tokens,
+  (spans_hold bytes tokens h).few,
+)
 
 spec_few : (bytes : List ℕ) (raw : RawSpec) → TextDerives IsSpecText bytes raw → HasFewWords (length bytes) raw
 spec_few bytes raw d = few_more _ _ raw (few_tokens bytes d.0 d.1) (spec_words raw (clean (items_of bytes d.0)) d.2)
 
 term_few : (bytes : List ℕ) (term : RawTree) → TextDerives IsTermText bytes term → words term ≤ length bytes
-term_few bytes term d = omega (arith, few_tokens bytes d.0 d.1, term_words 0 None term, ap (λ (w : List Marked). length w) d.2)
+term_few bytes term d = omega (
+  arith,
+  few_tokens bytes d.0 d.1,
+  term_words 0 None term,
+  ap (λ (w : List Marked). length w) d.2,
+)
 
-pub is_few : (bytes : List ℕ) (result : Result RawSpec SyntaxFault) → IfOk result (TextDerives IsSpecText bytes) → IfOk result (HasFewWords (length bytes))
+pub is_few : (bytes : List ℕ) (result : Result RawSpec SyntaxFault) →
+    IfOk result (TextDerives IsSpecText bytes) → IfOk result (HasFewWords (length bytes))
 is_few bytes (Ok raw) d = spec_few bytes raw d
 is_few bytes (Err fault) d = tt
 
-pub is_few_of_term : (bytes : List ℕ) (result : Result RawTree SyntaxFault) → IfOk result (TextDerives IsTermText bytes) → IfOk result (λ term. words term ≤ length bytes)
+pub is_few_of_term : (bytes : List ℕ) (result : Result RawTree SyntaxFault) →
+    IfOk result (TextDerives IsTermText bytes) → IfOk result (λ term. words term ≤ length bytes)
 is_few_of_term bytes (Ok term) d = term_few bytes term d
 is_few_of_term bytes (Err fault) d = tt

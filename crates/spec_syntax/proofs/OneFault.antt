@@ -13,20 +13,26 @@ use Rattle.spec_syntax.specs.Faults.{HasFault}
 use Rattle.spec_syntax.specs.declared.fault.SyntaxFault.{SyntaxFault}
 use Rattle.spec_syntax.specs.declared.fault.SyntaxFault.TheVariants.{Text, Syntax, Limit, OutOfMemory}
 
-module _ {R : Type 0} (start : List Symbol) (IsText : R → List Marked → Type 0) (agrees : (r : R) (w : List Marked) → IsText r w → Agrees start w) (means : (w : List Marked) → MeansTo start w [] → (r : R) × IsText r w) (one : (r q : R) (w : List Marked) → IsText r w → IsText q w → r ≡ q) (bytes : List ℕ) where
+module _ {R : Type 0} (start : List Symbol) (IsText : R → List Marked →
+    Type 0) (agrees : (r : R) (w : List Marked) → IsText r w → Agrees start w) (means : (w : List Marked) →
+    MeansTo start w [] → (r : R) × IsText r w) (one : (r q : R) (w : List Marked) → IsText r w → IsText q w →
+    r ≡ q) (bytes : List ℕ) where
   pub no_fault : (r : R) (fault : SyntaxFault) → TextDerives IsText bytes r → HasFault IsText bytes fault → ⊥
   no_fault r (Text at) d h = tokens_or_fault bytes d.0 at d.1 h
   no_fault r (Syntax at) d h = derived_or_fault start IsText agrees means one bytes r at None d h
   no_fault r (Limit at what) d h = derived_or_fault start IsText agrees means one bytes r at (Some what) d h
   no_fault r OutOfMemory d h = h
 
-  places : (at place : ℕ) (why what : Option LimitKind) → TextHasFault IsText bytes at why → TextHasFault IsText bytes place what → (at ≡ place) × (why ≡ what)
+  places : (at place : ℕ) (why what : Option LimitKind) → TextHasFault IsText bytes at why →
+      TextHasFault IsText bytes place what → (at ≡ place) × (why ≡ what)
   places at place why what h k = one_place start IsText agrees means one bytes at place why what h k
 
-  text_or_other : (at place : ℕ) (why : Option LimitKind) → IsTextFault bytes at → TextHasFault IsText bytes place why → ⊥
+  text_or_other : (at place : ℕ) (why : Option LimitKind) → IsTextFault bytes at →
+      TextHasFault IsText bytes place why → ⊥
   text_or_other at place why h k = tokens_or_fault bytes (k.0 ++ k.1) at k.2 h
 
-  pub same_fault : (fault other : SyntaxFault) → HasFault IsText bytes fault → HasFault IsText bytes other → fault ≡ other
+  pub same_fault : (fault other : SyntaxFault) → HasFault IsText bytes fault → HasFault IsText bytes other →
+      fault ≡ other
   same_fault (Text at) (Text place) h k = ap Text (one_fault bytes at place h k)
   same_fault (Text at) (Syntax place) h k = absurd (text_or_other at place None h k)
   same_fault (Text at) (Limit place what) h k = absurd (text_or_other at place (Some what) h k)

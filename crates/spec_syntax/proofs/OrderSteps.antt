@@ -5,7 +5,8 @@ use Rattle.spec_grammar.specs.declared.raw.RawName.{RawName}
 use Rattle.spec_grammar.specs.declared.raw.RawEqual.{RawEqual}
 use Rattle.spec_grammar.specs.declared.raw.RawStatus.{RawStatus}
 use Rattle.spec_grammar.specs.declared.raw.RawWeight.{RawWeight}
-use Rattle.spec_grammar.specs.Grammar.{Marked, sign, name_text, more_equal_text, AreEquals, numeral_text, more_numbers_text, AreStatuses, weight_text, more_weights_text, weights_text}
+use Rattle.spec_grammar.specs.Grammar.{Marked, sign, name_text, more_equal_text, AreEquals, numeral_text}
+use Rattle.spec_grammar.specs.Grammar.{more_numbers_text, AreStatuses, weight_text, more_weights_text, weights_text}
 use Rattle.spec_grammar.specs.Limits.{arity_mark}
 use Rattle.spec_syntax.specs.ReadingOrders.{AreNumbers}
 use Rattle.spec_syntax.proofs.Grow.{items_grow}

@@ -5,9 +5,13 @@ ghost use Rattle.std.specs.Bool.{MatchBool};
 ghost use Rattle.spec_grammar.specs.Grammar.{sign, sides_text, conclusions_text, IsClause};
 ghost use Rattle.spec_grammar.specs.Items.{items_of};
 ghost use Rattle.spec_grammar.specs.Limits.{premise_mark, conclusion_mark};
-ghost use Rattle.spec_grammar.specs.Symbols.{clause as clause_symbol, commas as commas_symbol, conclusions as conclusions_symbol, bars as bars_symbol};
+ghost use Rattle.spec_grammar.specs.Symbols.{clause as clause_symbol, commas as commas_symbol};
+ghost use Rattle.spec_grammar.specs.Symbols.{conclusions as conclusions_symbol};
+ghost use Rattle.spec_grammar.specs.Symbols.{bars as bars_symbol};
 ghost use Rattle.spec_grammar.specs.declared.keys.Key.TheVariants.{Comma, Bar, Arrow};
-ghost use Rattle.spec_syntax.specs.Reading.{Lacks, BeginsPremises, LacksPremises, Reads, ReadsAs, ReadsTo, ReadsNext, ReadsItem, ReadsBars, ReadsPremises};
+ghost use Rattle.spec_syntax.specs.Reading.{Lacks, BeginsPremises, LacksPremises, Reads, ReadsAs};
+ghost use Rattle.spec_syntax.specs.Reading.{ReadsTo, ReadsNext, ReadsItem, ReadsBars};
+ghost use Rattle.spec_syntax.specs.Reading.{ReadsPremises};
 
 use crate::stop::Stop;
 use crate::words::{Source, over};

@@ -1,10 +1,15 @@
 //! Functions and rules.
 
 ghost use Rattle.std.specs.Prelude.{◌≡◌, ◌≤◌, ◌<◌, ◌+◌, ◌∷◌, [], None, OnOk};
-ghost use Rattle.spec_grammar.specs.Grammar.{sign, name_text, term_text, sides_text, con_text, names_text, guard_key, guards_text, funs_text, rules_text};
+ghost use Rattle.spec_grammar.specs.Grammar.{sign, name_text, term_text, sides_text, con_text};
+ghost use Rattle.spec_grammar.specs.Grammar.{names_text, guard_key, guards_text, funs_text};
+ghost use Rattle.spec_grammar.specs.Grammar.{rules_text};
 ghost use Rattle.spec_grammar.specs.Items.{Sign, items_of};
 ghost use Rattle.spec_grammar.specs.Limits.{arity_mark, fun_mark, guard_mark, rule_mark};
-ghost use Rattle.spec_grammar.specs.Symbols.{name as name_symbol, names as names_symbol, more_names as more_names_symbol, key as key_symbol, funs as funs_symbol, rules as rules_symbol, guards as guards_symbol, sides_then};
+ghost use Rattle.spec_grammar.specs.Symbols.{name as name_symbol, names as names_symbol};
+ghost use Rattle.spec_grammar.specs.Symbols.{more_names as more_names_symbol, key as key_symbol};
+ghost use Rattle.spec_grammar.specs.Symbols.{funs as funs_symbol, rules as rules_symbol};
+ghost use Rattle.spec_grammar.specs.Symbols.{guards as guards_symbol, sides_then};
 ghost use Rattle.spec_grammar.specs.declared.keys.Key.TheVariants.{Comma, Colon, Fun, Rule};
 ghost use Rattle.spec_syntax.specs.Reading.{Reads, ReadsNext};
 

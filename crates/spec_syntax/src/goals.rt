@@ -4,9 +4,11 @@ ghost use Rattle.std.specs.Prelude.{◌≡◌, ◌+◌, ◌∷◌, [], None};
 ghost use Rattle.spec_grammar.specs.Grammar.{sign, bind_text, binds_text, AreGoals};
 ghost use Rattle.spec_grammar.specs.Items.{items_of};
 ghost use Rattle.spec_grammar.specs.Limits.{variable_mark};
-ghost use Rattle.spec_grammar.specs.Symbols.{goals as goals_symbol, binds as binds_symbol, more_binds as more_binds_symbol, bind_then};
+ghost use Rattle.spec_grammar.specs.Symbols.{goals as goals_symbol, binds as binds_symbol};
+ghost use Rattle.spec_grammar.specs.Symbols.{more_binds as more_binds_symbol, bind_then};
 ghost use Rattle.spec_grammar.specs.declared.keys.Key.TheVariants.{Comma};
-ghost use Rattle.spec_syntax.specs.Reading.{Reads, ReadsAs, ReadsNext, ReadsNextAs, IsGoalText, IsOneGoal, goal_symbols};
+ghost use Rattle.spec_syntax.specs.Reading.{Reads, ReadsAs, ReadsNext, ReadsNextAs, IsGoalText};
+ghost use Rattle.spec_syntax.specs.Reading.{IsOneGoal, goal_symbols};
 
 use crate::clauses::Clause;
 use crate::stop::Stop;
@@ -38,7 +40,8 @@ impl<'a> Source<'a> {
         n: usize,
     ) -> Result<Option<(RawGoal, &'t [Token])>, Stop>
         ensures { ReadsNextAs (λ x. IsOneGoal n x.0) (λ x. items_of self.now.bytes.now x.1.now)
-            (goals_symbol n) (goals_symbol (n + 1)) (items_of self.now.bytes.now tokens.now) result }
+            (goals_symbol n) (goals_symbol (n + 1))
+            (items_of self.now.bytes.now tokens.now) result }
     {
         let Some(next) = self.after_key(tokens, Key::Goal) else {
             return Ok(None);

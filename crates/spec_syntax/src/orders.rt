@@ -1,13 +1,21 @@
 //! Equal and status lines, and the order line.
 
 ghost use Rattle.std.specs.Prelude.{◌+◌, ◌∷◌, []};
-ghost use Rattle.spec_grammar.specs.Grammar.{sign, name_text, numeral_text, weight_text, weights_text, order_text, AreEquals, AreStatuses};
+ghost use Rattle.spec_grammar.specs.Grammar.{sign, name_text, numeral_text, weight_text};
+ghost use Rattle.spec_grammar.specs.Grammar.{weights_text, order_text, AreEquals, AreStatuses};
 ghost use Rattle.spec_grammar.specs.Items.{items_of};
 ghost use Rattle.spec_grammar.specs.Limits.{arity_mark};
-ghost use Rattle.spec_grammar.specs.Symbols.{equals as equals_symbol, more_equal as more_equal_symbol, statuses as statuses_symbol, numeral as numeral_symbol, more_numbers as more_numbers_symbol, order as order_symbol, weights as weights_symbol, more_weights as more_weights_symbol, weight_then};
+ghost use Rattle.spec_grammar.specs.Symbols.{equals as equals_symbol};
+ghost use Rattle.spec_grammar.specs.Symbols.{more_equal as more_equal_symbol};
+ghost use Rattle.spec_grammar.specs.Symbols.{statuses as statuses_symbol};
+ghost use Rattle.spec_grammar.specs.Symbols.{numeral as numeral_symbol};
+ghost use Rattle.spec_grammar.specs.Symbols.{more_numbers as more_numbers_symbol};
+ghost use Rattle.spec_grammar.specs.Symbols.{order as order_symbol, weights as weights_symbol};
+ghost use Rattle.spec_grammar.specs.Symbols.{more_weights as more_weights_symbol, weight_then};
 ghost use Rattle.spec_grammar.specs.declared.keys.Key.TheVariants.{Comma, Equal, Status};
 ghost use Rattle.spec_syntax.specs.Reading.{Reads, ReadsAs, ReadsNext, ReadsNextAs};
-ghost use Rattle.spec_syntax.specs.ReadingOrders.{ReadsOrder, AreNumbers, equal_symbols, number_symbols, status_symbols};
+ghost use Rattle.spec_syntax.specs.ReadingOrders.{ReadsOrder, AreNumbers, equal_symbols};
+ghost use Rattle.spec_syntax.specs.ReadingOrders.{number_symbols, status_symbols};
 
 use crate::stop::Stop;
 use crate::words::{Source, over};

@@ -10,7 +10,8 @@ ghost use Rattle.spec_grammar.specs.Symbols.{spec_symbols, term_symbols};
 ghost use Rattle.spec_grammar.specs.declared.raw.RawSpec.{RawSpec};
 ghost use Rattle.spec_syntax.specs.Faults.{IsAnswer, IsSyntaxFault, HasFault, TellsFault};
 ghost use Rattle.spec_syntax.specs.Reading.{ReadsFormat};
-ghost use Rattle.spec_syntax.specs.Wholes.{ReadsWhole, ReadsEnd, Settles, place_left, fault_of_stop};
+ghost use Rattle.spec_syntax.specs.Wholes.{ReadsWhole, ReadsEnd, Settles, place_left};
+ghost use Rattle.spec_syntax.specs.Wholes.{fault_of_stop};
 ghost use Rattle.spec_syntax.specs.declared.fault.SyntaxFault.{SyntaxFault};
 
 use crate::fault::SyntaxFault;

@@ -7,7 +7,8 @@ ghost use Rattle.spec_grammar.specs.Limits.{most_constructors, constructor_mark}
 ghost use Rattle.spec_grammar.specs.Symbols.{sorts as sorts_symbol};
 ghost use Rattle.spec_grammar.specs.declared.keys.Key.TheVariants.{Bar, Sort};
 ghost use Rattle.spec_syntax.specs.Reading.{ReadsAs};
-ghost use Rattle.spec_syntax.specs.ReadingSorts.{ReadsConstructor, ReadsConstructors, ReadsSort, ReadsNextSort};
+ghost use Rattle.spec_syntax.specs.ReadingSorts.{ReadsConstructor, ReadsConstructors, ReadsSort};
+ghost use Rattle.spec_syntax.specs.ReadingSorts.{ReadsNextSort};
 
 use crate::stop::Stop;
 use crate::words::{Source, over};
@@ -17,8 +18,8 @@ use spec_grammar::{
 use spec_text::Token;
 use term_core::Seq;
 
-/// The limit of a format that a constructor passes with `k` before it in its sort and `total` before
-/// it in all.
+/// The limit of a format that a constructor passes with `k` before it in its sort and `total`
+/// before it in all.
 fn constructor_over(version: u32, k: usize, total: usize) -> Option<LimitKind>
     ensures { result ≡ constructor_mark version k total }
 {
@@ -59,7 +60,8 @@ impl<'a> Source<'a> {
         total: usize,
     ) -> Result<Option<(RawSort, &'t [Token])>, Stop>
         requires { total ≤ most_constructors version }
-        ensures { ReadsNextSort version n total (λ x. x.0) (λ x. items_of self.now.bytes.now x.1.now)
+        ensures { ReadsNextSort version n total (λ x. x.0)
+            (λ x. items_of self.now.bytes.now x.1.now)
             (items_of self.now.bytes.now tokens.now) result }
     {
         let Some(next) = self.after_key(tokens, Key::Sort) else {
@@ -96,7 +98,8 @@ impl<'a> Source<'a> {
     ) -> Result<(Seq<RawNames>, &'t [Token]), Stop>
         requires { total ≤ most_constructors version }
         ensures { ReadsConstructors version total (λ x. x.0)
-            (λ x. items_of self.now.bytes.now x.1.now) (items_of self.now.bytes.now tokens.now) result }
+            (λ x. items_of self.now.bytes.now x.1.now)
+            (items_of self.now.bytes.now tokens.now) result }
     {
         let mut made = Seq::new(self.alloc);
         let (first, mut rest) = self.head(tokens, constructor_over(version, 0, total))?;

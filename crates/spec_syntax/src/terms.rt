@@ -6,7 +6,8 @@ ghost use Rattle.spec_grammar.specs.Grammar.{sign, term_text, args_text, sides_t
 ghost use Rattle.spec_grammar.specs.Items.{items_of};
 ghost use Rattle.spec_grammar.specs.declared.keys.Key.TheVariants.{Comma};
 ghost use Rattle.spec_grammar.specs.Limits.{term_mark};
-ghost use Rattle.spec_grammar.specs.Symbols.{args as args_symbol, more as more_symbol, term_then, sides_then};
+ghost use Rattle.spec_grammar.specs.Symbols.{args as args_symbol, more as more_symbol, term_then};
+ghost use Rattle.spec_grammar.specs.Symbols.{sides_then};
 ghost use Rattle.spec_syntax.specs.Reading.{Reads, ReadsNext};
 
 use crate::stop::Stop;

@@ -1,12 +1,15 @@
 //! The tokens that are left, and the name, key or number that is next.
 
-ghost use Rattle.std.specs.Prelude.{ℕ, List, ◌≡◌, ◌∷◌, [], None, OnOk, MatchOption, MatchResult, length};
+ghost use Rattle.std.specs.Prelude.{ℕ, List, ◌≡◌, ◌∷◌, [], None, OnOk, MatchOption, MatchResult};
+ghost use Rattle.std.specs.Prelude.{length};
 ghost use Rattle.std.specs.Bool.{MatchBool};
 ghost use Rattle.spec_grammar.specs.Grammar.{sign as sign_text, name_text};
-ghost use Rattle.spec_grammar.specs.Items.{Word, Sign, Number, Item, key_of as key_of_token, reserved as reserved_key, item_as, text_of, items_of};
+ghost use Rattle.spec_grammar.specs.Items.{Word, Sign, Number, Item, key_of as key_of_token};
+ghost use Rattle.spec_grammar.specs.Items.{reserved as reserved_key, item_as, text_of, items_of};
 ghost use Rattle.spec_grammar.specs.Limits.{over as over_limit};
 ghost use Rattle.spec_grammar.specs.Symbols.{key as key_symbol, name as name_symbol};
-ghost use Rattle.spec_syntax.specs.Reading.{Lacks, BeginsWord, LacksWord, LacksNumber, IsPassed, Reads};
+ghost use Rattle.spec_syntax.specs.Reading.{Lacks, BeginsWord, LacksWord, LacksNumber, IsPassed};
+ghost use Rattle.spec_syntax.specs.Reading.{Reads};
 
 use crate::stop::Stop;
 use spec_grammar::{Key, LimitKind, MAX_NAME_BYTES, RawName};

@@ -1,5 +1,6 @@
 -- The scanner's first token is the longest, spelled by its kind.
-use Rattle.std.proofs.Common.{◌≡◌, ◌⊎◌, inl, inr, ℕ, ◌+◌, ◌*◌, ◌<◌, ◌≤◌, List, [], ◌∷◌, ◌++◌, Option, Some, None, Bool, true, false, cond, length, refl, ap, sym, subst, ◌∙◌, arith, lit<}
+use Rattle.std.proofs.Common.{◌≡◌, ◌⊎◌, inl, inr, ℕ, ◌+◌, ◌*◌, ◌<◌, ◌≤◌, List, [], ◌∷◌, ◌++◌, Option, Some, None, Bool}
+use Rattle.std.proofs.Common.{true, false, cond, length, refl, ap, sym, subst, ◌∙◌, arith, lit<}
 use Rattle.std.specs.Prelude.{◌==◌, ◌||◌, IsTrue, nat_le}
 use Rattle.std.specs.List.{AllByRecursion}
 use Rattle.std.specs.Char.{digit_value, is_ascii_alphabetic}
@@ -12,7 +13,8 @@ use Rattle.spec_text.specs.Names.{starts}
 use Rattle.spec_text.specs.Lexemes.{IsSpelling, IsLexeme, IsLongest}
 use Rattle.spec_text.specs.Scanner.{skip_name, is_digit, digits, equals, sign_of}
 use Rattle.spec_text.specs.declared.tokens.TokenKind.{TokenKind}
-use Rattle.spec_text.specs.declared.tokens.TokenKind.TheVariants.{Word, Number, LeftPar, RightPar, Comma, Colon, Equals, Bar, Arrow}
+use Rattle.spec_text.specs.declared.tokens.TokenKind.TheVariants.{Word, Number, LeftPar, RightPar, Comma, Colon}
+use Rattle.spec_text.specs.declared.tokens.TokenKind.TheVariants.{Equals, Bar, Arrow}
 use Rattle.spec_text.proofs.GapLemmas.{nil_cons, cons_nil}
 
 pub none_some : {A : Type 0} {x : A} → ◌≡◌ {A = Option A} None (Some x) → ⊥
@@ -149,7 +151,11 @@ sign_of_is (Number n) c e = absurd e
 sign_of_is Equals c e = absurd e
 sign_of_is Arrow c e = absurd e
 
-pub sign_by : (a b d e f : Bool) (c : ℕ) (kind : TokenKind) → (c == 40) ≡ a → (c == 41) ≡ b → (c == 44) ≡ d → (c == 58) ≡ e → (c == 124) ≡ f → cond a (Some LeftPar) (cond b (Some RightPar) (cond d (Some Comma) (cond e (Some Colon) (cond f (Some Bar) None)))) ≡ Some kind → IsSign kind c
+pub sign_by : (a b d e f : Bool) (c : ℕ) (kind : TokenKind) → (c == 40) ≡ a → (c == 41) ≡ b → (c == 44) ≡ d →
+    (c == 58) ≡ e → (c == 124) ≡ f →
+    cond a (Some LeftPar)
+    (cond b (Some RightPar) (cond d (Some Comma) (cond e (Some Colon) (cond f (Some Bar) None)))) ≡ Some kind →
+    IsSign kind c
 sign_by true b d e f c kind p q r s t h = subst (λ k. IsSign k c) (some_is h) (eqb-true c 40 p)
 sign_by false true d e f c kind p q r s t h = subst (λ k. IsSign k c) (some_is h) (eqb-true c 41 q)
 sign_by false false true e f c kind p q r s t h = subst (λ k. IsSign k c) (some_is h) (eqb-true c 44 r)
@@ -201,12 +207,15 @@ equal_goes_on c cs e (equal f n) = inl n
 equal_goes_on c cs e (arrow f n) = inr n
 
 -- a text is longest if the next character may not go on with it
-pub longest_run : (P : ℕ → Type 0) (text rest : List ℕ) → Stops P rest → ((d : ℕ) (more : List ℕ) → IsLexeme (text ++ (d ∷ more)) → P d) → IsLongest text rest
+pub longest_run : (P : ℕ → Type 0) (text rest : List ℕ) → Stops P rest →
+    ((d : ℕ) (more : List ℕ) → IsLexeme (text ++ (d ∷ more)) → P d) → IsLongest text rest
 longest_run P text rest s f [] others e l = refl
 longest_run P text [] s f (d ∷ more) others e l = absurd (nil_cons e)
-longest_run P text (c ∷ rest) s f (d ∷ more) others e l = absurd (let same : c ≡ d = cc in s (subst P (sym same) (f d more l)))
+longest_run P text (c ∷ rest) s f (d ∷ more) others e l = absurd (let same : c ≡ d = cc in
+    s (subst P (sym same) (f d more l)))
 
-pub stops_at : (P : ℕ → Type 0) (text rest : List ℕ) → IsLongest text rest → ((d : ℕ) → P d → IsLexeme (text ++ (d ∷ []))) → Stops P rest
+pub stops_at : (P : ℕ → Type 0) (text rest : List ℕ) → IsLongest text rest →
+    ((d : ℕ) → P d → IsLexeme (text ++ (d ∷ []))) → Stops P rest
 stops_at P text [] l f = tt
 stops_at P text (d ∷ rest) l f = λ p. cons_nil (l (d ∷ []) rest refl (f d p))
 
@@ -239,7 +248,8 @@ skips (c ∷ cs) rest h s = rw h.0 (skips cs rest h.1 s)
 abbrev pub NamePart : List ℕ → List ℕ → Type 0
 NamePart cs rest = (name : List ℕ) × (cs ≡ name ++ rest) × AllByRecursion Continues name × Stops Continues rest
 
-part_step : (b : Bool) (c : ℕ) (cs : List ℕ) → is_xid_continue c ≡ b → NamePart cs (skip_name cs) → NamePart (c ∷ cs) (cond b (skip_name cs) (c ∷ cs))
+part_step : (b : Bool) (c : ℕ) (cs : List ℕ) → is_xid_continue c ≡ b → NamePart cs (skip_name cs) →
+    NamePart (c ∷ cs) (cond b (skip_name cs) (c ∷ cs))
 part_step true c cs e h = (c ∷ h.0, ap (λ ys. c ∷ ys) h.1, (e, h.2), h.3)
 part_step false c cs e h = ([], refl, tt, λ p. true_false (sym p ∙ e))
 
@@ -260,26 +270,35 @@ not_digit c e d = true_false (sym (digit_true c d) ∙ e)
 few : (k : ℕ) → k < 6 → nat_le 6 k ≡ false
 few k h = not_true (nat_le 6 k) (λ e. let le = leb-true 6 k e in absurd (omega arith))
 
-pub digits_read : (k v : ℕ) (ds rest : List ℕ) → AllDigits 10 ds → k + length ds ≤ 6 → Stops Digit rest → digits k v (ds ++ rest) ≡ Some (digits_value_after 10 v ds, rest)
+pub digits_read : (k v : ℕ) (ds rest : List ℕ) → AllDigits 10 ds → k + length ds ≤ 6 → Stops Digit rest →
+    digits k v (ds ++ rest) ≡ Some (digits_value_after 10 v ds, rest)
 digits_read k v [] [] h n s = refl
 digits_read k v [] (c ∷ rest) h n s = rw (digit_not c s) refl
-digits_read k v (d ∷ ds) rest h n s = rw (digit_true d h.0, few k (omega arith)) (digits_read (k + 1) (v * 10 + digit_value d) ds rest h.1 (omega arith) s)
+digits_read k v (d ∷ ds) rest h n s = rw (digit_true d h.0, few k (omega arith))
+    (digits_read (k + 1) (v * 10 + digit_value d) ds rest h.1 (omega arith) s)
 
 six : (k : ℕ) → nat_le 6 k ≡ false → k < 6
 six k e = grind arith
 
-refused_step : (b : Bool) (k : ℕ) (x : Option (ℕ × List ℕ)) → nat_le 6 k ≡ b → (k + 1 ≤ 6 → x ≡ None) → cond b None x ≡ None
+refused_step : (b : Bool) (k : ℕ) (x : Option (ℕ × List ℕ)) → nat_le 6 k ≡ b → (k + 1 ≤ 6 → x ≡ None) →
+    cond b None x ≡ None
 refused_step true k x e f = refl
 refused_step false k x e f = let lt = six k e in f (omega (arith, lt))
 
-pub digits_refused : (k v : ℕ) (ds rest : List ℕ) → AllDigits 10 ds → 6 < k + length ds → k ≤ 6 → digits k v (ds ++ rest) ≡ None
+pub digits_refused : (k v : ℕ) (ds rest : List ℕ) → AllDigits 10 ds → 6 < k + length ds → k ≤ 6 →
+    digits k v (ds ++ rest) ≡ None
 digits_refused k v [] rest h n le = absurd (omega arith)
-digits_refused k v (d ∷ ds) rest h n le = rw (digit_true d h.0) (refused_step (nat_le 6 k) k _ refl (λ q. digits_refused (k + 1) (v * 10 + digit_value d) ds rest h.1 (omega arith) q))
+digits_refused k v (d ∷ ds) rest h n le = rw (digit_true d h.0)
+    (refused_step (nat_le 6 k) k _ refl (λ q. digits_refused (k + 1) (v * 10 + digit_value d) ds rest h.1
+    (omega arith) q))
 
 abbrev Read : ℕ → ℕ → List ℕ → ℕ × List ℕ → Type 0
-Read k v cs r = (ds : List ℕ) × (cs ≡ ds ++ r.1) × AllDigits 10 ds × (r.0 ≡ digits_value_after 10 v ds) × (k + length ds ≤ 6) × Stops Digit r.1
+Read k v cs r = (ds : List ℕ) × (cs ≡ ds ++ r.1) × AllDigits 10 ds × (r.0 ≡ digits_value_after 10 v ds)
+    × (k + length ds ≤ 6) × Stops Digit r.1
 
-read_step : (b d : Bool) (k v c : ℕ) (cs : List ℕ) (x : Option (ℕ × List ℕ)) (r : ℕ × List ℕ) → is_digit c ≡ b → nat_le 6 k ≡ d → k ≤ 6 → (k + 1 ≤ 6 → x ≡ Some r → Read (k + 1) (v * 10 + digit_value c) cs r) → cond b (cond d None x) (Some (v, c ∷ cs)) ≡ Some r → Read k v (c ∷ cs) r
+read_step : (b d : Bool) (k v c : ℕ) (cs : List ℕ) (x : Option (ℕ × List ℕ)) (r : ℕ × List ℕ) → is_digit c ≡ b →
+    nat_le 6 k ≡ d → k ≤ 6 → (k + 1 ≤ 6 → x ≡ Some r → Read (k + 1) (v * 10 + digit_value c) cs r) →
+    cond b (cond d None x) (Some (v, c ∷ cs)) ≡ Some r → Read k v (c ∷ cs) r
 read_step true true k v c cs x r p q le f e = absurd (none_some e)
 read_step true false k v c cs x r p q le f e =
     let lt = six k q in
@@ -291,20 +310,27 @@ read_step false d k v c cs x r p q le f e =
     subst (λ (y : ℕ × List ℕ). Read k v (c ∷ cs) y) same ([], refl, tt, refl, omega arith, not_digit c p)
 
 number_read : (k v : ℕ) (cs : List ℕ) (r : ℕ × List ℕ) → k ≤ 6 → digits k v cs ≡ Some r → Read k v cs r
-number_read k v [] r le e = let same : (v, []) ≡ r = some_is e in subst (λ (y : ℕ × List ℕ). Read k v [] y) same ([], refl, tt, refl, omega arith, tt)
-number_read k v (c ∷ cs) r le e = read_step (is_digit c) (nat_le 6 k) k v c cs (digits (k + 1) (v * 10 + digit_value c) cs) r refl refl le (λ l f. number_read (k + 1) (v * 10 + digit_value c) cs r l f) e
+number_read k v [] r le e = let same : (v, []) ≡ r = some_is e in
+    subst (λ (y : ℕ × List ℕ). Read k v [] y) same ([], refl, tt, refl, omega arith, tt)
+number_read k v (c ∷ cs) r le e = read_step (is_digit c) (nat_le 6 k) k v c cs
+    (digits (k + 1) (v * 10 + digit_value c) cs) r refl refl le
+    (λ l f. number_read (k + 1) (v * 10 + digit_value c) cs r l f) e
 
 abbrev pub TooLong : ℕ → List ℕ → Type 0
 TooLong k cs = (ds : List ℕ) × (rest : List ℕ) × (cs ≡ ds ++ rest) × AllDigits 10 ds × (6 < k + length ds)
 
-long_step : (b d : Bool) (k v c : ℕ) (cs : List ℕ) (x : Option (ℕ × List ℕ)) → is_digit c ≡ b → nat_le 6 k ≡ d → (x ≡ None → TooLong (k + 1) cs) → cond b (cond d None x) (Some (v, c ∷ cs)) ≡ None → TooLong k (c ∷ cs)
-long_step true true k v c cs x p q f e = let le = leb-true 6 k q in (c ∷ [], cs, refl, (ltb-true (digit_value c) 10 p, tt), omega arith)
-long_step true false k v c cs x p q f e = let h = f e in let n = h.4 in (c ∷ h.0, h.1, ap (λ ys. c ∷ ys) h.2, (ltb-true (digit_value c) 10 p, h.3), omega (arith, n))
+long_step : (b d : Bool) (k v c : ℕ) (cs : List ℕ) (x : Option (ℕ × List ℕ)) → is_digit c ≡ b → nat_le 6 k ≡ d →
+    (x ≡ None → TooLong (k + 1) cs) → cond b (cond d None x) (Some (v, c ∷ cs)) ≡ None → TooLong k (c ∷ cs)
+long_step true true k v c cs x p q f e = let le = leb-true 6 k q in
+    (c ∷ [], cs, refl, (ltb-true (digit_value c) 10 p, tt), omega arith)
+long_step true false k v c cs x p q f e = let h = f e in let n = h.4 in
+    (c ∷ h.0, h.1, ap (λ ys. c ∷ ys) h.2, (ltb-true (digit_value c) 10 p, h.3), omega (arith, n))
 long_step false d k v c cs x p q f e = absurd (some_none e)
 
 pub too_long : (k v : ℕ) (cs : List ℕ) → digits k v cs ≡ None → TooLong k cs
 too_long k v [] e = absurd (some_none e)
-too_long k v (c ∷ cs) e = long_step (is_digit c) (nat_le 6 k) k v c cs (digits (k + 1) (v * 10 + digit_value c) cs) refl refl (λ h. too_long (k + 1) (v * 10 + digit_value c) cs h) e
+too_long k v (c ∷ cs) e = long_step (is_digit c) (nat_le 6 k) k v c cs
+    (digits (k + 1) (v * 10 + digit_value c) cs) refl refl (λ h. too_long (k + 1) (v * 10 + digit_value c) cs h) e
 
 -- the characters are a token's text, which nothing longer continues, and what follows
 abbrev pub Spelled : TokenKind → List ℕ → List ℕ → Type 0
@@ -312,11 +338,14 @@ Spelled kind cs after = (text : List ℕ) × (cs ≡ text ++ after) × IsSpellin
 
 -- each kind of token is longest if the next character can't go on with it
 pub word_longest : (c : ℕ) (name rest : List ℕ) → IsTrue (starts c) → Stops Continues rest → IsLongest (c ∷ name) rest
-word_longest c name rest s ends = longest_run Continues (c ∷ name) rest ends (λ d more l. all_after Continues name d more (word_goes_on c (name ++ (d ∷ more)) s (shape c (name ++ (d ∷ more)) l)))
+word_longest c name rest s ends = longest_run Continues (c ∷ name) rest ends
+    (λ d more l. all_after Continues name d more
+    (word_goes_on c (name ++ (d ∷ more)) s (shape c (name ++ (d ∷ more)) l)))
 
 pub numeral_longest : (ds rest : List ℕ) → IsNumeral 10 ds → Stops Digit rest → IsLongest ds rest
 numeral_longest [] rest n s = absurd (let lt = n.0 in omega (arith, lt))
-numeral_longest (c ∷ ds) rest n s = longest_run Digit (c ∷ ds) rest s (λ d more l. digits_after ds d more (numeral_goes_on c (ds ++ (d ∷ more)) n.1.0 (shape c (ds ++ (d ∷ more)) l)))
+numeral_longest (c ∷ ds) rest n s = longest_run Digit (c ∷ ds) rest s
+    (λ d more l. digits_after ds d more (numeral_goes_on c (ds ++ (d ∷ more)) n.1.0 (shape c (ds ++ (d ∷ more)) l)))
 
 pub word_spelled : (c : ℕ) (cs : List ℕ) → starts c ≡ true → Spelled Word (c ∷ cs) (skip_name cs)
 word_spelled c cs s =
@@ -329,7 +358,8 @@ begins_digit c cs [] [] d e s = absurd (cons_nil e)
 begins_digit c cs [] (x ∷ after) d e s = absurd (let same : c ≡ x = cc in s (subst Digit same d))
 begins_digit c cs (x ∷ ds) after d e s = omega arith
 
-pub number_spelled : (c : ℕ) (cs : List ℕ) (r : ℕ × List ℕ) → Digit c → digits 0 0 (c ∷ cs) ≡ Some r → Spelled (Number r.0) (c ∷ cs) r.1
+pub number_spelled : (c : ℕ) (cs : List ℕ) (r : ℕ × List ℕ) → Digit c → digits 0 0 (c ∷ cs) ≡ Some r →
+    Spelled (Number r.0) (c ∷ cs) r.1
 number_spelled c cs r d e =
     let h = number_read 0 0 (c ∷ cs) r (omega arith) e in
     let n : IsNumeral 10 h.0 = (begins_digit c cs h.0 r.1 d h.1 h.5, h.2) in
@@ -337,17 +367,20 @@ number_spelled c cs r d e =
     (h.0, h.1, (n, omega (arith, le), h.3), numeral_longest h.0 r.1 n h.5)
 
 pub sign_longest : (kind : TokenKind) (c : ℕ) (rest : List ℕ) → IsSign kind c → IsLongest (c ∷ []) rest
-sign_longest kind c rest e = longest_run (λ _. ⊥) (c ∷ []) rest (stops_never rest) (λ d more l. cons_nil (sign_goes_on kind c (d ∷ more) e (shape c (d ∷ more) l)))
+sign_longest kind c rest e = longest_run (λ _. ⊥) (c ∷ []) rest (stops_never rest)
+    (λ d more l. cons_nil (sign_goes_on kind c (d ∷ more) e (shape c (d ∷ more) l)))
 
 pub equal_longest : (rest : List ℕ) → Stops (λ d. d ≡ 62) rest → IsLongest (61 ∷ []) rest
-equal_longest rest s = longest_run (λ d. d ≡ 62) (61 ∷ []) rest s (λ d more l. by d more (equal_goes_on 61 (d ∷ more) refl (shape 61 (d ∷ more) l)))
+equal_longest rest s = longest_run (λ d. d ≡ 62) (61 ∷ []) rest s
+    (λ d more l. by d more (equal_goes_on 61 (d ∷ more) refl (shape 61 (d ∷ more) l)))
   where
     by : (d : ℕ) (more : List ℕ) → (d ∷ more ≡ []) ⊎ (d ∷ more ≡ 62 ∷ []) → d ≡ 62
     by d more (inl e) = absurd (cons_nil e)
     by d more (inr e) = cc
 
 pub arrow_longest : (rest : List ℕ) → IsLongest (61 ∷ 62 ∷ []) rest
-arrow_longest rest = longest_run (λ _. ⊥) (61 ∷ 62 ∷ []) rest (stops_never rest) (λ d more l. by d more (equal_goes_on 61 (62 ∷ d ∷ more) refl (shape 61 (62 ∷ d ∷ more) l)))
+arrow_longest rest = longest_run (λ _. ⊥) (61 ∷ 62 ∷ []) rest (stops_never rest)
+    (λ d more l. by d more (equal_goes_on 61 (62 ∷ d ∷ more) refl (shape 61 (62 ∷ d ∷ more) l)))
   where
     by : (d : ℕ) (more : List ℕ) → (62 ∷ d ∷ more ≡ []) ⊎ (62 ∷ d ∷ more ≡ 62 ∷ []) → ⊥
     by d more (inl e) = cons_nil e
@@ -357,6 +390,7 @@ pub equals_spelled : (cs : List ℕ) → Spelled (equals cs).0 (61 ∷ cs) (equa
 equals_spelled [] = (61 ∷ [], refl, refl, equal_longest [] tt)
 equals_spelled (d ∷ cs) = by (d == 62) refl
   where
-    by : (b : Bool) → (d == 62) ≡ b → Spelled (cond {A = TokenKind × List ℕ} b (Arrow, cs) (Equals, d ∷ cs)).0 (61 ∷ d ∷ cs) (cond {A = TokenKind × List ℕ} b (Arrow, cs) (Equals, d ∷ cs)).1
+    by : (b : Bool) → (d == 62) ≡ b → Spelled (cond {A = TokenKind × List ℕ} b (Arrow, cs) (Equals, d ∷ cs)).0
+        (61 ∷ d ∷ cs) (cond {A = TokenKind × List ℕ} b (Arrow, cs) (Equals, d ∷ cs)).1
     by true e = (61 ∷ 62 ∷ [], ap (λ k. 61 ∷ k ∷ cs) (eqb-true d 62 e), refl, arrow_longest cs)
     by false e = (61 ∷ [], refl, refl, equal_longest (d ∷ cs) (λ f. true_false (ap (λ k. k == 62) (sym f) ∙ e)))

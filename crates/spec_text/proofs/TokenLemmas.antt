@@ -1,5 +1,6 @@
 -- A text has one list of tokens or one first fault.
-use Rattle.std.proofs.Common.{◌≡◌, inl, inr, ℕ, ◌+◌, List, [], ◌∷◌, ◌++◌, Option, Some, None, Result, Ok, Err, false, length, refl, ap, sym, subst, ◌∙◌, arith, length-append}
+use Rattle.std.proofs.Common.{◌≡◌, inl, inr, ℕ, ◌+◌, List, [], ◌∷◌, ◌++◌, Option, Some, None, Result, Ok, Err, false}
+use Rattle.std.proofs.Common.{length, refl, ap, sym, subst, ◌∙◌, arith, length-append}
 use Rattle.std.specs.Prelude.{IfOk, IfErr, MatchResult, encode_utf8_all}
 use Rattle.std.specs.Str.{chars, IsUtf8, IsValidUpTo}
 use Rattle.std.specs.Char.{len_utf8}
@@ -19,7 +20,8 @@ use Rattle.spec_text.proofs.FirstLemmas.{first_spelled, spelled_found, faulty_no
 
 pub size_encodes : (cs : List ℕ) → length (encode_utf8_all cs) ≡ size cs
 size_encodes [] = refl
-size_encodes (c ∷ cs) = length-append _ (encode_utf8_all cs) ∙ ap (λ n. n + length (encode_utf8_all cs)) (length-encode c) ∙ ap (λ n. len_utf8 c + n) (size_encodes cs)
+size_encodes (c ∷ cs) = length-append _ (encode_utf8_all cs)
+    ∙ ap (λ n. n + length (encode_utf8_all cs)) (length-encode c) ∙ ap (λ n. len_utf8 c + n) (size_encodes cs)
 
 pub size_is : (bs : List ℕ) → IsUtf8 bs → size (chars bs) ≡ length bs
 size_is bs u = sym (size_encodes (chars bs)) ∙ ap length (encodes-chars bs u)
@@ -30,17 +32,25 @@ size-append (x ∷ xs) ys = omega (arith, size-append xs ys)
 
 -- the first token, as the scanner finds it
 abbrev pub Step : ℕ → List ℕ → Token → List ℕ → Type 0
-Step total cs t after = (first_token (skip_gaps false cs) ≡ Some (t.kind, after)) × (t.at + size (skip_gaps false cs) ≡ total) × ((t.at + t.len) + size after ≡ total)
+Step total cs t after = (first_token (skip_gaps false cs) ≡ Some (t.kind, after))
+    × (t.at + size (skip_gaps false cs) ≡ total) × ((t.at + t.len) + size after ≡ total)
 
-pub found_first : (total : ℕ) (cs : List ℕ) (t : Token) (after : List ℕ) → IsFirst total cs t after → Step total cs t after
+pub found_first : (total : ℕ) (cs : List ℕ) (t : Token) (after : List ℕ) → IsFirst total cs t after →
+    Step total cs t after
 found_first total cs t after f =
     let found = spelled_found t.kind f.text after f.spelled f.longest in
-    let skipped : skip_gaps false cs ≡ f.text ++ after = ap (skip_gaps false) f.whole ∙ gap_skipped f.apart (f.text ++ after) ∙ found.1 in
+    let skipped : skip_gaps false cs ≡ f.text ++ after = ap (skip_gaps false) f.whole
+    ∙ gap_skipped f.apart (f.text ++ after) ∙ found.1 in
     let at = f.at in
-    let len = f.len in
-    (ap first_token skipped ∙ found.0, omega (arith, ap size skipped, at), omega (arith, at, len, size-append f.text after))
+    let len = f.len in (
+      ap first_token skipped ∙ found.0,
+      omega (arith, ap size skipped, at),
+      omega (arith, at, len, size-append f.text after),
+    )
 
-pub is_first : (total : ℕ) (cs : List ℕ) (x : ℕ) (xs : List ℕ) (t : Token) (after : List ℕ) → skip_gaps false cs ≡ x ∷ xs → first_token (x ∷ xs) ≡ Some (t.kind, after) → t.at + size (x ∷ xs) ≡ total → (t.at + t.len) + size after ≡ total → IsFirst total cs t after
+pub is_first : (total : ℕ) (cs : List ℕ) (x : ℕ) (xs : List ℕ) (t : Token) (after : List ℕ) →
+    skip_gaps false cs ≡ x ∷ xs → first_token (x ∷ xs) ≡ Some (t.kind, after) → t.at + size (x ∷ xs) ≡ total →
+    (t.at + t.len) + size after ≡ total → IsFirst total cs t after
 is_first total cs x xs t after e f p q =
     let behind = behind_gap cs x xs e in
     let spelled = first_spelled (x ∷ xs) t.kind after f in
@@ -58,7 +68,8 @@ is_first total cs x xs t after e f p q =
     }
 
 -- one more token
-pub scans_on : (total : ℕ) (cs : List ℕ) (ts : List Token) (r : List ℕ) (t : Token) (after : List ℕ) → Scans total cs ts r → IsFirst total r t after → Scans total cs (ts ++ t ∷ []) after
+pub scans_on : (total : ℕ) (cs : List ℕ) (ts : List Token) (r : List ℕ) (t : Token) (after : List ℕ) →
+    Scans total cs ts r → IsFirst total r t after → Scans total cs (ts ++ t ∷ []) after
 scans_on total cs [] r t after h f = (after, subst (λ (xs : List ℕ). IsFirst total xs t after) (sym h) f, refl)
 scans_on total cs (u ∷ ts) r t after h f = (h.0, h.1, scans_on total h.0 ts r t after h.2 f)
 
@@ -66,17 +77,22 @@ scans_on total cs (u ∷ ts) r t after h f = (h.0, h.1, scans_on total h.0 ts r 
 token_is : (t u : Token) → t.kind ≡ u.kind → t.at ≡ u.at → t.len ≡ u.len → t ≡ u
 token_is t u a b c = λ i. record { kind = a i; at = b i; len = c i }
 
-same_first : {a b : TokenKind} {x y : List ℕ} → ◌≡◌ {A = Option (TokenKind × List ℕ)} (Some (a, x)) (Some (b, y)) → (a ≡ b) × (x ≡ y)
-same_first {a} {b} {x} {y} e = let q : ◌≡◌ {A = TokenKind × List ℕ} (a, x) (b, y) = some_is e in (ap (λ (p : TokenKind × List ℕ). p.0) q, ap (λ (p : TokenKind × List ℕ). p.1) q)
+same_first : {a b : TokenKind} {x y : List ℕ} →
+    ◌≡◌ {A = Option (TokenKind × List ℕ)} (Some (a, x)) (Some (b, y)) → (a ≡ b) × (x ≡ y)
+same_first {a} {b} {x} {y} e = let q : ◌≡◌ {A = TokenKind × List ℕ} (a, x) (b, y) = some_is e in
+    (ap (λ (p : TokenKind × List ℕ). p.0) q, ap (λ (p : TokenKind × List ℕ). p.1) q)
 
 -- no token begins after these
 abbrev Stuck : List ℕ → Type 0
 Stuck rest = first_token (skip_gaps false rest) ≡ None
 
-not_stuck : (total : ℕ) (cs : List ℕ) (t : Token) (after rest : List ℕ) → cs ≡ rest → Stuck rest → IsFirst total cs t after → ⊥
-not_stuck total cs t after rest e s f = none_some (sym (ap (λ x. first_token (skip_gaps false x)) e ∙ s) ∙ (found_first total cs t after f).0)
+not_stuck : (total : ℕ) (cs : List ℕ) (t : Token) (after rest : List ℕ) → cs ≡ rest → Stuck rest →
+    IsFirst total cs t after → ⊥
+not_stuck total cs t after rest e s f = none_some (sym (ap (λ x. first_token (skip_gaps false x)) e ∙ s)
+    ∙ (found_first total cs t after f).0)
 
-one_scan : (total : ℕ) (cs : List ℕ) (ts us : List Token) (r s : List ℕ) → Scans total cs ts r → Scans total cs us s → Stuck r → Stuck s → (ts ≡ us) × (r ≡ s)
+one_scan : (total : ℕ) (cs : List ℕ) (ts us : List Token) (r s : List ℕ) → Scans total cs ts r →
+    Scans total cs us s → Stuck r → Stuck s → (ts ≡ us) × (r ≡ s)
 one_scan total cs [] [] r s h k a b = (refl, sym h ∙ k)
 one_scan total cs [] (u ∷ us) r s h k a b = absurd (not_stuck total cs u k.0 r h a k.1)
 one_scan total cs (t ∷ ts) [] r s h k a b = absurd (not_stuck total cs t h.0 s k b h.1)
@@ -96,7 +112,8 @@ stuck_end : (rest : List ℕ) → IsLastGap rest → Stuck rest
 stuck_end rest g = rw (last_gap_skipped rest g) refl
 
 -- what a fault leaves, without its gap
-fault_skipped : (cs : List ℕ) (at : ℕ) (f : HasFault cs at) → skip_gaps false (f.gap ++ (f.c ∷ f.others)) ≡ f.c ∷ f.others
+fault_skipped : (cs : List ℕ) (at : ℕ) (f : HasFault cs at) →
+    skip_gaps false (f.gap ++ (f.c ∷ f.others)) ≡ f.c ∷ f.others
 fault_skipped cs at f = gap_skipped f.apart (f.c ∷ f.others) ∙ (faulty_none f.c f.others f.faulty).1
 
 stuck_fault : (cs : List ℕ) (at : ℕ) (f : HasFault cs at) → Stuck (f.gap ++ (f.c ∷ f.others))
@@ -104,15 +121,19 @@ stuck_fault cs at f = ap first_token (fault_skipped cs at f) ∙ (faulty_none f.
 
 one_place : (cs : List ℕ) (at place : ℕ) → HasFault cs at → HasFault cs place → at ≡ place
 one_place cs at place f g =
-    let same = one_scan (size cs) cs f.before g.before (f.gap ++ (f.c ∷ f.others)) (g.gap ++ (g.c ∷ g.others)) f.scans g.scans (stuck_fault cs at f) (stuck_fault cs place g) in
-    let left : size (f.c ∷ f.others) ≡ size (g.c ∷ g.others) = ap size (sym (fault_skipped cs at f) ∙ ap (skip_gaps false) same.1 ∙ fault_skipped cs place g) in
+    let same = one_scan (size cs) cs f.before g.before (f.gap ++ (f.c ∷ f.others)) (g.gap ++ (g.c ∷ g.others))
+    f.scans g.scans (stuck_fault cs at f) (stuck_fault cs place g) in
+    let left : size (f.c ∷ f.others) ≡ size (g.c ∷ g.others) = ap size (sym (fault_skipped cs at f)
+    ∙ ap (skip_gaps false) same.1 ∙ fault_skipped cs place g) in
     let p = f.place in
     let q = g.place in
     omega (arith, p, q, left)
 
-no_fault : (cs : List ℕ) (ts : List Token) (rest : List ℕ) (at : ℕ) → Scans (size cs) cs ts rest → IsLastGap rest → HasFault cs at → ⊥
+no_fault : (cs : List ℕ) (ts : List Token) (rest : List ℕ) (at : ℕ) → Scans (size cs) cs ts rest →
+    IsLastGap rest → HasFault cs at → ⊥
 no_fault cs ts rest at h g f =
-    let same = one_scan (size cs) cs ts f.before rest (f.gap ++ (f.c ∷ f.others)) h f.scans (stuck_end rest g) (stuck_fault cs at f) in
+    let same = one_scan (size cs) cs ts f.before rest (f.gap ++ (f.c ∷ f.others)) h f.scans (stuck_end rest g)
+    (stuck_fault cs at f) in
     nil_cons (sym (last_gap_skipped rest g) ∙ ap (skip_gaps false) same.1 ∙ fault_skipped cs at f)
 
 not_text : (bs : List ℕ) (n : ℕ) → IsUtf8 bs → IsValidUpTo bs n → ⊥
@@ -120,7 +141,8 @@ not_text bs n u v = v.longest (length bs) v.short (subst IsUtf8 (sym (take-lengt
 
 -- a text has no two lists of tokens
 pub one_list : (bs : List ℕ) (ts us : List Token) → AreTokens bs ts → AreTokens bs us → ts ≡ us
-one_list bs ts us h k = (one_scan (size (chars bs)) (chars bs) ts us h.1.0 k.1.0 h.1.1 k.1.1 (stuck_end h.1.0 h.1.2) (stuck_end k.1.0 k.1.2)).0
+one_list bs ts us h k = (one_scan (size (chars bs)) (chars bs) ts us h.1.0 k.1.0 h.1.1 k.1.1
+    (stuck_end h.1.0 h.1.2) (stuck_end k.1.0 k.1.2)).0
 
 -- no two first faults
 pub one_fault : (bs : List ℕ) (at place : ℕ) → IsTextFault bs at → IsTextFault bs place → at ≡ place

@@ -4,7 +4,8 @@ use Rattle.std.specs.Str.Parse.{AllDigits, IsNumeral, digits_value}
 use Rattle.spec_text.specs.Names.{IsName}
 use Rattle.spec_text.specs.Gaps.{is_blank}
 use Rattle.spec_text.specs.declared.tokens.TokenKind.{TokenKind}
-use Rattle.spec_text.specs.declared.tokens.TokenKind.TheVariants.{Word, Number, LeftPar, RightPar, Comma, Colon, Equals, Bar, Arrow}
+use Rattle.spec_text.specs.declared.tokens.TokenKind.TheVariants.{Word, Number, LeftPar, RightPar, Comma, Colon}
+use Rattle.spec_text.specs.declared.tokens.TokenKind.TheVariants.{Equals, Bar, Arrow}
 
 -- the characters spell a token of this kind
 abbrev pub IsSpelling : TokenKind → List ℕ → Type 0

@@ -1,11 +1,13 @@
 -- A scanner of characters as a function.
-use Rattle.std.specs.Prelude.{ℕ, ◌+◌, ◌*◌, List, [], ◌∷◌, ◌==◌, if◌then◌else◌, Bool, true, false, nat_le, nat_lt, Option, Some, None}
+use Rattle.std.specs.Prelude.{ℕ, ◌+◌, ◌*◌, List, [], ◌∷◌, ◌==◌, if◌then◌else◌, Bool, true, false, nat_le, nat_lt}
+use Rattle.std.specs.Prelude.{Option, Some, None}
 use Rattle.std.specs.Char.{len_utf8, digit_value}
 use Rattle.unicode_ident.specs.Ident.{is_xid_continue}
 use Rattle.spec_text.specs.Names.{starts}
 use Rattle.spec_text.specs.Gaps.{is_blank}
 use Rattle.spec_text.specs.declared.tokens.TokenKind.{TokenKind}
-use Rattle.spec_text.specs.declared.tokens.TokenKind.TheVariants.{Word, Number, LeftPar, RightPar, Comma, Colon, Equals, Bar, Arrow}
+use Rattle.spec_text.specs.declared.tokens.TokenKind.TheVariants.{Word, Number, LeftPar, RightPar, Comma, Colon}
+use Rattle.spec_text.specs.declared.tokens.TokenKind.TheVariants.{Equals, Bar, Arrow}
 
 -- the bytes of the characters that go on with a name
 abbrev pub run_of : List ℕ → ℕ

@@ -6,7 +6,8 @@ use Rattle.std.specs.List.{AllByRecursion}
 use Rattle.spec_text.specs.Gaps.{is_blank}
 use Rattle.spec_text.specs.Lexemes.{IsSpelling}
 use Rattle.spec_text.specs.declared.tokens.TokenKind.{TokenKind}
-use Rattle.spec_text.specs.declared.tokens.TokenKind.TheVariants.{Word, Number, LeftPar, RightPar, Comma, Colon, Equals, Bar, Arrow}
+use Rattle.spec_text.specs.declared.tokens.TokenKind.TheVariants.{Word, Number, LeftPar, RightPar, Comma, Colon}
+use Rattle.spec_text.specs.declared.tokens.TokenKind.TheVariants.{Equals, Bar, Arrow}
 use Rattle.spec_text.specs.declared.tokens.Token.{Token}
 
 -- a token's bytes, and the bytes before them

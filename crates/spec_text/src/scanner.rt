@@ -1,9 +1,11 @@
 //! The scanner: `scan` finds the tokens of bytes.
 
-ghost use Rattle.std.specs.Prelude.{◌≡◌, ℕ, List, false, None, Some, IfErr, IfOk, MatchOption, MatchResult};
+ghost use Rattle.std.specs.Prelude.{◌≡◌, ℕ, List, false, None, Some, IfErr, IfOk, MatchOption};
+ghost use Rattle.std.specs.Prelude.{MatchResult};
 ghost use Rattle.std.specs.Str.{chars, IsUtf8};
 ghost use Rattle.spec_text.specs.Gaps.{is_blank};
-ghost use Rattle.spec_text.specs.Scanner.{digits, first_token, is_digit, sign_of, skip_gaps, skip_name};
+ghost use Rattle.spec_text.specs.Scanner.{digits, first_token, is_digit, sign_of, skip_gaps};
+ghost use Rattle.spec_text.specs.Scanner.{skip_name};
 ghost use Rattle.spec_text.specs.Tokens.{AreTokens, IsFault, IsTextFault, IsTokens, TellsFault};
 
 use crate::characters::first_char;

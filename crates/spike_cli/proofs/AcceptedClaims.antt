@@ -1,6 +1,7 @@
 -- Claims on goals in their order are accepted, so that those that they prove are lemmas of the next
 -- one.
-use Rattle.std.proofs.Common.{◌≡◌, ℕ, zero, suc, List, [], ◌∷◌, ◌++◌, Some, None, refl, ap, sym, ◌∙◌, subst, take, drop, append_assoc}
+use Rattle.std.proofs.Common.{◌≡◌, ℕ, zero, suc, List, [], ◌∷◌, ◌++◌, Some, None, refl, ap, sym, ◌∙◌, subst, take}
+use Rattle.std.proofs.Common.{drop, append_assoc}
 use Rattle.std.proofs.lemmas.List.{append-nil}
 use Rattle.std.specs.Prelude.{slice_get, Contains}
 use Rattle.spec_core.specs.declared.records.Goal.{Goal}
@@ -18,7 +19,8 @@ use Rattle.acceptance.specs.Accepting.{ClaimsAreAccepted, IsAccepted, IsShown}
 use Rattle.acceptance.specs.Claims.{ProvedBefore}
 use Rattle.routine_proof.specs.Laws.{ProvesBehindClaims}
 use Rattle.search_claims.specs.Claims.{AreClaims, report_of}
-use Rattle.search_claims.proofs.Shown.{AreShown, claimed_names, goal_names, names_with, claims_accepted, next_unclaimed, refuted_is_shown}
+use Rattle.search_claims.proofs.Shown.{AreShown, claimed_names, goal_names, names_with, claims_accepted}
+use Rattle.search_claims.proofs.Shown.{next_unclaimed, refuted_is_shown}
 use Rattle.command_line.specs.declared.bounds.ProofBounds.{ProofBounds}
 use Rattle.spike_cli.specs.Claims.{IsNextClaim, IsOutcomeOf, budget_of, proved_goals}
 use Rattle.spike_cli.specs.Lemmas.{AreLemmas}

@@ -1,5 +1,6 @@
 -- Claims on goals, and the status that they give.
-use Rattle.std.proofs.Common.{◌≡◌, ◌⊎◌, ℕ, zero, suc, ◌+◌, List, [], ◌∷◌, ◌++◌, Some, None, inl, inr, refl, sym, ◌∙◌, ap, subst, arith, length, length-append}
+use Rattle.std.proofs.Common.{◌≡◌, ◌⊎◌, ℕ, zero, suc, ◌+◌, List, [], ◌∷◌, ◌++◌, Some, None, inl, inr, refl, sym, ◌∙◌}
+use Rattle.std.proofs.Common.{ap, subst, arith, length, length-append}
 use Rattle.std.specs.Prelude.{slice_get}
 use Rattle.std.proofs.lemmas.Option.{slice_get_within}
 use Rattle.std.specs.List.{range_with_len}
@@ -17,7 +18,9 @@ use Rattle.search_claims.specs.Claims.{AreClaims}
 use Rattle.file_replies.specs.declared.statuses.Status.{Status}
 use Rattle.file_replies.specs.declared.statuses.Status.TheVariants as status
 use Rattle.command_line.specs.declared.bounds.ProofBounds.{ProofBounds}
-use Rattle.spike_cli.specs.Claims.{EachGoal, HasRoutine, IsClaimOn, IsNextClaim, IsOpen, IsOutcomeOf, IsProvable, IsRefutable, IsRefuted, IsStatusOfClaims, IsStatusOfGoals, SomeGoal, SomeOutcome, proved_goals}
+use Rattle.spike_cli.specs.Claims.{EachGoal, HasRoutine, IsClaimOn, IsNextClaim, IsOpen, IsOutcomeOf, IsProvable}
+use Rattle.spike_cli.specs.Claims.{IsRefutable, IsRefuted, IsStatusOfClaims, IsStatusOfGoals, SomeGoal, SomeOutcome}
+use Rattle.spike_cli.specs.Claims.{proved_goals}
 use Rattle.spike_cli.specs.Stops.{joined}
 use Rattle.spike_cli.proofs.ProvedGoals.{AreProved, all_proved, has_first, has_none, proved_more}
 

@@ -29,15 +29,24 @@ use Rattle.accepted_spec.proofs.SymbolsInRange.{sorted_in_range}
 use Rattle.file_replies.proofs.Endings.{line_told}
 
 -- a value has symbols of the signature
-pub value_printable : (spec : Spec) (t v : Tree) (n : ℕ) → IsWellSorted spec → (s : SortId) × Sorted spec.sig [] t s → Gives spec t v n → SymbolsAreInRange spec.sig v
-value_printable spec t v n fine sorted gives = let kept = keeps spec fine gives sorted.0 sorted.1 in sorted_in_range spec.sig [] v sorted.0 kept.0
+pub value_printable : (spec : Spec) (t v : Tree) (n : ℕ) → IsWellSorted spec →
+    (s : SortId) × Sorted spec.sig [] t s → Gives spec t v n → SymbolsAreInRange spec.sig v
+value_printable spec t v n fine sorted gives = let kept = keeps spec fine gives sorted.0 sorted.1 in
+    sorted_in_range spec.sig [] v sorted.0 kept.0
 
 -- a line of refusal is the text of an evaluation
-pub refused_evaluation : (spec : Spec) (bytes : List ℕ) (steps : ℕ) (r : Refusal) (text : List ℕ) (s : Status) → Tells (IsTermRefusal spec.sig bytes) r → IsLineOf r text → s ≡ status.Refused → IsEvaluation spec bytes steps text s
-refused_evaluation spec bytes steps r text s told is e = subst (λ (u : Status). IsEvaluation spec bytes steps text u) (sym e) (refused (line_told (IsTermRefusal spec.sig bytes) r told text is))
+pub refused_evaluation : (spec : Spec) (bytes : List ℕ) (steps : ℕ) (r : Refusal) (text : List ℕ) (s : Status) →
+    Tells (IsTermRefusal spec.sig bytes) r → IsLineOf r text → s ≡ status.Refused → IsEvaluation spec bytes steps text s
+refused_evaluation spec bytes steps r text s told is e = subst
+    (λ (u : Status). IsEvaluation spec bytes steps text u) (sym e)
+    (refused (line_told (IsTermRefusal spec.sig bytes) r told text is))
 
-pub refused_result : (spec : Spec) (bytes : List ℕ) (steps : ℕ) (r : Refusal) (result : Result Ending OutOfMemory) → Tells (IsTermRefusal spec.sig bytes) r → IfOk result (λ e. IsLineOf r e.text.items × (e.status ≡ status.Refused)) → IfOk result (λ e. IsEvaluation spec bytes steps e.text.items e.status)
-refused_result spec bytes steps r (Ok e) told h = refused_evaluation spec bytes steps r e.text.items e.status told h.0 h.1
+pub refused_result : (spec : Spec) (bytes : List ℕ) (steps : ℕ) (r : Refusal)
+    (result : Result Ending OutOfMemory) → Tells (IsTermRefusal spec.sig bytes) r →
+    IfOk result (λ e. IsLineOf r e.text.items × (e.status ≡ status.Refused)) →
+    IfOk result (λ e. IsEvaluation spec bytes steps e.text.items e.status)
+refused_result spec bytes steps r (Ok e) told h = refused_evaluation spec bytes steps r e.text.items e.status
+    told h.0 h.1
 refused_result spec bytes steps r (Err e) told h = tt
 
 -- the text of a value that is small enough to be written, and of one that isn't
@@ -49,25 +58,31 @@ large_text sig v large = ap (λ b. if b then term_text sig [] v else codes "larg
 
 -- what an evaluation in an admitted specification found
 module _ (spec : Spec) (bytes : List ℕ) (t : Tree) (steps : ℕ) (stands : TermTextStandsFor spec.sig bytes t) where
-  pub value_told : (v : Tree) (n : ℕ) (r : Eval) (text : List ℕ) → r ≡ Value v n → IsEval spec t steps r → text ≡ lines_with (term_text spec.sig [] v) n → IsEvaluation spec bytes steps text status.Done
+  pub value_told : (v : Tree) (n : ℕ) (r : Eval) (text : List ℕ) → r ≡ Value v n → IsEval spec t steps r →
+      text ≡ lines_with (term_text spec.sig [] v) n → IsEvaluation spec bytes steps text status.Done
   value_told v n r text is found e =
       let f : IsEval spec t steps (Value v n) = subst (λ (x : Eval). IsEval spec t steps x) is found in
-      subst (λ u. IsEvaluation spec bytes steps u status.Done) (ap (λ u. lines_with u n) (small_text spec.sig v f.2) ∙ sym e) (valued t v n stands f.0 f.1)
+      subst (λ u. IsEvaluation spec bytes steps u status.Done)
+      (ap (λ u. lines_with u n) (small_text spec.sig v f.2) ∙ sym e) (valued t v n stands f.0 f.1)
 
-  pub large_told : (n : ℕ) (r : Eval) (text : List ℕ) → r ≡ Large n → IsEval spec t steps r → text ≡ lines_with (codes "large") n → IsEvaluation spec bytes steps text status.Done
+  pub large_told : (n : ℕ) (r : Eval) (text : List ℕ) → r ≡ Large n → IsEval spec t steps r →
+      text ≡ lines_with (codes "large") n → IsEvaluation spec bytes steps text status.Done
   large_told n r text is found e =
       let f : IsEval spec t steps (Large n) = subst (λ (x : Eval). IsEval spec t steps x) is found in
-      subst (λ u. IsEvaluation spec bytes steps u status.Done) (ap (λ u. lines_with u n) (large_text spec.sig f.0 f.3) ∙ sym e) (valued t f.0 n stands f.1 f.2)
+      subst (λ u. IsEvaluation spec bytes steps u status.Done)
+      (ap (λ u. lines_with u n) (large_text spec.sig f.0 f.3) ∙ sym e) (valued t f.0 n stands f.1 f.2)
 
   pub none_told :
       (r : Eval) (text : List ℕ) → IsAdmitted (above_of spec) spec → r ≡ Spent →
       IsEval spec t steps r → text ≡ spent_line steps → IsEvaluation spec bytes steps text status.Open
   none_told r text admitted is found e =
       let f : IsEval spec t steps Spent = subst (λ (x : Eval). IsEval spec t steps x) is found in
-      subst (λ u. IsEvaluation spec bytes steps u status.Open) (sym e) (spent t stands (f admitted.apart admitted.whole))
+      subst (λ u. IsEvaluation spec bytes steps u status.Open) (sym e)
+      (spent t stands (f admitted.apart admitted.whole))
 
 -- a value that was found has symbols of the signature
-pub found_printable : (spec : Spec) (t v : Tree) (steps n : ℕ) (r : Eval) → IsWellSorted spec → (s : SortId) × Sorted spec.sig [] t s → r ≡ Value v n → IsEval spec t steps r → SymbolsAreInRange spec.sig v
+pub found_printable : (spec : Spec) (t v : Tree) (steps n : ℕ) (r : Eval) → IsWellSorted spec →
+    (s : SortId) × Sorted spec.sig [] t s → r ≡ Value v n → IsEval spec t steps r → SymbolsAreInRange spec.sig v
 found_printable spec t v steps n r fine sorted is found =
     let f : IsEval spec t steps (Value v n) = subst (λ (x : Eval). IsEval spec t steps x) is found in
     value_printable spec t v n fine sorted f.0

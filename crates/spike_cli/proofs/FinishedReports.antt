@@ -19,8 +19,10 @@ use Rattle.spike_cli.specs.Replays.{IsReplay, IsFileReplay}
 use Rattle.file_replies.specs.Replies.{accepted, replied, too_long_report}
 use Rattle.reply_lines.specs.Lines.{yes_line}
 
-module _ (one : OneReplay) (spec : Spec) (fine : IsWellSorted spec) (bytes line : List ℕ) (yes : IsReplay spec bytes line Done) (short : length bytes ≤ most_report_bytes) where
-  only_yes : (held : Option (List ℕ)) → held ≡ Some bytes → (text : List ℕ) (s : Status) → IsFileReplay spec held text s → (text ≡ line) × (s ≡ Done)
+module _ (one : OneReplay) (spec : Spec) (fine : IsWellSorted spec) (bytes line : List ℕ)
+    (yes : IsReplay spec bytes line Done) (short : length bytes ≤ most_report_bytes) where
+  only_yes : (held : Option (List ℕ)) → held ≡ Some bytes → (text : List ℕ) (s : Status) →
+      IsFileReplay spec held text s → (text ≡ line) × (s ≡ Done)
   only_yes None e text s r = absurd (let q : None ≡ Some bytes = e in cc)
   only_yes (Some told) e text s (replied read are is) =
       let q : Some told ≡ Some bytes = e in

@@ -1,12 +1,15 @@
 -- The generated text is shorter than the longest file.
-use Rattle.std.proofs.Common.{◌≡◌, ◌≤◌, ◌<◌, ◌+◌, ◌*◌, ◌%◌, ◌^◌, ℕ, zero, suc, List, [], ◌++◌, map, length, length-append, lit≤, arith}
+use Rattle.std.proofs.Common.{◌≡◌, ◌≤◌, ◌<◌, ◌+◌, ◌*◌, ◌%◌, ◌^◌, ℕ, zero, suc, List, [], ◌++◌, map, length}
+use Rattle.std.proofs.Common.{length-append, lit≤, arith}
 use Rattle.std.specs.Prelude.{codes}
 use Rattle.std.specs.Fmt.{digits}
 use Rattle.std.specs.List.{flat_map, range_with_len}
 use Rattle.std.proofs.lemmas.Fmt.{length-decimal-le}
 use Rattle.spec_grammar.specs.RawTree.{RawTree}
-use Rattle.spec_printing.specs.Printed.{equation_printed, fun_line, goal_line, header_line, printed, rule_line, sides_printed, sort_line, term_printed}
-use Rattle.load_text.specs.LoadRaw.{x, y, z, nought, yes, plus, le, successors, load_sides, goal_of_kind, goal_name, height, load_goal, load_raw}
+use Rattle.spec_printing.specs.Printed.{equation_printed, fun_line, goal_line, header_line, printed, rule_line}
+use Rattle.spec_printing.specs.Printed.{sides_printed, sort_line, term_printed}
+use Rattle.load_text.specs.LoadRaw.{x, y, z, nought, yes, plus, le, successors, load_sides, goal_of_kind, goal_name}
+use Rattle.load_text.specs.LoadRaw.{height, load_goal, load_raw}
 
 -- each `succ` has six bytes
 enclosed_long :

@@ -1,5 +1,6 @@
 -- A report of a well sorted specification is the only one with its bounds.
-use Rattle.std.proofs.Common.{◌≡◌, ◌∙◌, ℕ, List, [], ◌++◌, Option, Some, inl, inr, refl, ap, sym, subst, take, length, append-nil, append_assoc, map-id, codes, arith}
+use Rattle.std.proofs.Common.{◌≡◌, ◌∙◌, ℕ, List, [], ◌++◌, Option, Some, inl, inr, refl, ap, sym, subst, take, length}
+use Rattle.std.proofs.Common.{append-nil, append_assoc, map-id, codes, arith}
 use Rattle.std.proofs.Math.Seq.{take-append_seam}
 use Rattle.std.proofs.lemmas.Bool.{cases_order}
 use Rattle.std.proofs.lemmas.Grind.{flat_map-append}

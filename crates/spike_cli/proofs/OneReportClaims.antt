@@ -1,6 +1,7 @@
 -- Claims on the goals of one specification, with the same bounds: what is seen of them is one list,
 -- if the same is seen of any two proofs of a goal.
-use Rattle.std.proofs.Common.{◌≡◌, ◌∙◌, ℕ, ◌+◌, List, [], ◌∷◌, ◌++◌, Bool, Some, inl, inr, refl, ap, map, sym, subst, take, length, length-append, append-nil, arith}
+use Rattle.std.proofs.Common.{◌≡◌, ◌∙◌, ℕ, ◌+◌, List, [], ◌∷◌, ◌++◌, Bool, Some, inl, inr, refl, ap, map, sym, subst}
+use Rattle.std.proofs.Common.{take, length, length-append, append-nil, arith}
 use Rattle.std.specs.Prelude.{slice_get}
 use Rattle.std.proofs.lemmas.Bool.{cases_order}
 use Rattle.std.proofs.lemmas.List.{length-map}
@@ -21,7 +22,8 @@ use Rattle.clause_core.specs.declared.steps.Block.{Block}
 use Rattle.command_line.specs.declared.bounds.ProofBounds.{ProofBounds}
 use Rattle.search_claims.specs.Claims.{AreClaims, AreFirstClaims}
 use Rattle.search_claims.proofs.FirstClaims.{first_claims}
-use Rattle.spike_cli.specs.Claims.{IsClaimOn, IsNextClaim, IsOutcomeOf, IsUnrefuted, budget_of, number_proved, proved_goals}
+use Rattle.spike_cli.specs.Claims.{IsClaimOn, IsNextClaim, IsOutcomeOf, IsUnrefuted, budget_of, number_proved}
+use Rattle.spike_cli.specs.Claims.{proved_goals}
 use Rattle.spike_cli.proofs.ProvedGoals.{has_first, has_none, proved-append}
 use Rattle.spike_cli.proofs.ReportedClaims.{as_many}
 

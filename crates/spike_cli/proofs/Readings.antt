@@ -46,7 +46,8 @@ module _ (words : List (List ℕ)) (held : List ℕ → Option (List ℕ)) where
       (file : List ℕ) (task : Task) (asks : Asks words file task) (old middle new : List (List ℕ)) (bytes : List ℕ) →
       AreTextOf (held file) bytes → AddsName old middle file →
       AsksForOn bytes (further_files task) middle new → AsksFiles words held old new
-  asked_further file task asks old middle new bytes read added (inl none) = asked_first file task asks old new (none ∙ added)
+  asked_further file task asks old middle new bytes read added (inl none) = asked_first file task asks old new
+      (none ∙ added)
   asked_further file task asks old middle new bytes read added (inr all) =
       let whole : new ≡ old ++ (file ∷ further_files task) =
       all.1 ∙ ap (λ xs. xs ++ further_files task) added ∙ append_assoc old (file ∷ []) (further_files task) in

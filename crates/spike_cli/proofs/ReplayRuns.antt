@@ -10,7 +10,8 @@ use Rattle.command_line.specs.Tasks.{Task, replaying, Asks}
 use Rattle.accepted_spec.specs.Meanings.{IsAcceptedAs}
 use Rattle.file_replies.specs.Reads.{AreTextOf, PassesItsLimit}
 use Rattle.file_replies.specs.declared.statuses.Status.{Status}
-use Rattle.file_replies.specs.declared.statuses.Status.TheVariants.{Done, Refuted, Open, Refused, No, ReadFault, WriteFault, Usage, OutOfMemory}
+use Rattle.file_replies.specs.declared.statuses.Status.TheVariants.{Done, Refuted, Open, Refused, No, ReadFault}
+use Rattle.file_replies.specs.declared.statuses.Status.TheVariants.{WriteFault, Usage, OutOfMemory}
 use Rattle.spike_cli.specs.Outcomes.{OneEnding}
 use Rattle.spike_cli.specs.Replays.{IsFileReplay}
 use Rattle.spike_cli.specs.Runs.{Ended, RefusedBytes, ReadsFile, Means}

@@ -1,5 +1,6 @@
 -- Claims that reports are made of: they can be printed, and their reports have a text.
-use Rattle.std.proofs.Common.{◌≡◌, ℕ, zero, suc, ◌≤◌, ◌*◌, List, [], ◌∷◌, ◌++◌, Some, None, inl, inr, refl, sym, subst, arith, length, length-append}
+use Rattle.std.proofs.Common.{◌≡◌, ℕ, zero, suc, ◌≤◌, ◌*◌, List, [], ◌∷◌, ◌++◌, Some, None, inl, inr, refl, sym, subst}
+use Rattle.std.proofs.Common.{arith, length, length-append}
 use Rattle.std.proofs.lemmas.Option.{slice_get_within}
 use Rattle.std.specs.Prelude.{slice_get, map, codes}
 use Rattle.std.specs.List.{AllByRecursion}
@@ -25,10 +26,12 @@ use Rattle.proof_script.specs.Claims.{claim_text, claims_text, header_lines, las
 use Rattle.proof_script.specs.Names.{IsReportName}
 use Rattle.proof_script.specs.Ranges.{ClaimIsInRange, LineIsInRange, WordIsInRange}
 use Rattle.proof_script.specs.Reports.{ClaimStands}
-use Rattle.proof_script.specs.Standing.{IsShort, TermStands, PatternStands, SymbolsStand, AllSymbolsStand, WordStands, StepStands}
+use Rattle.proof_script.specs.Standing.{IsShort, TermStands, PatternStands, SymbolsStand, AllSymbolsStand, WordStands}
+use Rattle.proof_script.specs.Standing.{StepStands}
 use Rattle.proof_script.specs.Steps.{step_line}
 use Rattle.proof_script.specs.Texts.{IsReportText}
-use Rattle.proof_script.specs.Words.{Word, fixed, name, number, variable, equation, place, side, term, terms, patterns, Line, line_text, lines_text}
+use Rattle.proof_script.specs.Words.{Word, fixed, name, number, variable, equation, place, side, term, terms, patterns}
+use Rattle.proof_script.specs.Words.{Line, line_text, lines_text}
 use Rattle.proof_script.proofs.Begun.{IsSmall, text_of_small}
 use Rattle.plain_search.specs.StandingBlocks.{PlainBlocksStand}
 use Rattle.routine_proof.specs.Routine.{starts, IsProof}

@@ -91,8 +91,8 @@ pub fn one_right_report()
     one_proof::<AnyOrder>();
 }
 
-/// What `upgrade` writes of an accepted text is accepted as the same specification, has at most three
-/// times the bytes, and is written again without a change.
+/// What `upgrade` writes of an accepted text is accepted as the same specification, has at most
+/// three times the bytes, and is written again without a change.
 pub fn upgrades_keep_meaning()
     ensures { UpgradesKeepMeaning }
 {

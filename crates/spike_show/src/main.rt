@@ -1,7 +1,8 @@
-//! The program `spike-show`: `main` calls `run` with the words, the system's files and standard output.
+//! The program `spike-show`: `main` calls `run` with the words, the system's files and standard
+//! output.
 //!
-//! Uses io_core, [`file_replies::words_of`] and [`show_cli::run`], whose contract is what the program
-//! promises. It ends with the code of the status that `run` answers.
+//! Uses io_core, [`file_replies::words_of`] and [`show_cli::run`], whose contract is what the
+//! program promises. It ends with the code of the status that `run` answers.
 //!
 //! Proved: `main` is safe and ends.
 //!

@@ -13,7 +13,8 @@ use std::alloc::Global;
 /// - `GOAL STEP -> ANSWER`, at the goal's clause, if no goal may be used
 /// - `GOAL by NAME,NAME : STEP -> ANSWER`, if these goals may be used
 /// - `GOAL among COUNT : STEP -> ANSWER`, at the first of `COUNT` nodes, each with this clause
-/// - `normalize GOAL BUDGET -> TERM PLACE@RULE ..`, of the left side of the goal's first conclusion,
+/// - `normalize GOAL BUDGET -> TERM PLACE@RULE ..`, of the left side of the goal's first
+///   conclusion,
 ///   where `@RULE` is a use at the root, or `spent`
 pub fn holds(alloc: Global, spec: &Spec, words: &[&str]) -> Result<bool>
     requires fine { IsWellSorted spec.now }

@@ -10,13 +10,16 @@ use Rattle.spec_core.proofs.OneSort.{sort_unique}
 use Rattle.substitutions.specs.Substitution.{entry}
 
 same_sort : (a b : SortId) → IsTrue (nat_eq a.0 b.0) → a ≡ b
-same_sort a b h = let e : a.0 ≡ b.0 = grind (arith, nat_tests) in ap (λ (n : ℕ). let s : SortId = record { 0 = n } in s) e
+same_sort a b h = let e : a.0 ≡ b.0 = grind (arith, nat_tests) in
+    ap (λ (n : ℕ). let s : SortId = record { 0 = n } in s) e
 
 same_number : (a b : SortId) → a ≡ b → IsTrue (nat_eq a.0 b.0)
 same_number a b e = let k : a.0 ≡ b.0 = ap (λ (s : SortId). s.0) e in grind (arith, nat_tests)
 
 -- the entry has the sort if and only if the sort that was found is this one
-pub has_sort : (sig : Sig) (ctx : List SortId) (entries : List (Option Tree)) (n : ℕ) (t : Tree) (found sort : SortId) → Some t ≡ entry entries n → Sorted sig ctx t found → IsTrue (nat_eq found.0 sort.0) ↔ ((u : Tree) × (entry entries n ≡ Some u) × Sorted sig ctx u sort)
+pub has_sort : (sig : Sig) (ctx : List SortId) (entries : List (Option Tree)) (n : ℕ) (t : Tree)
+    (found sort : SortId) → Some t ≡ entry entries n → Sorted sig ctx t found →
+    IsTrue (nat_eq found.0 sort.0) ↔ ((u : Tree) × (entry entries n ≡ Some u) × Sorted sig ctx u sort)
 has_sort sig ctx entries n t found sort e p = (
   λ h. (t, sym e, subst (λ s. Sorted sig ctx t s) (same_sort found sort h) p),
   λ h.

@@ -1,6 +1,7 @@
 //! `Subst`: terms for the variables from number 0 on.
 
-ghost use Rattle.std.specs.Prelude.{◌≡◌, ◌↔◌, ◌<◌, ◌^◌, [], Some, IfOk, OnOk, OnErr, IsTrue, map, option_map};
+ghost use Rattle.std.specs.Prelude.{◌≡◌, ◌↔◌, ◌<◌, ◌^◌, [], Some, IfOk, OnOk, OnErr, IsTrue, map};
+ghost use Rattle.std.specs.Prelude.{option_map};
 ghost use Rattle.std.specs.Option.{option_copied, option_or};
 ghost use Rattle.term_core.specs.Tree.{Tree};
 ghost use Rattle.spec_core.specs.Sorts.{Sorted};
@@ -11,7 +12,7 @@ ghost use Rattle.substitutions.specs.Updates.{IsSetTo};
 use spec_core::Signature;
 use std::alloc::Global;
 use std::mem;
-use term_core::{TermNode, OutOfMemory, Seq, SortId, Term, Terms, VarId};
+use term_core::{OutOfMemory, Seq, SortId, Term, TermNode, Terms, VarId};
 
 /// A substitution of terms for variables, by variable number. A variable without an entry stands
 /// for itself.
@@ -72,7 +73,10 @@ impl Subst {
                 Some(image) => image.copy(alloc),
                 None => Ok(Term::var(*var)),
             },
-            TermNode::App(sym, args) => Ok(Term::app(*sym, self.apply_all(alloc, args.as_slice())?)),
+            TermNode::App(sym, args) => Ok(Term::app(
+                *sym,
+                self.apply_all(alloc, args.as_slice())?,
+            )),
         }
     }
 

@@ -1,5 +1,7 @@
 -- Variables met one after the other are the first occurrences.
-use Rattle.std.proofs.Common.{◌≡◌, ℕ, ◌+◌, ◌<◌, List, [], ◌∷◌, ◌++◌, Bool, true, false, not, ◌&&◌, ◌||◌, ◌==◌, cond, refl, ap, sym, ◌∙◌, inl, inr, map, filter, length, take, get_or, eqb, append_assoc, arith}
+use Rattle.std.proofs.Common.{◌≡◌, ℕ, ◌+◌, ◌<◌, List, [], ◌∷◌, ◌++◌, Bool, true, false, not, ◌&&◌, ◌||◌, ◌==◌, cond}
+use Rattle.std.proofs.Common.{refl, ap, sym, ◌∙◌, inl, inr, map, filter, length, take, get_or, eqb, append_assoc}
+use Rattle.std.proofs.Common.{arith}
 use Rattle.std.specs.List.{list_any}
 use Rattle.std.proofs.lemmas.Bool.{eq-eqb, cases_Bool}
 use Rattle.std.proofs.lemmas.Bool.Decides.{eqb_tells}
@@ -16,7 +18,14 @@ has found n = list_any (λ m. m == n) found
 -- two tests one after the other are one test
 filter_both : (p q r : ℕ → Bool) → ((m : ℕ) → r m ≡ (q m && p m)) → (xs : List ℕ) → filter p (filter q xs) ≡ filter r xs
 filter_both p q r h [] = refl
-filter_both p q r h (x ∷ xs) = grind (arith, h x, filter_both p q r h xs, cases_Bool (p x), cases_Bool (q x), cases_Bool (r x))
+filter_both p q r h (x ∷ xs) = grind (
+  arith,
+  h x,
+  filter_both p q r h xs,
+  cases_Bool (p x),
+  cases_Bool (q x),
+  cases_Bool (r x),
+)
 
 -- a number that is among those found is no other test than theirs
 not_found : (found : List ℕ) (n m : ℕ) → has found n ≡ true → not (has found m) ≡ (not (m == n) && not (has found m))
@@ -46,7 +55,8 @@ neither false true = refl
 neither false false = refl
 
 has_more : (found : List ℕ) (n m : ℕ) → not (has (found ++ n ∷ []) m) ≡ (not (m == n) && not (has found m))
-has_more found n m = ap (λ b. not b) (list_any-append (λ k. k == m) found (n ∷ [])) ∙ neither (has found m) (n == m) ∙ ap (λ b. not b && not (has found m)) (flip m n)
+has_more found n m = ap (λ b. not b) (list_any-append (λ k. k == m) found (n ∷ []))
+    ∙ neither (has found m) (n == m) ∙ ap (λ b. not b && not (has found m)) (flip m n)
 
 all_new : (xs : List ℕ) → filter (λ m. not (has [] m)) xs ≡ xs
 all_new [] = refl
@@ -60,13 +70,17 @@ gathered_is found (n ∷ ns) =
       | inl h ↦
           ap (λ f. gathered f ns) (met_old found n h)
           ∙ gathered_is found ns
-          ∙ ap (λ ms. found ++ ms) (sym (filter_both (λ m. not (has found m)) (λ m. not (m == n)) (λ m. not (has found m)) (λ m. not_found found n m h) (firsts ns)))
+          ∙ ap (λ ms. found ++ ms)
+          (sym (filter_both (λ m. not (has found m)) (λ m. not (m == n)) (λ m. not (has found m))
+          (λ m. not_found found n m h) (firsts ns)))
           ∙ ap (λ b. found ++ cond (not b) (n ∷ rest) rest) (sym h)
       | inr h ↦
           ap (λ f. gathered f ns) (met_new found n h)
           ∙ gathered_is (found ++ n ∷ []) ns
           ∙ append_assoc found (n ∷ []) (filter (λ m. not (has (found ++ n ∷ []) m)) (firsts ns))
-          ∙ ap (λ ms. found ++ n ∷ ms) (sym (filter_both (λ m. not (has found m)) (λ m. not (m == n)) (λ m. not (has (found ++ n ∷ []) m)) (has_more found n) (firsts ns)))
+          ∙ ap (λ ms. found ++ n ∷ ms)
+          (sym (filter_both (λ m. not (has found m)) (λ m. not (m == n))
+          (λ m. not (has (found ++ n ∷ []) m)) (has_more found n) (firsts ns)))
           ∙ ap (λ b. found ++ cond (not b) (n ∷ rest) rest) (sym h)
     ]
 
@@ -78,17 +92,23 @@ pub gathered-append : (found ms ns : List ℕ) → gathered found (ms ++ ns) ≡
 gathered-append found [] ns = refl
 gathered-append found (m ∷ ms) ns = gathered-append (met found m) ms ns
 
-occurrences_all-append : (ts : List Tree) (t : Tree) → occurrences_all (trees_of (ts ++ t ∷ [])) ≡ occurrences_all (trees_of ts) ++ occurrences t
+occurrences_all-append : (ts : List Tree) (t : Tree) →
+    occurrences_all (trees_of (ts ++ t ∷ [])) ≡ occurrences_all (trees_of ts) ++ occurrences t
 occurrences_all-append [] t = append-nil (occurrences t)
-occurrences_all-append (u ∷ ts) t = ap (λ ns. occurrences u ++ ns) (occurrences_all-append ts t) ∙ sym (append_assoc (occurrences u) (occurrences_all (trees_of ts)) (occurrences t))
+occurrences_all-append (u ∷ ts) t = ap (λ ns. occurrences u ++ ns) (occurrences_all-append ts t)
+    ∙ sym (append_assoc (occurrences u) (occurrences_all (trees_of ts)) (occurrences t))
 
-pub gathered-take_more : (found : List ℕ) (ts : List Tree) (i : ℕ) (t : Tree) → i < length ts → t ≡ get_or ts i t → gathered found (occurrences_all (trees_of (take (i + 1) ts))) ≡ gathered (gathered found (occurrences_all (trees_of (take i ts)))) (occurrences t)
+pub gathered-take_more : (found : List ℕ) (ts : List Tree) (i : ℕ) (t : Tree) → i < length ts →
+    t ≡ get_or ts i t → gathered found (occurrences_all (trees_of (take (i + 1) ts))) ≡ gathered
+    (gathered found (occurrences_all (trees_of (take i ts)))) (occurrences t)
 gathered-take_more found ts i t h e =
-    ap (λ us. gathered found (occurrences_all (trees_of us))) (take_more ts i t h ∙ ap (λ u. take i ts ++ u ∷ []) (sym e))
+    ap (λ us. gathered found (occurrences_all (trees_of us))) (take_more ts i t h
+    ∙ ap (λ u. take i ts ++ u ∷ []) (sym e))
     ∙ ap (λ ns. gathered found ns) (occurrences_all-append (take i ts) t)
     ∙ gathered-append found (occurrences_all (trees_of (take i ts))) (occurrences t)
 
 -- the numbers of variables, in tests and lists
-pub any_number : (n : ℕ) (vars : List VarId) → list_any (λ (v : VarId). eqb v.0 n) vars ≡ list_any (λ m. m == n) (map (λ (v : VarId). v.0) vars)
+pub any_number : (n : ℕ) (vars : List VarId) →
+    list_any (λ (v : VarId). eqb v.0 n) vars ≡ list_any (λ m. m == n) (map (λ (v : VarId). v.0) vars)
 any_number n [] = refl
 any_number n (v ∷ vars) = ap (λ b. eqb v.0 n || b) (any_number n vars)

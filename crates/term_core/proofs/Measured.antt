@@ -4,12 +4,14 @@ use Rattle.std.proofs.Common.{arith, length, get_or, take}
 use Rattle.std.proofs.lemmas.Bool.Decides.{nat_tests}
 use Rattle.std.proofs.lemmas.List.{take_more}
 use Rattle.term_core.specs.Tree.{Tree, Trees, var, app, none, some, trees_of, tree_size, sizes, tree_depth, depths}
-use Rattle.term_core.specs.Measures.{tree_bound, bounds, tree_need, needs, joint_need, narrow, measure_of, measures_of, followed}
+use Rattle.term_core.specs.Measures.{tree_bound, bounds, tree_need, needs, joint_need, narrow, measure_of, measures_of}
+use Rattle.term_core.specs.Measures.{followed}
 use Rattle.term_core.specs.Variables.{Numbered, NumberedAll}
 use Rattle.term_core.specs.declared.measures.Measure.{Measure}
 use Rattle.term_core.proofs.Trees.{sizes-append, depths-append}
 
-bounds-append : (xs : List Tree) (y : Tree) → bounds (trees_of (xs ++ y ∷ [])) ≡ max (bounds (trees_of xs)) (tree_bound y)
+bounds-append : (xs : List Tree) (y : Tree) →
+    bounds (trees_of (xs ++ y ∷ [])) ≡ max (bounds (trees_of xs)) (tree_bound y)
 bounds-append [] y = omega arith
 bounds-append (x ∷ xs) y = omega (arith, bounds-append xs y)
 

@@ -21,5 +21,9 @@ mutual
 
   pub numbered_all_below : (k m : ℕ) (ts : Trees) → NumberedAll k ts m → (n : ℕ) → OccursAny n ts → n < m
   numbered_all_below k m none h n o = absurd o
-  numbered_all_below k m (some t ts) h n (inl o) = omega (arith, numbered_below k h.0 t h.1 n o, numbered_all_more h.0 m ts h.2)
+  numbered_all_below k m (some t ts) h n (inl o) = omega (
+    arith,
+    numbered_below k h.0 t h.1 n o,
+    numbered_all_more h.0 m ts h.2,
+  )
   numbered_all_below k m (some t ts) h n (inr o) = numbered_all_below h.0 m ts h.2 n o

@@ -36,4 +36,4 @@ pub use names::{Name, place_of};
 pub use occurring::occurs;
 pub use places::ReplaceError;
 pub use references::TermRefs;
-pub use tree::{TermNode, Term, Terms, copy_all};
+pub use tree::{Term, TermNode, Terms, copy_all};

@@ -1,7 +1,8 @@
 //! `Seq`, a vector that contracts see as a list, and `front`, a slice's first item and the
 //! others.
 
-ghost use Rattle.std.specs.Prelude.{◌≡◌, ◌↔◌, [], ◌∷◌, ◌++◌, IsTrue, OnOk, OnErr, MatchOption, length};
+ghost use Rattle.std.specs.Prelude.{◌≡◌, ◌↔◌, [], ◌∷◌, ◌++◌, IsTrue, OnOk, OnErr, MatchOption};
+ghost use Rattle.std.specs.Prelude.{length};
 
 use crate::memory::OutOfMemory;
 use std::alloc::Global;

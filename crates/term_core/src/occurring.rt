@@ -4,7 +4,7 @@ ghost use Rattle.std.specs.Prelude.{◌↔◌, IsTrue};
 ghost use Rattle.term_core.specs.Tree.{trees_of};
 ghost use Rattle.term_core.specs.Variables.{Occurs, OccursAny};
 
-use crate::tree::{TermNode, Term};
+use crate::tree::{Term, TermNode};
 
 /// Whether the variable with this number occurs in the term. A clause that no contract limits may
 /// have more variables than a term can name, so the number isn't one of 32 bits.

@@ -1,13 +1,14 @@
 //! The subterm at a path, and its exchange.
 
-ghost use Rattle.std.specs.Prelude.{◌≡◌, ◌<◌, ◌+◌, IfOk, MatchOption, Some, length, slice_get, slice_set};
+ghost use Rattle.std.specs.Prelude.{◌≡◌, ◌<◌, ◌+◌, IfOk, MatchOption, Some, length, slice_get};
+ghost use Rattle.std.specs.Prelude.{slice_set};
 ghost use Rattle.term_core.specs.Tree.{Tree, trees_of};
 ghost use Rattle.term_core.specs.Places.{IsArgument, IsAt, HasNoPlace, IsReplaced};
 ghost use Rattle.term_core.specs.declared.places.ReplaceError.TheVariants.{OutOfMemory as out_of_memory};
 
 use crate::lists::front;
 use crate::memory::OutOfMemory;
-use crate::tree::{TermNode, Term, Terms, copy_all};
+use crate::tree::{Term, TermNode, Terms, copy_all};
 use std::alloc::Global;
 use std::fmt;
 

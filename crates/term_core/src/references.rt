@@ -1,6 +1,7 @@
 //! `TermRefs`, a list of terms that are kept elsewhere.
 
-ghost use Rattle.std.specs.Prelude.{◌≡◌, ◌<◌, ◌≤◌, ◌++◌, ◌∷◌, [], Some, IfOk, OnOk, MatchOption, length, slice_get};
+ghost use Rattle.std.specs.Prelude.{◌≡◌, ◌<◌, ◌≤◌, ◌++◌, ◌∷◌, [], Some, IfOk, OnOk, MatchOption};
+ghost use Rattle.std.specs.Prelude.{length, slice_get};
 ghost use Rattle.term_core.specs.References.{terms_of};
 
 use crate::memory::OutOfMemory;

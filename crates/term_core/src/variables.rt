@@ -8,7 +8,7 @@ ghost use Rattle.term_core.specs.Gathered.{gathered};
 use crate::ids::VarId;
 use crate::lists::Seq;
 use crate::memory::OutOfMemory;
-use crate::tree::{TermNode, Term, Terms};
+use crate::tree::{Term, TermNode, Terms};
 use std::alloc::Global;
 
 impl Term {

@@ -5,7 +5,7 @@ ghost use Rattle.term_core.specs.References.{terms_of};
 ghost use Rattle.term_core.specs.Tree.{var as variable};
 ghost use Rattle.term_order.specs.Operands.{meaning};
 
-use term_core::{TermNode, Term};
+use term_core::{Term, TermNode};
 
 /// A term that is compared: as it is, or as a pattern, which means its instance by the list of
 /// the comparison.

@@ -22,8 +22,8 @@ pub trait TermOrder {
         ensures complete { tree_size t.now ≤ 4294967295 → tree_size s.now ≤ 4294967295 →
             above self.now t.now s.now → IsTrue result };
 
-    /// Whether the instance of `t` by the list is above that of `s` by it. Neither instance is built.
-    /// Of larger instances it may say no although it is.
+    /// Whether the instance of `t` by the list is above that of `s` by it. Neither instance is
+    /// built. Of larger instances it may say no although it is.
     fn greater_under(&self, list: &[&Term], t: &Term, s: &Term) -> bool
         ensures sound { let by = instance (terms_of list.now) in
             IsTrue result → above self.now (by t.now) (by s.now) }

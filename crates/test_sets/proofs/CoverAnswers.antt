@@ -13,7 +13,8 @@ use Rattle.test_sets.specs.Children.{child_by}
 use Rattle.test_sets.specs.Covers.{IsUncovered, AreChildren, IsRefused, children_of}
 use Rattle.test_sets.proofs.ChildrenOfPatterns.{children_are}
 
-module _ (sig : Sig) (c : Clause) (n : ℕ) (ps : List Tree) (are : ArePatternsFor sig c n ps) (s : SortId) (at : s ≡ are.sort) where
+module _ (sig : Sig) (c : Clause) (n : ℕ) (ps : List Tree) (are : ArePatternsFor sig c n ps) (s : SortId)
+    (at : s ≡ are.sort) where
   made_by : map (child_by sig c n s) ps ≡ children_of sig c n ps are
   made_by = ap (λ r. map (child_by sig c n r) ps) at ∙ children_are sig c n ps are
 
@@ -26,8 +27,12 @@ module _ (sig : Sig) (c : Clause) (n : ℕ) (ps : List Tree) (are : ArePatternsF
     within = within;
   }
 
-  pub past_limit : AreCovering sig s ps → (AllByRecursion IsWithin (map (child_by sig c n s) ps) → ⊥) → IsRefused sig c n ps are Limit
-  past_limit covering h = (subst (λ r. AreCovering sig r ps) at covering, subst (λ ds. AllByRecursion IsWithin ds → ⊥) made_by h)
+  pub past_limit : AreCovering sig s ps → (AllByRecursion IsWithin (map (child_by sig c n s) ps) → ⊥) →
+      IsRefused sig c n ps are Limit
+  past_limit covering h = (
+    subst (λ r. AreCovering sig r ps) at covering,
+    subst (λ ds. AllByRecursion IsWithin ds → ⊥) made_by h,
+  )
 
   pub not_covered : (v : Tree) → IsUncovered sig s ps v → IsRefused sig c n ps are (NotCovering v)
   not_covered v h = subst (λ r. IsUncovered sig r ps v) at h

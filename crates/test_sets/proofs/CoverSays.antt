@@ -21,11 +21,14 @@ abbrev same : Clause → Child
 same d = record { clause = d; relation = Same }
 
 module _ (above : Tree → Tree → Type 0) (spec : Spec) (c : Clause) (n : ℕ) where
-  are_made : (qs : List (List SortId × Tree)) → AllZip (IsChild above c) (map (cover_child spec c n) qs) (map same (map (λ (q : List SortId × Tree). tidied (covered_by c n q)) qs))
+  are_made : (qs : List (List SortId × Tree)) →
+      AllZip (IsChild above c) (map (cover_child spec c n) qs)
+      (map same (map (λ (q : List SortId × Tree). tidied (covered_by c n q)) qs))
   are_made [] = tt
   are_made (q ∷ qs) = ((refl, refl), are_made qs)
 
-forth : (ds : List Clause) → AllByRecursion IsWithin ds → AllByRecursion (λ (d : Child). IsWithin d.clause) (map same ds)
+forth : (ds : List Clause) → AllByRecursion IsWithin ds →
+    AllByRecursion (λ (d : Child). IsWithin d.clause) (map same ds)
 forth [] h = tt
 forth (d ∷ ds) h = (h.0, forth ds h.1)
 
@@ -41,7 +44,8 @@ cover_says above = record {
       is.covering,
       (
         same_children made,
-        subst (λ ds. AllZip (IsChild above c) (map (cover_child spec c n) (zip are.contexts patterns)) (map same ds)) (sym is.children) (are_made above spec c n (zip are.contexts patterns)),
+        subst (λ ds. AllZip (IsChild above c) (map (cover_child spec c n) (zip are.contexts patterns))
+            (map same ds)) (sym is.children) (are_made above spec c n (zip are.contexts patterns)),
         tt,
         inl ((forth made is.within, omega (arith, few, length-map made same)), refl),
       ),
@@ -53,7 +57,8 @@ cover_says above = record {
       is.covering,
       (
         same_children made,
-        subst (λ ds. AllZip (IsChild above c) (map (cover_child spec c n) (zip are.contexts patterns)) (map same ds)) (sym is.children) (are_made above spec c n (zip are.contexts patterns)),
+        subst (λ ds. AllZip (IsChild above c) (map (cover_child spec c n) (zip are.contexts patterns))
+            (map same ds)) (sym is.children) (are_made above spec c n (zip are.contexts patterns)),
         tt,
         inr (λ w. omega (arith, many, w.1, length-map made same), refl),
       ),
@@ -71,5 +76,8 @@ cover_says above = record {
       ),
     ),
   );
-  not_covering = λ spec nodes c n patterns are value is. inl (are, inr (λ covering. is.missing (covering value is.value), refl));
+  not_covering = λ spec nodes c n patterns are value is. inl (
+    are,
+    inr (λ covering. is.missing (covering value is.value), refl),
+  );
 }

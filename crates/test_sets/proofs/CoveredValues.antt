@@ -27,12 +27,14 @@ module _ (sig : Sig) (s : SortId) where
     linear = numbered_once p 0 (length is.0) is.1.numbered;
   }
 
-  pub are_rows : (ps : List Tree) → AllByRecursion (IsSomePattern sig s) ps → AllByRecursion (IsRow sig (s ∷ [])) (rows_of ps)
+  pub are_rows : (ps : List Tree) → AllByRecursion (IsSomePattern sig s) ps →
+      AllByRecursion (IsRow sig (s ∷ [])) (rows_of ps)
   are_rows [] h = tt
   are_rows (p ∷ ps) h = (is_row p h.0, are_rows ps h.1)
 
   -- patterns, each over some variables
-  pub some_patterns : (contexts : List (List SortId)) (ps : List Tree) → AllZip (IsPatternOf sig s) contexts ps → AllByRecursion (IsSomePattern sig s) ps
+  pub some_patterns : (contexts : List (List SortId)) (ps : List Tree) →
+      AllZip (IsPatternOf sig s) contexts ps → AllByRecursion (IsSomePattern sig s) ps
   some_patterns [] [] h = tt
   some_patterns [] (p ∷ ps) h = absurd h
   some_patterns (ctx ∷ contexts) [] h = absurd h
@@ -40,10 +42,14 @@ module _ (sig : Sig) (s : SortId) where
 
   matched : (ps : List Tree) (v : Tree) → MatchesSome (rows_of ps) (v ∷ []) → Any (IsInstanceOf v) ps
   matched [] v m = absurd m
-  matched (p ∷ ps) v (inl m) = any_first (IsInstanceOf v) p ps (m.0, (let q : some (instance m.0 p) none ≡ some v none = m.1 in cc))
+  matched (p ∷ ps) v (inl m) = any_first (IsInstanceOf v) p ps (
+    m.0,
+    (let q : some (instance m.0 p) none ≡ some v none = m.1 in cc),
+  )
   matched (p ∷ ps) v (inr m) = any_behind (IsInstanceOf v) p ps (matched ps v m)
 
-  matching_at : (ps : List Tree) (v : Tree) (k : ℕ) (p : Tree) → k < length ps → get_or ps k p ≡ p → IsInstanceOf v p → MatchesSome (rows_of ps) (v ∷ [])
+  matching_at : (ps : List Tree) (v : Tree) (k : ℕ) (p : Tree) → k < length ps → get_or ps k p ≡ p →
+      IsInstanceOf v p → MatchesSome (rows_of ps) (v ∷ [])
   matching_at [] v k p lt at i = absurd (omega arith)
   matching_at (q ∷ ps) v zero p lt at i = inl (i.0, ap (λ t. some t none) (ap (λ t. instance i.0 t) at ∙ i.1))
   matching_at (q ∷ ps) v (suc k) p lt at i = inr (matching_at ps v k p (omega arith) at i)

@@ -1,5 +1,6 @@
 -- A pattern whose variables are numbered from a number on has each of them once.
-use Rattle.std.proofs.Common.{◌≡◌, ℕ, zero, suc, ◌+◌, ◌<◌, ◌≤◌, List, [], ◌∷◌, ◌++◌, length, inl, inr, refl, ap, sym, ◌∙◌, subst, arith}
+use Rattle.std.proofs.Common.{◌≡◌, ℕ, zero, suc, ◌+◌, ◌<◌, ◌≤◌, List, [], ◌∷◌, ◌++◌, length, inl, inr, refl, ap, sym}
+use Rattle.std.proofs.Common.{◌∙◌, subst, arith}
 use Rattle.std.specs.List.{range_with_len}
 use Rattle.std.proofs.lemmas.List.FromFn.{length-range_with_len}
 use Rattle.term_core.specs.Tree.{Tree, Trees, var, app, none, some}
@@ -54,17 +55,22 @@ mutual
   once (var m) from count e n o = o
   once (app f ts) from count e n o = all_once ts from count e n o
 
-  all_once : (ts : Trees) (from count : ℕ) → occurrences_all ts ≡ range_with_len from count → (n : ℕ) → OccurTwice n ts → ⊥
+  all_once : (ts : Trees) (from count : ℕ) → occurrences_all ts ≡ range_with_len from count → (n : ℕ) →
+      OccurTwice n ts → ⊥
   all_once none from count e n o = o
-  all_once (some t ts) from count e n (inl o) = once t from _ (both_ranges (occurrences t) (occurrences_all ts) from count e).0 n o
+  all_once (some t ts) from count e n (inl o) = once t from _
+      (both_ranges (occurrences t) (occurrences_all ts) from count e).0 n o
   all_once (some t ts) from count e n (inr (inl o)) =
       let h = both_ranges (occurrences t) (occurrences_all ts) from count e in
       let early = in_range n from (length (occurrences t)) (subst (λ ns. In n ns) h.0 (occurring n t o.0)) in
-      let late = in_range n (from + length (occurrences t)) (length (occurrences_all ts)) (subst (λ ns. In n ns) h.1 (all_occurring n ts o.1)) in
+      let late = in_range n (from + length (occurrences t)) (length (occurrences_all ts))
+      (subst (λ ns. In n ns) h.1 (all_occurring n ts o.1)) in
       omega (arith, early.1, late.0)
-  all_once (some t ts) from count e n (inr (inr o)) = all_once ts _ _ (both_ranges (occurrences t) (occurrences_all ts) from count e).1 n o
+  all_once (some t ts) from count e n (inr (inr o)) = all_once ts _ _
+      (both_ranges (occurrences t) (occurrences_all ts) from count e).1 n o
 
-pub numbered_once : (p : Tree) (from count : ℕ) → occurrences p ≡ range_with_len from count → (n : ℕ) → OccurTwice n (some p none) → ⊥
+pub numbered_once : (p : Tree) (from count : ℕ) → occurrences p ≡ range_with_len from count → (n : ℕ) →
+    OccurTwice n (some p none) → ⊥
 numbered_once p from count e n (inl o) = once p from count e n o
 numbered_once p from count e n (inr (inl o)) = o.1
 numbered_once p from count e n (inr (inr o)) = o

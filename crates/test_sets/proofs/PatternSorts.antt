@@ -18,11 +18,13 @@ sort_of ctx n = get_or ctx n bool_sort
 
 module _ (sig : Sig) (ctx : List SortId) where
   mutual
-    occurring_sorts : (t : Tree) (s : SortId) → Sorted sig ctx t s → sorts_in sig s t ≡ map (sort_of ctx) (occurrences t)
+    occurring_sorts : (t : Tree) (s : SortId) → Sorted sig ctx t s →
+        sorts_in sig s t ≡ map (sort_of ctx) (occurrences t)
     occurring_sorts (var n) s p = ap (λ (r : SortId). r ∷ []) (sym (get_or_from_slice_get ctx n s bool_sort p))
     occurring_sorts (app f ts) s p = ap (λ i. all_sorts_in sig (args_of i) ts) p.1 ∙ all_occurring_sorts ts p.0.args p.3
 
-    all_occurring_sorts : (ts : Trees) (ss : List SortId) → SortedAll sig ctx ts ss → all_sorts_in sig ss ts ≡ map (sort_of ctx) (occurrences_all ts)
+    all_occurring_sorts : (ts : Trees) (ss : List SortId) → SortedAll sig ctx ts ss →
+        all_sorts_in sig ss ts ≡ map (sort_of ctx) (occurrences_all ts)
     all_occurring_sorts none ss p = refl
     all_occurring_sorts (some t ts) [] p = absurd p
     all_occurring_sorts (some t ts) (s ∷ ss) p =
@@ -30,9 +32,13 @@ module _ (sig : Sig) (ctx : List SortId) where
         let rest = all_occurring_sorts ts ss p.1 in
         (λ i. first i ++ rest i) ∙ sym (map-append (sort_of ctx) (occurrences t) (occurrences_all ts))
 
-pub pattern_sorts : (sig : Sig) (s : SortId) (ctx : List SortId) (p : Tree) → IsPatternOf sig s ctx p → sorts_in sig s p ≡ ctx
-pattern_sorts sig s ctx p is = occurring_sorts sig ctx p s is.sorted ∙ ap (λ ns. map (sort_of ctx) ns) is.numbered ∙ all_items (λ n. bool_sort) ctx
+pub pattern_sorts : (sig : Sig) (s : SortId) (ctx : List SortId) (p : Tree) → IsPatternOf sig s ctx p →
+    sorts_in sig s p ≡ ctx
+pattern_sorts sig s ctx p is = occurring_sorts sig ctx p s is.sorted
+    ∙ ap (λ ns. map (sort_of ctx) ns) is.numbered ∙ all_items (λ n. bool_sort) ctx
 
 -- as many as there are occurrences
-pub occurring_count : (sig : Sig) (ctx : List SortId) (t : Tree) (s : SortId) → Sorted sig ctx t s → length (sorts_in sig s t) ≡ length (occurrences t)
-occurring_count sig ctx t s p = ap (λ (ss : List SortId). length ss) (occurring_sorts sig ctx t s p) ∙ length-map (occurrences t) (sort_of ctx)
+pub occurring_count : (sig : Sig) (ctx : List SortId) (t : Tree) (s : SortId) → Sorted sig ctx t s →
+    length (sorts_in sig s t) ≡ length (occurrences t)
+occurring_count sig ctx t s p = ap (λ (ss : List SortId). length ss) (occurring_sorts sig ctx t s p)
+    ∙ length-map (occurrences t) (sort_of ctx)

@@ -12,7 +12,7 @@ use crate::patterns::push_sorts;
 use clause_core::Clause;
 use spec_core::Signature;
 use std::alloc::Global;
-use term_core::{TermNode, OutOfMemory, SortId, Term, VarId, front};
+use term_core::{OutOfMemory, SortId, Term, TermNode, VarId, front};
 
 /// Whether the clause has the variable, and the patterns are constructor terms of its sort, whose
 /// variables are numbered from 0 on and occur once each: then [`crate::cover`] may be asked.

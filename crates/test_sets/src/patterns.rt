@@ -14,7 +14,7 @@ use coverage_check::{Coverage, covers};
 use spec_core::Signature;
 use std::alloc::Global;
 use substitutions::Subst;
-use term_core::{TermNode, OutOfMemory, Seq, SortId, Term, Terms, VarId, front};
+use term_core::{OutOfMemory, Seq, SortId, Term, TermNode, Terms, VarId, front};
 
 /// The value of the sort that is named as matching no pattern.
 pub(crate) fn uncovered(

@@ -18,7 +18,8 @@ module _ (mark : ℕ → Tree) where
   joins_all (p ∷ ps) qs a b = (a.0, joins_all ps qs a.1 b)
 
   -- the pairs of two lists are joined if the lists' trees are the same
-  pub joins_zip : (cs ds : List ℕ) → length cs ≡ length ds → Joins mark (zip cs ds) → trees_by mark cs ≡ trees_by mark ds
+  pub joins_zip : (cs ds : List ℕ) → length cs ≡ length ds → Joins mark (zip cs ds) →
+      trees_by mark cs ≡ trees_by mark ds
   joins_zip [] [] l j = refl
   joins_zip [] (d ∷ ds) l j = absurd (omega arith)
   joins_zip (c ∷ cs) [] l j = absurd (omega arith)

@@ -1,5 +1,6 @@
 -- The graph of two terms, and what its closure says of them.
-use Rattle.std.proofs.Common.{◌≡◌, ℕ, ◌<◌, List, [], inl, inr, Bool, true, false, MatchBool, Option, Some, None, sym, ◌∙◌, subst, arith, length}
+use Rattle.std.proofs.Common.{◌≡◌, ℕ, ◌<◌, List, [], inl, inr, Bool, true, false, MatchBool, Option, Some, None, sym}
+use Rattle.std.proofs.Common.{◌∙◌, subst, arith, length}
 use Rattle.std.specs.Prelude.{IfSome}
 use Rattle.std.specs.Option.{IfNone}
 use Rattle.std.specs.Global.{Vec}
@@ -26,9 +27,15 @@ pub record IsGraphOf (graph : List Shape) (first second : ℕ) (a b : Tree) : Ty
   pub first_in : first < length graph
   pub second_in : second < length graph
 
-pub graph_of : (empty mid graph : List Shape) (first second : ℕ) (a b : Tree) → empty ≡ [] → Adds empty a first mid → Adds mid b second graph → IsGraphOf graph first second a b
+pub graph_of : (empty mid graph : List Shape) (first second : ℕ) (a b : Tree) → empty ≡ [] →
+    Adds empty a first mid → Adds mid b second graph → IsGraphOf graph first second a b
 graph_of empty mid graph first second a b e x y =
-    let start : IsOf [] (λ i. var 0) = record { numbered = λ i l. absurd (omega arith); variables = λ i j n p q. absurd (omega (arith, p.0)); depicts = λ i l. absurd (omega arith) } in
+    let start : IsOf [] (λ i. var 0) = record {
+      numbered = λ i l. absurd (omega arith);
+      variables = λ i j n p q.
+          absurd (omega (arith, p.0));
+      depicts = λ i l. absurd (omega arith);
+    } in
     let p = subst (λ g. Adds g a first mid) e x (λ i. var 0) start in
     let q = y p.0 p.1.is in
     record {
@@ -55,18 +62,24 @@ module _ (graph : List Shape) (first second : ℕ) (a b : Tree) (of : IsGraphOf 
   pub are_roots : (roots : List ℕ) → IsClosure graph first second roots → AreRoots graph roots
   are_roots roots c = record { long = c.classes.long; within = c.classes.within }
 
-  pub cycle_has_no_unifier : (roots : List ℕ) → IsClosure graph first second roots → HasNoModel graph roots → HaveNoUnifier a b
-  cycle_has_no_unifier roots c h = none_by_cycle graph of.tree a b of.parts first second of.one of.other of.first_in of.second_in roots c h
+  pub cycle_has_no_unifier : (roots : List ℕ) → IsClosure graph first second roots → HasNoModel graph roots →
+      HaveNoUnifier a b
+  cycle_has_no_unifier roots c h = none_by_cycle graph of.tree a b of.parts first second of.one of.other
+      of.first_in of.second_in roots c h
 
-  module _ (roots : List ℕ) (c : IsClosure graph first second roots) (acyclic : IsAcyclic graph roots) (entries : List (Option Tree)) (are : AreEntries graph roots entries) where
+  module _ (roots : List ℕ) (c : IsClosure graph first second roots) (acyclic : IsAcyclic graph roots)
+      (entries : List (Option Tree)) (are : AreEntries graph roots entries) where
     pub entries_general : IsMostGeneral a b entries
-    entries_general = is_most_general graph of.tree a b of.parts first second of.one of.other of.first_in of.second_in roots c acyclic entries are
+    entries_general = is_most_general graph of.tree a b of.parts first second of.one of.other of.first_in
+        of.second_in roots c acyclic entries are
 
     pub entries_relevant : IsRelevant a b entries
-    entries_relevant = is_relevant graph of.tree a b of.parts first second of.one of.other of.first_in of.second_in roots c acyclic entries are
+    entries_relevant = is_relevant graph of.tree a b of.parts first second of.one of.other of.first_in
+        of.second_in roots c acyclic entries are
 
     pub entries_sorted : KeepsSorts a b entries
-    entries_sorted = keeps_sorts graph of.tree a b of.parts first second of.one of.other of.first_in of.second_in roots c acyclic entries are
+    entries_sorted = keeps_sorts graph of.tree a b of.parts first second of.one of.other of.first_in
+        of.second_in roots c acyclic entries are
 
 -- the three things that are said of the answer
 pub record IsAnswer (a b : Tree) (s : List (Option Tree)) : Type 0 where
@@ -94,23 +107,30 @@ module _ (graph : List Shape) (first second : ℕ) (a b : Tree) (of : IsGraphOf 
         let k = subst (λ o. IfNone o (IsClash g first second)) e h in
         clash_has_no_unifier graph first second a b of (subst (λ x. IsClash x first second) at k)
 
-    closure_at : (found : Option (Vec ℕ)) (roots : Vec ℕ) → found ≡ Some roots → IfSome found (λ (v : Vec ℕ). IsClosure g first second v.items) → IsClosure graph first second roots.items
+    closure_at : (found : Option (Vec ℕ)) (roots : Vec ℕ) → found ≡ Some roots →
+        IfSome found (λ (v : Vec ℕ). IsClosure g first second v.items) → IsClosure graph first second roots.items
     closure_at found roots e h =
         let k = subst (λ o. IfSome o (λ (v : Vec ℕ). IsClosure g first second v.items)) e h in
         subst (λ x. IsClosure x first second roots.items) at k
 
-    module _ (found : Option (Vec ℕ)) (roots : Vec ℕ) (is : found ≡ Some roots) (closed : IfSome found (λ (v : Vec ℕ). IsClosure g first second v.items)) (h : List Shape) (rs : List ℕ) (h_is : h ≡ graph) (rs_is : rs ≡ roots.items) (done : Bool) (decided : MatchBool done (IsAcyclic h rs) (HasNoModel h rs)) where
+    module _ (found : Option (Vec ℕ)) (roots : Vec ℕ) (is : found ≡ Some roots)
+        (closed : IfSome found (λ (v : Vec ℕ). IsClosure g first second v.items)) (h : List Shape) (rs : List ℕ)
+        (h_is : h ≡ graph) (rs_is : rs ≡ roots.items) (done : Bool)
+        (decided : MatchBool done (IsAcyclic h rs) (HasNoModel h rs)) where
       pub cycle_at : done ≡ false → HaveNoUnifier a b
       cycle_at e =
           let k = subst (λ d. MatchBool d (IsAcyclic h rs) (HasNoModel h rs)) e decided in
-          cycle_has_no_unifier graph first second a b of roots.items (closure_at found roots is closed) (subst (λ x. HasNoModel x roots.items) h_is (subst (λ x. HasNoModel h x) rs_is k))
+          cycle_has_no_unifier graph first second a b of roots.items (closure_at found roots is closed)
+          (subst (λ x. HasNoModel x roots.items) h_is (subst (λ x. HasNoModel h x) rs_is k))
 
-      pub answer_at : done ≡ true → (k : List Shape) (ts : List ℕ) → k ≡ graph → ts ≡ roots.items → (entries : List (Option Tree)) → AreEntries k ts entries → IsAnswer a b entries
+      pub answer_at : done ≡ true → (k : List Shape) (ts : List ℕ) → k ≡ graph → ts ≡ roots.items →
+          (entries : List (Option Tree)) → AreEntries k ts entries → IsAnswer a b entries
       answer_at e k ts k_is ts_is entries are =
           let c = closure_at found roots is closed in
           let d = subst (λ d. MatchBool d (IsAcyclic h rs) (HasNoModel h rs)) e decided in
           let acyclic = subst (λ x. IsAcyclic x roots.items) h_is (subst (λ x. IsAcyclic h x) rs_is d) in
-          let same = subst (λ x. AreEntries x roots.items entries) k_is (subst (λ x. AreEntries k x entries) ts_is are) in
+          let same = subst (λ x. AreEntries x roots.items entries) k_is
+          (subst (λ x. AreEntries k x entries) ts_is are) in
           record {
             general = entries_general graph first second a b of roots.items c acyclic entries same;
             relevant = entries_relevant graph first second a b of roots.items c acyclic entries same;

@@ -8,7 +8,7 @@ ghost use Rattle.unifier.specs.declared.shifting.ShiftError.TheVariants.{OutOfMe
 use std::alloc::Global;
 use std::error::Error;
 use std::fmt;
-use term_core::{TermNode, OutOfMemory, Term, Terms, VarId};
+use term_core::{OutOfMemory, Term, TermNode, Terms, VarId};
 
 /// Why a term has no copy with greater variable numbers.
 #[derive(Clone, Copy, Debug, PartialEq, Eq)]

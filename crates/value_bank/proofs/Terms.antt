@@ -19,7 +19,8 @@ mutual
       let k : ts ≡ us = one_terms cells ps ts us hs (subst (λ xs. AreTerms cells xs us) same ks) in
       subst (λ x. app f ts ≡ app x us) (entry_head f g ps qs e) (ap (λ x. app f x) k)
 
-  pub one_terms : (cells : List Cell) (ps : List ℕ) (ts us : Trees) → AreTerms cells ps ts → AreTerms cells ps us → ts ≡ us
+  pub one_terms : (cells : List Cell) (ps : List ℕ) (ts us : Trees) → AreTerms cells ps ts →
+      AreTerms cells ps us → ts ≡ us
   one_terms cells [] none none h k = refl
   one_terms cells [] none (some u us) h k = absurd k
   one_terms cells [] (some t ts) us h k = absurd h
@@ -37,7 +38,8 @@ mutual
       let e : ps ≡ qs = one_places cells ps qs ts bank hs ks in
       bank.distinct p q (cell f ps) at (subst (λ xs. slice_get cells q ≡ Some (cell f xs)) (sym e) at')
 
-  pub one_places : (cells : List Cell) (ps qs : List ℕ) (ts : Trees) → IsBank cells → AreTerms cells ps ts → AreTerms cells qs ts → ps ≡ qs
+  pub one_places : (cells : List Cell) (ps qs : List ℕ) (ts : Trees) → IsBank cells → AreTerms cells ps ts →
+      AreTerms cells qs ts → ps ≡ qs
   one_places cells [] [] none bank h k = refl
   one_places cells [] (q ∷ qs) none bank h k = absurd k
   one_places cells (p ∷ ps) qs none bank h k = absurd h
@@ -62,14 +64,17 @@ mutual
 pub term_kept : KeepsTerms
 term_kept old new p t adds h = subst (λ xs. IsTerm xs p t) (sym adds.1) (kept old adds.0 p t h)
 
-pub terms_kept : (old new : List Cell) (ps : List ℕ) (ts : Trees) → AddsCells old new → AreTerms old ps ts → AreTerms new ps ts
+pub terms_kept : (old new : List Cell) (ps : List ℕ) (ts : Trees) → AddsCells old new → AreTerms old ps ts →
+    AreTerms new ps ts
 terms_kept old new ps ts adds h = subst (λ xs. AreTerms xs ps ts) (sym adds.1) (all_kept old adds.0 ps ts h)
 
 pub below_less : (n m : ℕ) (ps : List ℕ) → n ≤ m → AreBelow n ps → AreBelow m ps
 below_less n m [] le h = tt
 below_less n m (p ∷ ps) le h = (omega (arith, le, h.0), below_less n m ps le h.1)
 
-terms_below : (cells : List Cell) (n : ℕ) → ((p : ℕ) → p < n → p < length cells → (t : Tree) × IsTerm cells p t) → n ≤ length cells → (ps : List ℕ) → AreBelow n ps → (ts : Trees) × AreTerms cells ps ts
+terms_below : (cells : List Cell) (n : ℕ) →
+    ((p : ℕ) → p < n → p < length cells → (t : Tree) × IsTerm cells p t) → n ≤ length cells → (ps : List ℕ) →
+    AreBelow n ps → (ts : Trees) × AreTerms cells ps ts
 terms_below cells n all le [] h = (none, tt)
 terms_below cells n all le (p ∷ ps) h =
     let one = all p h.0 (omega (arith, h.0, le)) in
@@ -87,7 +92,8 @@ term_below cells bank (suc n) p below lt =
 pub term_there : HasTerm
 term_there cells p bank lt = term_below cells bank (suc p) p (omega arith) lt
 
-pub same_cell : (cells : List Cell) (p f g : ℕ) (ps qs : List ℕ) → slice_get cells p ≡ Some (cell f ps) → slice_get cells p ≡ Some (cell g qs) → (f ≡ g) × (ps ≡ qs)
+pub same_cell : (cells : List Cell) (p f g : ℕ) (ps qs : List ℕ) → slice_get cells p ≡ Some (cell f ps) →
+    slice_get cells p ≡ Some (cell g qs) → (f ≡ g) × (ps ≡ qs)
 same_cell = same_entry
 
 -- if a cell is added that refers to earlier ones, and each cell is there once, the cells are a bank
@@ -112,5 +118,9 @@ bank_added cells new now f ps view bank below added shared =
         ]
 
 -- the terms at two places are the same if and only if the places are
-pub same_places : (cells : List Cell) (p q : ℕ) (s t : Tree) → IsBank cells → IsTerm cells p s → IsTerm cells q t → (p ≡ q) ↔ (s ≡ t)
-same_places cells p q s t bank a b = (λ e. one_term_at cells q s t (subst (λ x. IsTerm cells x s) e a) b, λ e. one_place_of cells p q t bank (subst (λ x. IsTerm cells p x) e a) b)
+pub same_places : (cells : List Cell) (p q : ℕ) (s t : Tree) → IsBank cells → IsTerm cells p s →
+    IsTerm cells q t → (p ≡ q) ↔ (s ≡ t)
+same_places cells p q s t bank a b = (
+  λ e. one_term_at cells q s t (subst (λ x. IsTerm cells x s) e a) b,
+  λ e. one_place_of cells p q t bank (subst (λ x. IsTerm cells p x) e a) b,
+)

@@ -8,7 +8,7 @@ ghost use Rattle.value_bank.specs.Placing.{AddsPlaces};
 
 use crate::bank::{Bank, ValueId};
 use std::alloc::Global;
-use term_core::{TermNode, OutOfMemory, Term, front};
+use term_core::{OutOfMemory, Term, TermNode, front};
 
 impl Bank {
     /// The place of a ground term, whose cells are added if they aren't there. It calls itself as

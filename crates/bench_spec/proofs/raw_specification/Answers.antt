@@ -3,4 +3,7 @@ use Rattle.sort_check.proofs.FewDeclarations.{few_declarations}
 use Rattle.bench_spec.proofs.raw_specification.Goals as goal
 
 pub returns : goal.returns
-returns c = record { few = few_declarations c.in-Ok.raw (keeps_limits c.args.bytes.now c.in-Ok.raw c.in-Ok.ensures.derived) }
+returns c = record {
+  few = few_declarations c.in-Ok.raw
+      (keeps_limits c.args.bytes.now c.in-Ok.raw c.in-Ok.ensures.derived);
+}

@@ -4,4 +4,9 @@ use Rattle.std.proofs.lemmas.Option.{slice_get_read}
 use Rattle.bench_spec.proofs.searched.Goals as goal
 
 pub search-requires-clause-listed : goal.search-requires-clause-listed
-search-requires-clause-listed c = (c.loop-goal.goal-index, subst (λ gs. slice_get gs c.loop-goal.goal-index ≡ Some c.goal-item.result) c.as_slice-goal-items.ensures (slice_get_read c.as_slice-goal-items.result.now _ c.loop-goal.goal-index c.goal-item.result refl c.loop-goal-test.true c.goal-item.is))
+search-requires-clause-listed c = (
+  c.loop-goal.goal-index,
+  subst (λ gs. slice_get gs c.loop-goal.goal-index ≡ Some c.goal-item.result) c.as_slice-goal-items.ensures
+      (slice_get_read c.as_slice-goal-items.result.now _ c.loop-goal.goal-index c.goal-item.result refl
+      c.loop-goal-test.true c.goal-item.is),
+)

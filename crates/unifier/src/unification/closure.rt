@@ -1,6 +1,7 @@
 //! The classes of the graph's nodes.
 
-ghost use Rattle.std.specs.Prelude.{◌≡◌, ◌<◌, ◌++◌, ◌∷◌, ℕ, [], IfOk, IfSome, OnOk, MatchBool, length};
+ghost use Rattle.std.specs.Prelude.{◌≡◌, ◌<◌, ◌++◌, ◌∷◌, ℕ, [], IfOk, IfSome, OnOk, MatchBool};
+ghost use Rattle.std.specs.Prelude.{length};
 ghost use Rattle.std.specs.List.{zip};
 ghost use Rattle.std.specs.Option.{IfNone};
 ghost use Rattle.unifier.specs.Graph.{IsGraph};

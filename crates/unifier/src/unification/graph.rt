@@ -6,7 +6,7 @@ ghost use Rattle.unifier.specs.Graph.{HasNoNode, IsNodeOf};
 ghost use Rattle.unifier.specs.Adding.{Adds, AddsAll};
 
 use std::alloc::Global;
-use term_core::{TermNode, OutOfMemory, Seq, SymId, Term, VarId};
+use term_core::{OutOfMemory, Seq, SymId, Term, TermNode, VarId};
 
 /// A node of a graph of terms: a variable, or a symbol with the nodes of its arguments.
 #[derive(Drop)]

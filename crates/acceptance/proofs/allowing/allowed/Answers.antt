@@ -8,7 +8,8 @@ before_or_behind : (k n : ℕ) → (k < n) ⊎ (n ≤ k)
 before_or_behind k n = grind arith
 
 pub loop-node-preserved : goal.loop-node-preserved
-loop-node-preserved c = below_more (λ j. NodeIsAllowed c.args.made.now j) _ c.loop-node.invariant (c.if-not-node_is_allowed.ensures.0 refl)
+loop-node-preserved c = below_more (λ j. NodeIsAllowed c.args.made.now j) _ c.loop-node.invariant
+    (c.if-not-node_is_allowed.ensures.0 refl)
 
 pub returns : goal.returns
 returns c k = elim (before_or_behind k c.loop-node.node) [

@@ -20,14 +20,29 @@ other_is made Neither e = absurd (let q : false ≡ true = e in cc)
 
 pub returns-then-eq : goal.returns-then-eq
 returns-then-eq c =
-    let here = one_child c.args.made.now c.args.node c.requires c.index-made-node.result _ refl c.as_slice-child-items.result.now c.as_slice-child-items.ensures c.loop-child.child-index c.child-item.result (read c.as_slice-child-items.result.now c.loop-child.child-index c.child-item.result c.loop-child-test.true c.child-item.is) in
-    let e : c.child-item.result.relation ≡ Neither = same_true the_type (search rules) _ _ (sym c.if-eq.ensures) in
-    (λ f. absurd (let q : false ≡ true = f in cc), λ all. absurd (neither_is_not c.args.made.now (subst (λ r. ChildIsAllowed c.args.made.now r) e (all _ c.child-item.result.relation here))))
+    let here = one_child c.args.made.now c.args.node c.requires c.index-made-node.result _ refl
+    c.as_slice-child-items.result.now c.as_slice-child-items.ensures c.loop-child.child-index
+    c.child-item.result (read c.as_slice-child-items.result.now c.loop-child.child-index c.child-item.result
+    c.loop-child-test.true c.child-item.is) in
+    let e : c.child-item.result.relation ≡ Neither = same_true the_type (search rules) _ _ (sym c.if-eq.ensures) in (
+      λ f. absurd (let q : false ≡ true = f in cc),
+      λ all. absurd (neither_is_not c.args.made.now
+          (subst (λ r. ChildIsAllowed c.args.made.now r) e (all _ c.child-item.result.relation here))),
+    )
 
 pub loop-child-preserved : goal.loop-child-preserved
 loop-child-preserved c =
-    first_more (λ i (d : Child). ChildIsAllowed c.args.made.now d.relation) c.as_slice-child-items.result.now c.loop-child.child-index c.child-item.result (read c.as_slice-child-items.result.now c.loop-child.child-index c.child-item.result c.loop-child-test.true c.child-item.is) (other_is c.args.made.now c.child-item.result.relation c.if-eq.ensures) c.loop-child.invariant
+    first_more (λ i (d : Child). ChildIsAllowed c.args.made.now d.relation) c.as_slice-child-items.result.now
+    c.loop-child.child-index c.child-item.result
+    (read c.as_slice-child-items.result.now c.loop-child.child-index c.child-item.result
+    c.loop-child-test.true c.child-item.is) (other_is c.args.made.now c.child-item.result.relation
+    c.if-eq.ensures) c.loop-child.invariant
 
 pub returns : goal.returns
-returns c =
-    (λ t. all_children c.args.made.now c.args.node c.requires c.index-made-node.result _ refl c.as_slice-child-items.result.now c.as_slice-child-items.ensures (λ j r. ChildIsAllowed c.args.made.now r) c.loop-child.child-index c.loop-child-test.false c.loop-child.invariant, λ h. refl)
+returns c = (
+  λ t. all_children c.args.made.now c.args.node c.requires c.index-made-node.result _ refl
+      c.as_slice-child-items.result.now c.as_slice-child-items.ensures
+      (λ j r. ChildIsAllowed c.args.made.now r) c.loop-child.child-index c.loop-child-test.false
+      c.loop-child.invariant,
+  λ h. refl,
+)

@@ -15,26 +15,40 @@ pub is_allowed-requires : goal.is_allowed-requires
 is_allowed-requires c =
     let items = c.as_slice-reference-items.result.now in
     let i = c.loop-reference.reference-index in
-    let at : slice_get items i ≡ Some (get_or items i past) = slice_get-get_or items i past c.loop-reference-test.true in
-    let here = one_reference c.args.made.now c.args.node c.requires.node c.index-made-node.result items c.as_slice-reference-items.ensures i (get_or items i past) at in
-    let lt : (get_or items i past).node < length c.args.made.now = c.requires.whole.refs c.args.node (get_or items i past).node (get_or items i past).relation here in
+    let at : slice_get items i ≡ Some (get_or items i past) = slice_get-get_or items i past
+    c.loop-reference-test.true in
+    let here = one_reference c.args.made.now c.args.node c.requires.node c.index-made-node.result items
+    c.as_slice-reference-items.ensures i (get_or items i past) at in
+    let lt : (get_or items i past).node < length c.args.made.now = c.requires.whole.refs c.args.node
+    (get_or items i past).node (get_or items i past).relation here in
     omega (arith, lt, c.requires.strict.long)
 
 pub returns-then-not-is_allowed : goal.returns-then-not-is_allowed
 returns-then-not-is_allowed c =
     let items = c.as_slice-reference-items.result.now in
     let i = c.loop-reference.reference-index in
-    let at : slice_get items i ≡ Some (get_or items i past) = slice_get-get_or items i past c.loop-reference-test.true in
-    let here = one_reference c.args.made.now c.args.node c.requires.node c.index-made-node.result items c.as_slice-reference-items.ensures i (get_or items i past) at in
-    (λ f. absurd (let q : false ≡ true = f in cc), λ all. c.if-not-is_allowed.ensures.1 (all (get_or items i past).node (get_or items i past).relation here))
+    let at : slice_get items i ≡ Some (get_or items i past) = slice_get-get_or items i past
+    c.loop-reference-test.true in
+    let here = one_reference c.args.made.now c.args.node c.requires.node c.index-made-node.result items
+    c.as_slice-reference-items.ensures i (get_or items i past) at in (
+      λ f. absurd (let q : false ≡ true = f in cc),
+      λ all. c.if-not-is_allowed.ensures.1 (all (get_or items i past).node (get_or items i past).relation here),
+    )
 
 pub loop-reference-preserved : goal.loop-reference-preserved
 loop-reference-preserved c =
     let items = c.as_slice-reference-items.result.now in
     let i = c.loop-reference.reference-index in
-    let at : slice_get items i ≡ Some (get_or items i past) = slice_get-get_or items i past c.loop-reference-test.true in
-    first_more (λ i (d : Reference). AllowedBy c.args.strict.now c.args.node d.node d.relation) items i (get_or items i past) at (c.if-not-is_allowed.ensures.0 refl) c.loop-reference.invariant
+    let at : slice_get items i ≡ Some (get_or items i past) = slice_get-get_or items i past
+    c.loop-reference-test.true in
+    first_more (λ i (d : Reference). AllowedBy c.args.strict.now c.args.node d.node d.relation) items i
+    (get_or items i past) at (c.if-not-is_allowed.ensures.0 refl) c.loop-reference.invariant
 
 pub returns : goal.returns
-returns c =
-    (λ t. all_references c.args.made.now c.args.node c.requires.node c.index-made-node.result c.as_slice-reference-items.result.now c.as_slice-reference-items.ensures (AllowedBy c.args.strict.now c.args.node) c.loop-reference.reference-index c.loop-reference-test.false c.loop-reference.invariant, λ h. refl)
+returns c = (
+  λ t. all_references c.args.made.now c.args.node c.requires.node c.index-made-node.result
+      c.as_slice-reference-items.result.now c.as_slice-reference-items.ensures
+      (AllowedBy c.args.strict.now c.args.node) c.loop-reference.reference-index c.loop-reference-test.false
+      c.loop-reference.invariant,
+  λ h. refl,
+)

@@ -4,4 +4,5 @@ use Rattle.acceptance.proofs.Flags.{FirstAre}
 use Rattle.acceptance.proofs.allowing.references_are_allowed.Given as goal
 
 abbrev pub invariant-loop-reference : goal.invariant-loop-reference
-invariant-loop-reference l = FirstAre (λ i (d : Reference). AllowedBy l.strict l.node d.node d.relation) l.reference-items l.reference-index
+invariant-loop-reference l = FirstAre (λ i (d : Reference). AllowedBy l.strict l.node d.node d.relation)
+    l.reference-items l.reference-index

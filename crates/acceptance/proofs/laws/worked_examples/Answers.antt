@@ -1,6 +1,8 @@
 use Rattle.sample_specs.specs.SumOrder.{AboveInSums}
 use Rattle.clause_core.proofs.OneRelation.{one_relation}
-use Rattle.acceptance.proofs.RefusedReports.{accepted, behind_open, circular, step_too_many, unfinished, claimed_twice, case_left_out, by_itself, by_open, refuted, not_refuted, exchanged_names, unknown_goal}
+use Rattle.acceptance.proofs.RefusedReports.{accepted, behind_open, circular, step_too_many, unfinished, claimed_twice}
+use Rattle.acceptance.proofs.RefusedReports.{case_left_out, by_itself, by_open, refuted, not_refuted, exchanged_names}
+use Rattle.acceptance.proofs.RefusedReports.{unknown_goal}
 use Rattle.acceptance.proofs.UnitProof.{by_proved}
 use Rattle.acceptance.proofs.laws.worked_examples.Goals as goal
 

@@ -14,23 +14,34 @@ use Rattle.accepted_spec.proofs.Accepting.{spec_within, text_told, accepted_as, 
 use Rattle.accepted_spec.proofs.reading.specification.Goals as goal
 
 pub elaborate-requires : goal.elaborate-requires
-elaborate-requires c = record { few = few_declarations c.in-Ok.raw (keeps_limits c.args.bytes.now c.in-Ok.raw c.in-Ok.ensures.derived) }
+elaborate-requires c = record {
+  few = few_declarations c.in-Ok.raw
+      (keeps_limits c.args.bytes.now c.in-Ok.raw c.in-Ok.ensures.derived);
+}
 
 pub returns-in-Err-clause-refused : goal.returns-in-Err-clause-refused
-returns-in-Err-clause-refused c = text_told c.args.bytes.now c.syntax_refusal.result (syntax_told File IsSpecText HasFirstFault c.args.bytes.now c.in-Err.fault c.in-Err.ensures.fault c.syntax_refusal.result c.syntax_refusal.ensures)
+returns-in-Err-clause-refused c = text_told c.args.bytes.now c.syntax_refusal.result
+    (syntax_told File IsSpecText HasFirstFault c.args.bytes.now c.in-Err.fault c.in-Err.ensures.fault
+    c.syntax_refusal.result c.syntax_refusal.ensures)
 
 pub returns-in-Err-elaborate-clause-refused : goal.returns-in-Err-elaborate-clause-refused
-returns-in-Err-elaborate-clause-refused c = text_told c.args.bytes.now c.sort_refusal.result (sort_told File IsSpecText HasFirstFault c.args.bytes.now c.in-Ok.raw c.in-Ok.ensures.derived c.in-Err-elaborate.fault (λ at kind e. c.in-Err-elaborate.ensures.fault at kind (ap (λ f. Err f) e)) c.sort_refusal.result c.sort_refusal.ensures)
+returns-in-Err-elaborate-clause-refused c = text_told c.args.bytes.now c.sort_refusal.result
+    (sort_told File IsSpecText HasFirstFault c.args.bytes.now c.in-Ok.raw c.in-Ok.ensures.derived
+    c.in-Err-elaborate.fault (λ at kind e. c.in-Err-elaborate.ensures.fault at kind (ap (λ f. Err f) e))
+    c.sort_refusal.result c.sort_refusal.ensures)
 
 pub of-requires : goal.of-requires
 of-requires c =
     (c.in-Ok-elaborate.ensures.sorted (keeps_limits c.args.bytes.now c.in-Ok.raw c.in-Ok.ensures.derived)).order
 
 pub admit-requires-clause-sorted : goal.admit-requires-clause-sorted
-admit-requires-clause-sorted c = c.in-Ok-elaborate.ensures.sorted (keeps_limits c.args.bytes.now c.in-Ok.raw c.in-Ok.ensures.derived)
+admit-requires-clause-sorted c = c.in-Ok-elaborate.ensures.sorted
+    (keeps_limits c.args.bytes.now c.in-Ok.raw c.in-Ok.ensures.derived)
 
 pub admit-requires-clause-small : goal.admit-requires-clause-small
-admit-requires-clause-small c = spec_within (length c.args.bytes.now) 4294967295 (omega (arith, c.requires)) c.in-Ok-elaborate.spec (c.numbering_keeps_sizes.ensures (length c.args.bytes.now) c.in-Ok.raw c.in-Ok-elaborate.spec c.in-Ok.ensures.few_words c.in-Ok-elaborate.ensures.stands.numbered)
+admit-requires-clause-small c = spec_within (length c.args.bytes.now) 4294967295 (omega (arith, c.requires))
+    c.in-Ok-elaborate.spec (c.numbering_keeps_sizes.ensures (length c.args.bytes.now) c.in-Ok.raw
+    c.in-Ok-elaborate.spec c.in-Ok.ensures.few_words c.in-Ok-elaborate.ensures.stands.numbered)
 
 pub returns-in-Ok-admit-clause-accepted : goal.returns-in-Ok-admit-clause-accepted
 returns-in-Ok-admit-clause-accepted c =

@@ -6,4 +6,5 @@ pub loop-init : goal.loop-init
 loop-init c = no_values c.in_ok-made.made.items c.in_ok-made.ensures.items
 
 pub loop-preserved : goal.loop-preserved
-loop-preserved c = no_values_more c.loop.made.items c.push.new.self.items _ c.loop.invariant c.in_ok-push.ensures.items refl
+loop-preserved c = no_values_more c.loop.made.items c.push.new.self.items _ c.loop.invariant
+    c.in_ok-push.ensures.items refl

@@ -11,4 +11,5 @@ abbrev pub decreases-instance_depths : goal.decreases-instance_depths
 decreases-instance_depths l = list_weight l.terms.now
 
 abbrev pub invariant-instance_depths-loop-term : goal.invariant-instance_depths-loop-term
-invariant-instance_depths-loop-term l = l.depth ≡ min (depths (trees_of (map (apply l.theta.terms) (take l.term-index l.terms)))) l.cap
+invariant-instance_depths-loop-term l = l.depth ≡ min
+    (depths (trees_of (map (apply l.theta.terms) (take l.term-index l.terms)))) l.cap

@@ -11,4 +11,5 @@ abbrev pub decreases-instance_sizes : goal.decreases-instance_sizes
 decreases-instance_sizes l = list_weight l.terms.now
 
 abbrev pub invariant-instance_sizes-loop-term : goal.invariant-instance_sizes-loop-term
-invariant-instance_sizes-loop-term l = l.size ≡ min (sizes (trees_of (map (apply l.theta.terms) (take l.term-index l.terms)))) l.cap
+invariant-instance_sizes-loop-term l = l.size ≡ min
+    (sizes (trees_of (map (apply l.theta.terms) (take l.term-index l.terms)))) l.cap

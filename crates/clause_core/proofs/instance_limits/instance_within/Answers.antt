@@ -13,7 +13,9 @@ returns-then-first-second-gt-MOST_SYMBOLS c =
     let s = c.args.theta.now.terms in
     let made = clause_instance s [] c.args.clause.now in
     let size : List Equation → ℕ = λ es. min (sizes (trees_of (sides_of (map (equation_instance s) es)))) 4001 in
-    let past = size_past made c.sides_size-first.result c.sides_size-second.result (c.sides_size-first.ensures ∙ ap size c.as_slice-premises.ensures) (c.sides_size-second.ensures ∙ ap size c.as_slice-conclusions.ensures) c.if-first-second-gt-MOST_SYMBOLS.true in
+    let past = size_past made c.sides_size-first.result c.sides_size-second.result (c.sides_size-first.ensures
+    ∙ ap size c.as_slice-premises.ensures) (c.sides_size-second.ensures
+    ∙ ap size c.as_slice-conclusions.ensures) c.if-first-second-gt-MOST_SYMBOLS.true in
     λ ctx. (λ t. absurd (cc), λ w. absurd (omega (arith, w.size, past)))
 
 pub returns : goal.returns
@@ -22,13 +24,25 @@ returns c =
     let made = clause_instance s [] c.args.clause.now in
     let size : List Equation → ℕ = λ es. min (sizes (trees_of (sides_of (map (equation_instance s) es)))) 4001 in
     let depth : List Equation → ℕ = λ es. min (depths (trees_of (sides_of (map (equation_instance s) es)))) 101 in
-    let w = depth_within made c.sides_depth-first.result c.sides_depth-second.result c.max.result (c.sides_depth-first.ensures ∙ ap depth c.as_slice-premises.ensures) (c.sides_depth-second.ensures ∙ ap depth c.as_slice-conclusions.ensures) c.max.ensures in
-    let small = size_within made c.sides_size-first.result c.sides_size-second.result (c.sides_size-first.ensures ∙ ap size c.as_slice-premises.ensures) (c.sides_size-second.ensures ∙ ap size c.as_slice-conclusions.ensures) c.if-first-second-gt-MOST_SYMBOLS.false in
+    let w = depth_within made c.sides_depth-first.result c.sides_depth-second.result c.max.result
+    (c.sides_depth-first.ensures ∙ ap depth c.as_slice-premises.ensures) (c.sides_depth-second.ensures
+    ∙ ap depth c.as_slice-conclusions.ensures) c.max.ensures in
+    let small = size_within made c.sides_size-first.result c.sides_size-second.result
+    (c.sides_size-first.ensures ∙ ap size c.as_slice-premises.ensures) (c.sides_size-second.ensures
+    ∙ ap size c.as_slice-conclusions.ensures) c.if-first-second-gt-MOST_SYMBOLS.false in
     let p = ap (λ (es : List Equation). length es) c.as_slice-premises.ensures in
     let q = ap (λ (es : List Equation). length es) c.as_slice-conclusions.ensures in
     λ ctx. (
       λ t. record {
-        equations = omega (arith, p, q, length-map c.args.clause.now.premises (equation_instance s), length-map c.args.clause.now.conclusions (equation_instance s), c.if-premises-gt-MOST_EQUATIONS.false, c.if-conclusions-premises.false);
+        equations = omega (
+          arith,
+          p,
+          q,
+          length-map c.args.clause.now.premises (equation_instance s),
+          length-map c.args.clause.now.conclusions (equation_instance s),
+          c.if-premises-gt-MOST_EQUATIONS.false,
+          c.if-conclusions-premises.false,
+        );
         depth = w.0 (leb-true _ _ t);
         size = small;
       },

@@ -12,5 +12,8 @@ loop-equation-preserved c =
     let e = c.equation-item.result in
     c.max-depth.ensures
     ∙ ap (λ n. max n c.instance_depth-in-loop-equation.result) c.max.ensures
-    ∙ depths_next (map (equation_instance entries) es) i (equation_instance entries e) c.args.cap c.loop-equation.depth c.instance_depth.result c.instance_depth-in-loop-equation.result (instance_below entries es i c.loop-equation-test.true) (instance_at entries es i e c.loop-equation-test.true c.equation-item.is) c.loop-equation.invariant
+    ∙ depths_next (map (equation_instance entries) es) i (equation_instance entries e) c.args.cap
+    c.loop-equation.depth c.instance_depth.result c.instance_depth-in-loop-equation.result
+    (instance_below entries es i c.loop-equation-test.true)
+    (instance_at entries es i e c.loop-equation-test.true c.equation-item.is) c.loop-equation.invariant
     (omega (arith, c.instance_depth.ensures)) (omega (arith, c.instance_depth-in-loop-equation.ensures))

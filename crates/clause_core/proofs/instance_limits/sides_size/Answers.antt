@@ -10,5 +10,8 @@ loop-equation-preserved c =
     let es = c.args.equations.now in
     let i = c.loop-equation.equation-index in
     let e = c.equation-item.result in
-    sizes_next (map (equation_instance entries) es) i (equation_instance entries e) c.args.cap c.loop-equation.size c.instance_size-size.result c.instance_size-size-in-loop-equation.result (instance_below entries es i c.loop-equation-test.true) (instance_at entries es i e c.loop-equation-test.true c.equation-item.is) c.loop-equation.invariant
+    sizes_next (map (equation_instance entries) es) i (equation_instance entries e) c.args.cap
+    c.loop-equation.size c.instance_size-size.result c.instance_size-size-in-loop-equation.result
+    (instance_below entries es i c.loop-equation-test.true)
+    (instance_at entries es i e c.loop-equation-test.true c.equation-item.is) c.loop-equation.invariant
     (omega (arith, c.instance_size-size.ensures)) (omega (arith, c.instance_size-size-in-loop-equation.ensures))

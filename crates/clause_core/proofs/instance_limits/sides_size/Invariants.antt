@@ -5,4 +5,5 @@ use Rattle.clause_core.specs.Clauses.{sides_of}
 use Rattle.clause_core.proofs.instance_limits.sides_size.Given as goal
 
 abbrev pub invariant-loop-equation : goal.invariant-loop-equation
-invariant-loop-equation l = l.size ≡ min (sizes (trees_of (sides_of (take l.equation-index (map (equation_instance l.theta.terms) l.equations))))) l.cap
+invariant-loop-equation l = l.size ≡ min
+    (sizes (trees_of (sides_of (take l.equation-index (map (equation_instance l.theta.terms) l.equations))))) l.cap

@@ -7,7 +7,13 @@ pub returns : goal.returns
 returns c =
     let e = c.worked_examples.ensures in
     record {
-      naturals_are_admitted = record { linear = e.linear; ordered = ordered; apart = e.apart; whole = whole; covering = e.covering };
+      naturals_are_admitted = record {
+        linear = e.linear;
+        ordered = ordered;
+        apart = e.apart;
+        whole = whole;
+        covering = e.covering;
+      };
       repeating_is_not = λ a. e.not_linear (a.linear 0 repeating_rule refl);
       looping_is_not = λ a. not_ordered a.ordered;
       overlapping_is_not = λ a. e.not_apart a.apart;

@@ -1,4 +1,5 @@
-use Rattle.std.proofs.Common.{◌≡◌, ℕ, ◌+◌, ◌<◌, ◌≤◌, List, [], ◌∷◌, ◌++◌, ap, sym, ◌∙◌, map, take, drop, set, length, get_or, arith, length-set}
+use Rattle.std.proofs.Common.{◌≡◌, ℕ, ◌+◌, ◌<◌, ◌≤◌, List, [], ◌∷◌, ◌++◌, ap, sym, ◌∙◌, map, take, drop, set, length}
+use Rattle.std.proofs.Common.{get_or, arith, length-set}
 use Rattle.std.proofs.lemmas.List.{take-set, take_more_set, take_all, drop-set-lt}
 use Rattle.term_core.specs.Tree.{Tree, app, trees_of}
 use Rattle.term_core.specs.Measure.{weight, list_weight, list_weight_is}
@@ -8,7 +9,8 @@ use Rattle.term_core.proofs.Trees.{weight-member}
 use Rattle.term_core.specs.Variables.{occurrences, occurrences_all}
 use Rattle.term_core.specs.Gathered.{gathered}
 use Rattle.clause_core.specs.Tidied.{renumbered}
-use Rattle.clause_core.proofs.Renumbering.{closed_kept, renumbered_all-trees_of, renumbered_next, gathered_next, next_left, others_left}
+use Rattle.clause_core.proofs.Renumbering.{closed_kept, renumbered_all-trees_of, renumbered_next, gathered_next}
+use Rattle.clause_core.proofs.Renumbering.{next_left, others_left}
 use Rattle.clause_core.proofs.tidying.+renumber.Goals as goal
 
 pub renumber-returns-in_ok-put_items-in-App-clause-made : goal.renumber-returns-in_ok-put_items-in-App-clause-made
@@ -17,10 +19,13 @@ renumber-returns-in_ok-put_items-in-App-clause-made t c =
     let f = c.in-App.sym in
     let ts = c.in-App.args in
     let view : app f.0 (trees_of ts) ≡ c.args.term = ap tree_of (sym c.in-App.is) ∙ c.term.view_is in
-    let taken : c.in_ok-take_items-in-App.field-0.items ≡ ts = rw c.in-App.is at c.in_ok-take_items-in-App.ensures.taken in
+    let taken : c.in_ok-take_items-in-App.field-0.items ≡ ts = rw c.in-App.is
+    at c.in_ok-take_items-in-App.ensures.taken in
     let made : c.put_items.new.self ≡ map (renumbered olds) ts =
-    c.in_ok-put_items-in-App.ensures.put ∙ c.in_ok-made-in-App.ensures.made ∙ ap (λ us. map (renumbered olds) us) taken in
-    c.app.ensures ∙ ap (λ us. app f.0 us) (ap trees_of made ∙ sym (renumbered_all-trees_of olds ts)) ∙ ap (renumbered olds) view
+    c.in_ok-put_items-in-App.ensures.put ∙ c.in_ok-made-in-App.ensures.made
+    ∙ ap (λ us. map (renumbered olds) us) taken in
+    c.app.ensures ∙ ap (λ us. app f.0 us) (ap trees_of made ∙ sym (renumbered_all-trees_of olds ts))
+    ∙ ap (renumbered olds) view
 
 pub renumber-returns-then-bound-eq0-clause-olds : goal.renumber-returns-then-bound-eq0-clause-olds
 renumber-returns-then-bound-eq0-clause-olds t c =
@@ -35,7 +40,8 @@ pub renumber-renumber_all-requires : goal.renumber-renumber_all-requires
 renumber-renumber_all-requires t c =
     let ts = c.in-App.args in
     let view : app c.in-App.sym.0 (trees_of ts) ≡ c.args.term = ap tree_of (sym c.in-App.is) ∙ c.term.view_is in
-    let taken : c.in_ok-take_items-in-App.field-0.items ≡ ts = rw c.in-App.is at c.in_ok-take_items-in-App.ensures.taken in
+    let taken : c.in_ok-take_items-in-App.field-0.items ≡ ts = rw c.in-App.is
+    at c.in_ok-take_items-in-App.ensures.taken in
     (omega (arith, ap weight view, list_weight_is ts, ap list_weight taken), tt)
 
 -- the term that is taken out is the one that was there at first
@@ -48,7 +54,12 @@ taken_out now before i t there lt same left is at =
 pub renumber_all-renumber-requires : goal.renumber_all-renumber-requires
 renumber_all-renumber-requires t c =
     let items = c.loop-index.terms.items in
-    let lt : c.loop-index.index < length items = omega (arith, c.loop-index-test.true, c.len-index-end.ensures, c.loop-index.invariant.count) in
+    let lt : c.loop-index.index < length items = omega (
+      arith,
+      c.loop-index-test.true,
+      c.len-index-end.ensures,
+      c.loop-index.invariant.count,
+    ) in
     let ts = c.args.terms.items in
     let h = c.loop-index.invariant in
     let at =
@@ -93,15 +104,26 @@ renumber_all-loop-index-preserved t c =
 pub renumber_all-returns-clause-olds : goal.renumber_all-returns-clause-olds
 renumber_all-returns-clause-olds t c =
     let h = c.loop-index.invariant in
-    let end : length c.args.terms.items ≤ c.loop-index.index = omega (arith, c.loop-index-test.false, c.len-index-end.ensures) in
-    let all : take c.loop-index.index c.args.terms.items ≡ c.args.terms.items = take_all c.loop-index.index c.args.terms.items end in
+    let end : length c.args.terms.items ≤ c.loop-index.index = omega (
+      arith,
+      c.loop-index-test.false,
+      c.len-index-end.ensures,
+    ) in
+    let all : take c.loop-index.index c.args.terms.items ≡ c.args.terms.items = take_all c.loop-index.index
+    c.args.terms.items end in
     h.met ∙ ap (λ us. gathered c.args.olds.now.items (occurrences_all (trees_of us))) all
 
 pub renumber_all-returns-clause-made : goal.renumber_all-returns-clause-made
 renumber_all-returns-clause-made t c =
     let h = c.loop-index.invariant in
     let items = c.loop-index.terms.items in
-    let end : length c.args.terms.items ≤ c.loop-index.index = omega (arith, c.loop-index-test.false, c.len-index-end.ensures) in
-    let all : take c.loop-index.index c.args.terms.items ≡ c.args.terms.items = take_all c.loop-index.index c.args.terms.items end in
-    let whole : take c.loop-index.index items ≡ items = take_all c.loop-index.index items (omega (arith, end, h.count)) in
+    let end : length c.args.terms.items ≤ c.loop-index.index = omega (
+      arith,
+      c.loop-index-test.false,
+      c.len-index-end.ensures,
+    ) in
+    let all : take c.loop-index.index c.args.terms.items ≡ c.args.terms.items = take_all c.loop-index.index
+    c.args.terms.items end in
+    let whole : take c.loop-index.index items ≡ items = take_all c.loop-index.index items
+    (omega (arith, end, h.count)) in
     sym whole ∙ h.renumbered ∙ ap (λ us. map (renumbered c.loop-index.olds.items) us) all

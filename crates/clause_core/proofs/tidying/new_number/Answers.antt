@@ -15,25 +15,31 @@ pub returns-in-Some-clause-olds : goal.returns-in-Some-clause-olds
 returns-in-Some-clause-olds c =
     let olds = c.args.olds.now.items in
     let n = c.args.var.0 in
-    let at : position (λ m. m == n) olds ≡ Some c.in-Some.place = ap (λ (os : List ℕ). position (λ m. m == n) os) (sym c.deref.ensures.value) ∙ sym c.in-Some.ensures in
+    let at : position (λ m. m == n) olds ≡ Some c.in-Some.place = ap
+    (λ (os : List ℕ). position (λ m. m == n) os) (sym c.deref.ensures.value) ∙ sym c.in-Some.ensures in
     on_ok c.numbered.result (olds ≡ met olds n) (sym (met_old olds n (found_at olds n c.in-Some.place at).0))
 
 pub returns-in-Some-clause-made : goal.returns-in-Some-clause-made
 returns-in-Some-clause-made c =
     let olds = c.args.olds.now.items in
     let n = c.args.var.0 in
-    let at : position (λ m. m == n) olds ≡ Some c.in-Some.place = ap (λ (os : List ℕ). position (λ m. m == n) os) (sym c.deref.ensures.value) ∙ sym c.in-Some.ensures in
-    if_ok_map c.numbered.result (λ (made : VarId). made.0 ≡ c.in-Some.place) (λ (made : VarId). made.0 ≡ place_of olds n) (λ made e. e ∙ sym (found_at olds n c.in-Some.place at).1) c.numbered.ensures
+    let at : position (λ m. m == n) olds ≡ Some c.in-Some.place = ap
+    (λ (os : List ℕ). position (λ m. m == n) os) (sym c.deref.ensures.value) ∙ sym c.in-Some.ensures in
+    if_ok_map c.numbered.result (λ (made : VarId). made.0 ≡ c.in-Some.place)
+    (λ (made : VarId). made.0 ≡ place_of olds n) (λ made e. e ∙ sym (found_at olds n c.in-Some.place at).1)
+    c.numbered.ensures
 
 pub returns-in_ok-push-in-None : goal.returns-in_ok-push-in-None
 returns-in_ok-push-in-None c =
     let olds = c.args.olds.now.items in
     let n = c.args.var.0 in
-    let at : position (λ m. m == n) olds ≡ None = ap (λ (os : List ℕ). position (λ m. m == n) os) (sym c.deref.ensures.value) ∙ sym c.in-None.ensures in
+    let at : position (λ m. m == n) olds ≡ None = ap (λ (os : List ℕ). position (λ m. m == n) os)
+    (sym c.deref.ensures.value) ∙ sym c.in-None.ensures in
     let last = not_found olds n at in
     let pushed : c.push.new.self.items ≡ olds ++ n ∷ [] = c.in_ok-push-in-None.ensures.items in
     let long : length c.deref.result.now ≡ length olds = ap (λ (os : List ℕ). length os) c.deref.ensures.value in
     record {
       olds = pushed ∙ sym (met_new olds n last);
-      made = c.in_ok-made-in-None.ensures ∙ c.len.ensures ∙ sym c.deref.ensures.len ∙ long ∙ sym (place_last olds [] n last) ∙ ap (λ os. place_of os n) (sym pushed);
+      made = c.in_ok-made-in-None.ensures ∙ c.len.ensures ∙ sym c.deref.ensures.len ∙ long
+          ∙ sym (place_last olds [] n last) ∙ ap (λ os. place_of os n) (sym pushed);
     }

@@ -6,7 +6,8 @@ use Rattle.term_core.proofs.Items.{if_ok_map}
 use Rattle.term_core.proofs.Trees.{slice_front}
 use Rattle.clause_places.specs.Spots.{paths, argument_paths}
 use Rattle.clause_places.specs.Walk.{Passes}
-use Rattle.clause_places.proofs.WalkedPlaces.{passes_variable, passes_call, found_in_call, found_in_argument, passes_arguments, narrow_arguments, lighter_arguments}
+use Rattle.clause_places.proofs.WalkedPlaces.{passes_variable, passes_call, found_in_call, found_in_argument}
+use Rattle.clause_places.proofs.WalkedPlaces.{passes_arguments, narrow_arguments, lighter_arguments}
 use Rattle.clause_places.proofs.walk.+pass.Goals as goal
 
 pub pass_term-pass_arguments-requires : goal.pass_term-pass_arguments-requires

@@ -6,7 +6,8 @@ use Rattle.command_line.proofs.arguments.is_given.Goals as goal
 
 pub returns-in-Some : goal.returns-in-Some
 returns-in-Some c =
-    text_compared (first_of c.args.name.now (rows_of (found_of c.args.matches.now))) c.in-Some.text.now (codes "true") c.eq.result
+    text_compared (first_of c.args.name.now (rows_of (found_of c.args.matches.now))) c.in-Some.text.now
+    (codes "true") c.eq.result
     (c.in-Some.ensures ∙ first_value-rows (found_of c.args.matches.now) c.args.name.now) c.eq.ensures
 
 pub returns-in-None : goal.returns-in-None

@@ -1,8 +1,10 @@
 -- Each command has the words and the numbers that it takes.
 use Rattle.std.proofs.Common.{refl, codes}
 use Rattle.clap.specs.Words.{found_of, rows_of}
-use Rattle.command_line.specs.declared.ranges.TheConstants.{GOALS, NODES, PLAIN, STEPS, USUAL_NODES, USUAL_PLAIN, USUAL_STEPS}
-use Rattle.command_line.specs.declared.table.CommandWord.TheVariants.{Check, Eval, Prove, Refute, Replay, Load, Upgrade, Trim, Session}
+use Rattle.command_line.specs.declared.ranges.TheConstants.{GOALS, NODES, PLAIN, STEPS, USUAL_NODES, USUAL_PLAIN}
+use Rattle.command_line.specs.declared.ranges.TheConstants.{USUAL_STEPS}
+use Rattle.command_line.specs.declared.table.CommandWord.TheVariants.{Check, Eval, Prove, Refute, Replay, Load}
+use Rattle.command_line.specs.declared.table.CommandWord.TheVariants.{Upgrade, Trim, Session}
 use Rattle.command_line.proofs.Askings.{bounds_at, number_at, numeral_at, word_at}
 use Rattle.command_line.proofs.commands.asked.Goals as goal
 

@@ -21,5 +21,6 @@ returns-in-Ok c =
 
 pub returns : goal.returns
 returns c =
-    refused (app_of c.args.app) (map string_bytes c.args.words.now) c.in-Err.error (c.in-Err.ensures.kinds c.requires.simple)
+    refused (app_of c.args.app) (map string_bytes c.args.words.now) c.in-Err.error
+    (c.in-Err.ensures.kinds c.requires.simple)
     (λ e. c.in_default.not-OutOfMemory (c.kind.ensures ∙ e))

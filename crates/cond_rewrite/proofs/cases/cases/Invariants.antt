@@ -8,4 +8,6 @@ use Rattle.cond_rewrite.proofs.cases.cases.Given as goal
 
 abbrev pub invariant-loop-rule : goal.invariant-loop-rule
 invariant-loop-rule l =
-    (p : TermAt l.clause l.place) → (l.made.items ≡ map tidied (applied_cases p l.theta.terms (take l.rule-index l.rules) l.left)) × AllByRecursion IsWithin l.made.items
+    (p : TermAt l.clause l.place) →
+    (l.made.items ≡ map tidied (applied_cases p l.theta.terms (take l.rule-index l.rules) l.left))
+    × AllByRecursion IsWithin l.made.items

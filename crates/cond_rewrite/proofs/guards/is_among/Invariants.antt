@@ -5,4 +5,5 @@ use Rattle.cond_rewrite.proofs.guards.is_among.Given as goal
 
 abbrev pub invariant-loop-premise : goal.invariant-loop-premise
 invariant-loop-premise l =
-    Among (applied_guard l.theta.terms l.guard) l.premises → Among (applied_guard l.theta.terms l.guard) (drop l.premise-index l.premises)
+    Among (applied_guard l.theta.terms l.guard) l.premises →
+    Among (applied_guard l.theta.terms l.guard) (drop l.premise-index l.premises)

@@ -7,4 +7,7 @@ pub returns : goal.returns
 returns c =
     let sorts = c.args.sorts.now in
     let k = c.args.column in
-    front_made k sorts (get_or sorts k (record { 0 = 0 })) c.in_ok-made.made.items c.push.new.self.items c.extend_from_slice.new.self.items c.extend_from_slice-2.new.self.items c.requires (get_or_default sorts k _ _ c.requires) c.in_ok-made.ensures.items c.in_ok-push.ensures.items c.in_ok-extend_from_slice.ensures.items c.in_ok-extend_from_slice-2.ensures.items
+    front_made k sorts (get_or sorts k (record { 0 = 0 })) c.in_ok-made.made.items c.push.new.self.items
+    c.extend_from_slice.new.self.items c.extend_from_slice-2.new.self.items c.requires
+    (get_or_default sorts k _ _ c.requires) c.in_ok-made.ensures.items c.in_ok-push.ensures.items
+    c.in_ok-extend_from_slice.ensures.items c.in_ok-extend_from_slice-2.ensures.items

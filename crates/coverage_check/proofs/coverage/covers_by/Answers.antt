@@ -11,7 +11,9 @@ pub is_missing-requires : goal.is_missing-requires
 is_missing-requires c = record {
   declared = c.requires.declared;
   range = c.requires.sorts;
-  patterns = subst (λ rs. AllByRecursion (HasSorts c.args.sig.now c.args.sorts.now) rs) (sym (c.deref.ensures.value ∙ c.in_ok-patterns.ensures)) (rows_have_sorts c.args.sig.now c.args.sorts.now c.args.rows.now c.requires.rows);
+  patterns = subst (λ rs. AllByRecursion (HasSorts c.args.sig.now c.args.sorts.now) rs)
+      (sym (c.deref.ensures.value ∙ c.in_ok-patterns.ensures))
+      (rows_have_sorts c.args.sig.now c.args.sorts.now c.args.rows.now c.requires.rows);
   variable = c.requires.any;
 }
 
@@ -19,17 +21,24 @@ pub name-requires-clause-matrix : goal.name-requires-clause-matrix
 name-requires-clause-matrix c = record {
   declared = c.requires.declared;
   range = c.requires.sorts;
-  patterns = subst (λ rs. AllByRecursion (HasSorts c.args.sig.now c.args.sorts.now) rs) (sym (c.deref-then-branch.ensures.value ∙ c.in_ok-patterns.ensures)) (rows_have_sorts c.args.sig.now c.args.sorts.now c.args.rows.now c.requires.rows);
+  patterns = subst (λ rs. AllByRecursion (HasSorts c.args.sig.now c.args.sorts.now) rs)
+      (sym (c.deref-then-branch.ensures.value ∙ c.in_ok-patterns.ensures))
+      (rows_have_sorts c.args.sig.now c.args.sorts.now c.args.rows.now c.requires.rows);
   variable = c.requires.any;
 }
 
 pub returns-then-branch : goal.returns-then-branch
 returns-then-branch c =
-    let named = subst (λ rs. IsNamed c.args.sig.now rs c.args.sorts.now c.in_ok-name.field-0) (c.deref-then-branch.ensures.value ∙ c.in_ok-patterns.ensures) c.in_ok-name.ensures in
+    let named = subst (λ rs. IsNamed c.args.sig.now rs c.args.sorts.now c.in_ok-name.field-0)
+    (c.deref-then-branch.ensures.value ∙ c.in_ok-patterns.ensures) c.in_ok-name.ensures in
     (named_missing c.args.sig.now named, named)
 
 pub returns : goal.returns
 returns c =
-    let none : NoneMissing c.args.sig.now c.deref.result.now c.args.sorts.now = subst (λ b. IsDecision c.args.sig.now c.deref.result.now c.args.sorts.now b) c.if-branch.false c.in_ok-is_missing.ensures in
-    let all : NoneMissing c.args.sig.now c.args.rows.now c.args.sorts.now = subst (λ rs. NoneMissing c.args.sig.now rs c.args.sorts.now) (c.deref.ensures.value ∙ c.in_ok-patterns.ensures) none in
+    let none : NoneMissing c.args.sig.now c.deref.result.now c.args.sorts.now = subst
+    (λ b. IsDecision c.args.sig.now c.deref.result.now c.args.sorts.now b) c.if-branch.false
+    c.in_ok-is_missing.ensures in
+    let all : NoneMissing c.args.sig.now c.args.rows.now c.args.sorts.now = subst
+    (λ rs. NoneMissing c.args.sig.now rs c.args.sorts.now) (c.deref.ensures.value
+    ∙ c.in_ok-patterns.ensures) none in
     λ vs v. some_matches c.args.sig.now c.args.sorts.now c.args.rows.now vs c.requires.rows (all vs v)

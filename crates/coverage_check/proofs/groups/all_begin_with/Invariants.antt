@@ -6,4 +6,5 @@ use Rattle.coverage_check.proofs.groups.all_begin_with.Given as goal
 
 abbrev pub invariant-loop-list : goal.invariant-loop-list
 invariant-loop-list l =
-    AllByRecursion (BeginsWith l.test) (lists_of l.lists) ↔ AllByRecursion (BeginsWith l.test) (lists_of (drop l.list-index l.lists))
+    AllByRecursion (BeginsWith l.test) (lists_of l.lists) ↔ AllByRecursion (BeginsWith l.test)
+    (lists_of (drop l.list-index l.lists))

@@ -5,4 +5,5 @@ use Rattle.coverage_check.proofs.groups.tree.Given as goal
 
 abbrev pub invariant-loop-number : goal.invariant-loop-number
 invariant-loop-number l =
-    lists_of l.lists.items ++ unnumbered (numbered_guards l.spec (drop l.number-index l.group)) ≡ unnumbered (numbered_guards l.spec l.group)
+    lists_of l.lists.items ++ unnumbered (numbered_guards l.spec (drop l.number-index l.group)) ≡ unnumbered
+    (numbered_guards l.spec l.group)

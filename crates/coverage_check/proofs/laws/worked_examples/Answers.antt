@@ -14,8 +14,10 @@ use Rattle.coverage_check.proofs.GuardLists.{none_not_whole, empty_alone, whole_
 use Rattle.coverage_check.proofs.laws.worked_examples.Goals as goal
 
 -- arguments of a symbol that is declared with these sorts
-args : (i : SymInfo) (ts : Trees) (ss : List SortId) → Some (declares ss) ≡ Some i → SortedAll naturals_sig [] ts i.args → SortedAll naturals_sig [] ts ss
-args i ts ss at s = let e : declares ss ≡ i = cc in subst (λ (x : SymInfo). SortedAll naturals_sig [] ts x.args) (sym e) s
+args : (i : SymInfo) (ts : Trees) (ss : List SortId) → Some (declares ss) ≡ Some i →
+    SortedAll naturals_sig [] ts i.args → SortedAll naturals_sig [] ts ss
+args i ts ss at s = let e : declares ss ≡ i = cc in
+    subst (λ (x : SymInfo). SortedAll naturals_sig [] ts x.args) (sym e) s
 
 -- with the row zero, all values that begin with a constructor before succ are admitted
 settled_before : (d : ℕ) → d < 3 → IsSettled naturals_sig ((zero_term ∷ []) ∷ []) (nat ∷ []) d
@@ -39,7 +41,8 @@ zero_alone =
       before = settled_before;
     }) refl no_row
 
-last_decides : IsNamed naturals_sig ((var 0 ∷ (zero_term ∷ [])) ∷ []) (nat ∷ (nat ∷ [])) (zero_term ∷ (succ_term zero_term ∷ []))
+last_decides : IsNamed naturals_sig ((var 0 ∷ (zero_term ∷ [])) ∷ []) (nat ∷ (nat ∷ []))
+    (zero_term ∷ (succ_term zero_term ∷ []))
 last_decides = all_variables (λ e. let q : (var 0 ∷ (zero_term ∷ [])) ∷ [] ≡ [] = e in cc) (tt, tt) small_nat zero_alone
 
 constant : (vs : List Tree) → AreValues naturals_sig [] vs → MatchesSome ([] ∷ []) vs
@@ -58,8 +61,10 @@ both_cover (app (suc (suc zero)) none ∷ (b ∷ [])) v = inl (b ∷ [], refl)
 both_cover (app (suc (suc zero)) (some t ts) ∷ (b ∷ [])) v = absurd (args v.0.0.0 (some t ts) [] v.0.0.1 v.0.0.3)
 both_cover (app (suc (suc (suc zero))) none ∷ (b ∷ [])) v = absurd (args v.0.0.0 none (nat ∷ []) v.0.0.1 v.0.0.3)
 both_cover (app (suc (suc (suc zero))) (some t none) ∷ (b ∷ [])) v = inr (inl (t ∷ (b ∷ []), refl))
-both_cover (app (suc (suc (suc zero))) (some t (some u us)) ∷ (b ∷ [])) v = absurd (args v.0.0.0 (some t (some u us)) (nat ∷ []) v.0.0.1 v.0.0.3).1
-both_cover (app (suc (suc (suc (suc f)))) ts ∷ (b ∷ [])) v = let k : suc (suc (suc (suc f))) < 4 = v.1.0.0 in absurd (omega arith)
+both_cover (app (suc (suc (suc zero))) (some t (some u us)) ∷ (b ∷ [])) v = absurd
+    (args v.0.0.0 (some t (some u us)) (nat ∷ []) v.0.0.1 v.0.0.3).1
+both_cover (app (suc (suc (suc (suc f)))) ts ∷ (b ∷ [])) v = let k : suc (suc (suc (suc f))) < 4 = v.1.0.0 in
+    absurd (omega arith)
 
 once : (n : ℕ) → OccurTwice n (trees_of (succ_term (var 0) ∷ (var 1 ∷ []))) → ⊥
 once n (inl (inl h)) = h

@@ -14,5 +14,7 @@ loop-sort-preserved c =
     let made = c.loop-sort.made in
     let value = c.in_ok-small.field-0 in
     let more = smalls_more sig (take i sorts) made s value c.loop-sort.invariant c.in_ok-small.ensures in
-    let here : AreSmall sig (take (i + 1) sorts) (trees_of (made ++ value ∷ [])) = subst (λ ss. AreSmall sig ss (trees_of (made ++ value ∷ []))) (sym (take_more sorts i (record { 0 = 0 }) c.loop-sort-test.true)) more in
+    let here : AreSmall sig (take (i + 1) sorts) (trees_of (made ++ value ∷ [])) = subst
+    (λ ss. AreSmall sig ss (trees_of (made ++ value ∷ [])))
+    (sym (take_more sorts i (record { 0 = 0 }) c.loop-sort-test.true)) more in
     subst (λ ts. AreSmall sig (take (i + 1) sorts) (trees_of ts)) (sym c.in_ok-push.ensures.pushed) here

@@ -6,4 +6,5 @@ use Rattle.coverage_check.proofs.rows.are_variables.Given as goal
 
 abbrev pub invariant-loop-pattern : goal.invariant-loop-pattern
 invariant-loop-pattern l =
-    AllByRecursion IsVariable (terms_of l.patterns) ↔ AllByRecursion IsVariable (terms_of (drop l.pattern-index l.patterns))
+    AllByRecursion IsVariable (terms_of l.patterns) ↔ AllByRecursion IsVariable
+    (terms_of (drop l.pattern-index l.patterns))

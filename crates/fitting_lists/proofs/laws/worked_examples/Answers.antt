@@ -1,6 +1,7 @@
 -- Each example, computed.
 use Rattle.std.proofs.Common.{refl}
-use Rattle.fitting_lists.proofs.SampleLists.{fitting_list, no_fitting_list, rewriting_list, other_symbol, other_arguments, spine_fits, shorter_spine, none_missing, one_missing}
+use Rattle.fitting_lists.proofs.SampleLists.{fitting_list, no_fitting_list, rewriting_list, other_symbol}
+use Rattle.fitting_lists.proofs.SampleLists.{other_arguments, spine_fits, shorter_spine, none_missing, one_missing}
 use Rattle.fitting_lists.proofs.laws.worked_examples.Goals as goal
 
 pub returns : goal.returns

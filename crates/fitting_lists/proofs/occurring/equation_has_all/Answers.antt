@@ -1,5 +1,6 @@
 -- The left side has them all, or both sides together are asked.
-use Rattle.std.proofs.Common.{◌≡◌, ℕ, false, ◌++◌, List, Bool, IsTrue, ◌↔◌, length, take, drop, refl, ap, ◌∙◌, subst, arith}
+use Rattle.std.proofs.Common.{◌≡◌, ℕ, false, ◌++◌, List, Bool, IsTrue, ◌↔◌, length, take, drop, refl, ap, ◌∙◌, subst}
+use Rattle.std.proofs.Common.{arith}
 use Rattle.std.specs.Prelude.{replicate}
 use Rattle.term_core.specs.Variables.{Occurs}
 use Rattle.fitting_lists.specs.Marks.{IsMarked, MarksMore}

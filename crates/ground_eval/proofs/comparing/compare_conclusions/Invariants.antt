@@ -11,7 +11,9 @@ use Rattle.ground_eval.proofs.comparing.compare_conclusions.Given as goal
 
 abbrev pub invariant-loop-conclusion : goal.invariant-loop-conclusion
 invariant-loop-conclusion l = record {
-  differ : (es : List Equation) (terms : List Tree) → CanCompareAll l.machine l.fn.bank l.conclusions l.values es terms → AllByRecursion (SidesDiffer l.machine.spec terms l.budget) (take l.conclusion-index es);
+  differ : (es : List Equation) (terms : List Tree) →
+      CanCompareAll l.machine l.fn.bank l.conclusions l.values es terms →
+      AllByRecursion (SidesDiffer l.machine.spec terms l.budget) (take l.conclusion-index es);
   adds : AddsCells l.fn.bank l.bank;
   kept : AreRight l.machine.spec l.bank l.kept;
   few : length l.bank ≤ length l.fn.bank + most_compared l.machine l.conclusion-index l.budget;

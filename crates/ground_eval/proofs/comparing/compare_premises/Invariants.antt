@@ -11,7 +11,9 @@ use Rattle.ground_eval.proofs.comparing.compare_premises.Given as goal
 
 abbrev pub invariant-loop-premise : goal.invariant-loop-premise
 invariant-loop-premise l = record {
-  same : (es : List Equation) (terms : List Tree) → CanCompareAll l.machine l.fn.bank l.premises l.values es terms → AllByRecursion (SidesSame l.machine.spec terms l.budget) (take l.premise-index es);
+  same : (es : List Equation) (terms : List Tree) →
+      CanCompareAll l.machine l.fn.bank l.premises l.values es terms →
+      AllByRecursion (SidesSame l.machine.spec terms l.budget) (take l.premise-index es);
   adds : AddsCells l.fn.bank l.bank;
   kept : AreRight l.machine.spec l.bank l.kept;
   few : length l.bank ≤ length l.fn.bank + most_compared l.machine l.premise-index l.budget;

@@ -11,7 +11,9 @@ use Rattle.ground_eval.proofs.open_sides.compare_open_conclusions.Given as goal
 
 abbrev pub invariant-loop-conclusion : goal.invariant-loop-conclusion
 invariant-loop-conclusion l = record {
-  differ : (s : Setting) (es : List Equation) → IsSet s l.machine l.constants → CanOpenAll s l.machine l.fn.bank l.conclusions l.values es → AllByRecursion (Apart s l.budget) (take l.conclusion-index es);
+  differ : (s : Setting) (es : List Equation) → IsSet s l.machine l.constants →
+      CanOpenAll s l.machine l.fn.bank l.conclusions l.values es →
+      AllByRecursion (Apart s l.budget) (take l.conclusion-index es);
   adds : AddsCells l.fn.bank l.bank;
   kept : AreRight l.machine.spec l.bank l.kept;
   marks : AreMarks l.constants.from l.constants.to l.bank l.marks.marks.items;

@@ -11,7 +11,9 @@ use Rattle.ground_eval.proofs.open_sides.compare_open_premises.Given as goal
 
 abbrev pub invariant-loop-premise : goal.invariant-loop-premise
 invariant-loop-premise l = record {
-  same : (s : Setting) (es : List Equation) → IsSet s l.machine l.constants → CanOpenAll s l.machine l.fn.bank l.premises l.values es → AllByRecursion (IsSo s l.budget) (take l.premise-index es);
+  same : (s : Setting) (es : List Equation) → IsSet s l.machine l.constants →
+      CanOpenAll s l.machine l.fn.bank l.premises l.values es →
+      AllByRecursion (IsSo s l.budget) (take l.premise-index es);
   adds : AddsCells l.fn.bank l.bank;
   kept : AreRight l.machine.spec l.bank l.kept;
   marks : AreMarks l.constants.from l.constants.to l.bank l.marks.marks.items;

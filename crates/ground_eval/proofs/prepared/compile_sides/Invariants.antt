@@ -8,5 +8,6 @@ invariant-loop-equation l = record {
   code : HaveCode l.machine l.variables (take l.equation-index l.equations) l.pairs.items;
   spec : l.machine.spec ≡ l.fn.machine.spec;
   adds : AddsCode l.fn.machine.code l.machine.code;
-  few : length l.machine.code + sides_length (drop l.equation-index l.equations) ≤ length l.fn.machine.code + sides_length l.equations;
+  few : length l.machine.code + sides_length (drop l.equation-index l.equations) ≤ length l.fn.machine.code +
+      sides_length l.equations;
 }

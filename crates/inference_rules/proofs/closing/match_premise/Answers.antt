@@ -12,7 +12,20 @@ either_back : {e d f g : Equation} → e ≡ f → d ≡ g → IsEither f g → 
 either_back {e = e} {g = g} p q h = back (λ x. IsEither e x) q (back (λ x. IsEither x g) p h)
 
 pub returns-then-not-is_either : goal.returns-then-not-is_either
-returns-then-not-is_either c = λ spec. inl ((c.in-Some.ensures.0, c.in-Some-equation.ensures.0), inr (λ same. let e : false ≡ true = c.if-not-is_either.ensures.1 (either_forth c.in-Some.ensures.1 c.in-Some-equation.ensures.1 same) in cc, refl))
+returns-then-not-is_either c = λ spec. inl (
+  (c.in-Some.ensures.0, c.in-Some-equation.ensures.0),
+  inr (
+    λ same. let e : false ≡ true = c.if-not-is_either.ensures.1
+        (either_forth c.in-Some.ensures.1 c.in-Some-equation.ensures.1 same) in cc,
+    refl,
+  ),
+)
 
 pub returns : goal.returns
-returns c = λ spec. inl ((c.in-Some.ensures.0, c.in-Some-equation.ensures.0), inl (either_back c.in-Some.ensures.1 c.in-Some-equation.ensures.1 (c.if-not-is_either.ensures.0 refl), c.closed.ensures c.args.clause.now))
+returns c = λ spec. inl (
+  (c.in-Some.ensures.0, c.in-Some-equation.ensures.0),
+  inl (
+    either_back c.in-Some.ensures.1 c.in-Some-equation.ensures.1 (c.if-not-is_either.ensures.0 refl),
+    c.closed.ensures c.args.clause.now,
+  ),
+)

@@ -7,4 +7,5 @@ use Rattle.inference_rules.proofs.referring.instances_are_there.Given as goal
 
 abbrev pub invariant-loop-premise : goal.invariant-loop-premise
 invariant-loop-premise l =
-    AllByRecursion (λ (e : Equation). Among e l.here.premises ⊎ IsIdentity e) (map (equation_instance l.theta.terms) (take l.premise-index l.clause.premises))
+    AllByRecursion (λ (e : Equation). Among e l.here.premises ⊎ IsIdentity e)
+    (map (equation_instance l.theta.terms) (take l.premise-index l.clause.premises))

@@ -5,4 +5,5 @@ use Rattle.inference_rules.proofs.referring.usable_goal.Given as goal
 
 abbrev pub invariant-loop-number : goal.invariant-loop-number
 invariant-loop-number l =
-    (k : ℕ) → k < l.number-index → (g : Goal) → slice_get l.spec.goals (get_or l.proved k 0) ≡ Some g → g.name ≡ l.name → ⊥
+    (k : ℕ) → k < l.number-index → (g : Goal) → slice_get l.spec.goals (get_or l.proved k 0) ≡ Some g →
+    g.name ≡ l.name → ⊥

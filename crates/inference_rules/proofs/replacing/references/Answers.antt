@@ -9,5 +9,6 @@ reference-requires-clause-node g c = within_testable c.args.here.now c.requires.
 
 pub reference-requires-clause-instance : goal.reference-requires-clause-instance
 reference-requires-clause-instance g c =
-    let is = c.in_ok-instance.ensures ∙ ap (λ ctx. clause_instance c.args.theta.now.terms ctx c.args.clause.now) c.as_slice.ensures in
+    let is = c.in_ok-instance.ensures ∙ ap (λ ctx. clause_instance c.args.theta.now.terms ctx c.args.clause.now)
+    c.as_slice.ensures in
     within_testable c.in_ok-instance.instance (subst IsWithin (sym is) c.requires.instance)

@@ -11,7 +11,11 @@ same_number f g e = elim (eqb_tells f g) [ inl p ↦ p.1 | inr p ↦ absurd (let
 
 pub returns : goal.returns
 returns c =
-    let left : c.args.equation.now.left ≡ app c.in-App-App.f.0 (trees_of c.in-App-App.lefts) = sym (ap (λ (e : Equation). e.left) c.equation.view_is) ∙ ap tree_of c.in-App-App.is-0 in
-    let right : c.args.equation.now.right ≡ app c.in-App-App.g.0 (trees_of c.in-App-App.rights) = sym (ap (λ (e : Equation). e.right) c.equation.view_is) ∙ ap tree_of c.in-App-App.is-1 in
-    let h = same_heads c.args.sig.now c.args.equation.now c.in-App-App.f.0 c.in-App-App.g.0 c.in-App-App.lefts c.in-App-App.rights left right (same_number c.in-App-App.f.0 c.in-App-App.g.0 c.if-ne.ensures) (c.if-not-is_constructor.ensures.0 refl) in
+    let left : c.args.equation.now.left ≡ app c.in-App-App.f.0 (trees_of c.in-App-App.lefts) = sym
+    (ap (λ (e : Equation). e.left) c.equation.view_is) ∙ ap tree_of c.in-App-App.is-0 in
+    let right : c.args.equation.now.right ≡ app c.in-App-App.g.0 (trees_of c.in-App-App.rights) = sym
+    (ap (λ (e : Equation). e.right) c.equation.view_is) ∙ ap tree_of c.in-App-App.is-1 in
+    let h = same_heads c.args.sig.now c.args.equation.now c.in-App-App.f.0 c.in-App-App.g.0 c.in-App-App.lefts
+    c.in-App-App.rights left right (same_number c.in-App-App.f.0 c.in-App-App.g.0 c.if-ne.ensures)
+    (c.if-not-is_constructor.ensures.0 refl) in
     (h.0, h.1 ∙ ap trees_of (sym c.as_slice.ensures), h.2 ∙ ap trees_of (sym c.as_slice-2.ensures))

@@ -8,4 +8,6 @@ pub returns : goal.returns
 returns c = λ spec.
     let at = c.in-Some.ensures.0 in
     drop_answered spec c.args.clause.now c.args.conclusion c.args.number at c.related_alone.result
-    (one_child c.args.clause.now Less c.in_ok-child.child _ c.related_alone.result (c.in_ok-child.ensures at ∙ ap (λ es. exchanged c.args.conclusion c.args.clause.now at es) c.new.ensures.items) (c.related_alone.ensures c.args.clause.now))
+    (one_child c.args.clause.now Less c.in_ok-child.child _ c.related_alone.result
+    (c.in_ok-child.ensures at ∙ ap (λ es. exchanged c.args.conclusion c.args.clause.now at es)
+    c.new.ensures.items) (c.related_alone.ensures c.args.clause.now))

@@ -5,4 +5,5 @@ use Rattle.inference_rules.proofs.simplifying.one_each.Given as goal
 
 abbrev pub invariant-loop-part : goal.invariant-loop-part
 invariant-loop-part l =
-    (at : EquationAt (equations true l.clause) l.number) → l.made.items ≡ map (λ (e : Equation). exchanged true l.clause at (e ∷ [])) l.yielded
+    (at : EquationAt (equations true l.clause) l.number) →
+    l.made.items ≡ map (λ (e : Equation). exchanged true l.clause at (e ∷ [])) l.yielded

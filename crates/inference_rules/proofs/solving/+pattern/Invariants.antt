@@ -13,4 +13,5 @@ decreases-are_patterns_without l = list_weight l.terms.now
 
 abbrev pub invariant-are_patterns_without-loop-term : goal.invariant-are_patterns_without-loop-term
 invariant-are_patterns_without-loop-term l =
-    ArePatterns l.sig (trees_of (take l.term-index l.terms)) × (OccursAny l.var.0 (trees_of (take l.term-index l.terms)) → ⊥)
+    ArePatterns l.sig (trees_of (take l.term-index l.terms))
+    × (OccursAny l.var.0 (trees_of (take l.term-index l.terms)) → ⊥)

@@ -12,14 +12,22 @@ returns-in_err-_instance c =
     let at = c.in-Some.ensures in
     let error = c.in_err-_instance.field-0.0 in
     rw (p.1, p.2)
-    (refused (λ t s. ⊥) c.args.here.now [] (by_lemma_row c.args.spec.now c.args.here.now (Contains c.args.proved.now) c.args.name.now c.args.terms.now) error
-    (goal_refused (λ d. subsumed_by c.args.spec.now c.args.here.now d c.args.terms.now (λ x. [])) c.args.spec.now (Contains c.args.proved.now) c.args.name.now at.0 c.in-Some.goal.now at.1 c.in_ok-lemma.lemma c.in_ok-lemma.ensures error
+    (refused (λ t s. ⊥) c.args.here.now []
+    (by_lemma_row c.args.spec.now c.args.here.now (Contains c.args.proved.now) c.args.name.now
+    c.args.terms.now) error
+    (goal_refused (λ d. subsumed_by c.args.spec.now c.args.here.now d c.args.terms.now (λ x. []))
+    c.args.spec.now (Contains c.args.proved.now) c.args.name.now at.0 c.in-Some.goal.now at.1
+    c.in_ok-lemma.lemma c.in_ok-lemma.ensures error
     (c.in_err-_instance.ensures.row (λ x. []))))
 
 pub returns : goal.returns
 returns c =
     let at = c.in-Some.ensures in
-    made (λ t s. ⊥) c.args.here.now [] (by_lemma_row c.args.spec.now c.args.here.now (Contains c.args.proved.now) c.args.name.now c.args.terms.now) [] [] (Ok c.closed.result)
-    (goal_made (λ d. subsumed_by c.args.spec.now c.args.here.now d c.args.terms.now (λ x. [])) c.args.spec.now (Contains c.args.proved.now) c.args.name.now at.0 c.in-Some.goal.now at.1 c.in_ok-lemma.lemma c.in_ok-lemma.ensures [] []
+    made (λ t s. ⊥) c.args.here.now []
+    (by_lemma_row c.args.spec.now c.args.here.now (Contains c.args.proved.now) c.args.name.now
+    c.args.terms.now) [] [] (Ok c.closed.result)
+    (goal_made (λ d. subsumed_by c.args.spec.now c.args.here.now d c.args.terms.now (λ x. [])) c.args.spec.now
+    (Contains c.args.proved.now) c.args.name.now at.0 c.in-Some.goal.now at.1 c.in_ok-lemma.lemma
+    c.in_ok-lemma.ensures [] []
     (c.in_ok-_instance.ensures.row (λ x. [])))
     (c.closed.ensures c.args.here.now)

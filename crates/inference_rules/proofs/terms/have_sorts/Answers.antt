@@ -11,12 +11,14 @@ returns-then-terms-sorts c =
 
 pub returns-then-not-has_sort : goal.returns-then-not-has_sort
 returns-then-not-has_sort c =
-    unsorted_place c.args.sig.now c.args.ctx.now c.args.terms.now c.args.sorts.now c.loop-place.place c.index-terms-place.result bool_sort c.has_sort.result
+    unsorted_place c.args.sig.now c.args.ctx.now c.args.terms.now c.args.sorts.now c.loop-place.place
+    c.index-terms-place.result bool_sort c.has_sort.result
     c.loop-place-test.true c.index-terms-place.is c.if-not-has_sort.true c.has_sort.ensures.1
 
 pub returns : goal.returns
 returns c = (
   λ h.
-      all_sorted c.args.sig.now c.args.ctx.now c.args.terms.now c.args.sorts.now (var 0) bool_sort (omega arith) (λ k lt. c.loop-place.invariant k (omega arith)),
+      all_sorted c.args.sig.now c.args.ctx.now c.args.terms.now c.args.sorts.now (var 0) bool_sort (omega arith)
+      (λ k lt. c.loop-place.invariant k (omega arith)),
   λ p. refl,
 )

@@ -21,6 +21,7 @@ returns c =
     record {
       each = ap (λ (ns : List (List ℕ)). length ns) c.from_vec.ensures ∙ each;
       variables = subst (λ (ns : List (List ℕ)). AreNames spec goal ns) (sym c.from_vec.ensures) are;
-      pattern = subst (λ (ns : List (List ℕ)). AreNames spec goal ns) (sym (c.from_vec-2.ensures ∙ c.in_ok-pattern.ensures))
+      pattern = subst (λ (ns : List (List ℕ)). AreNames spec goal ns)
+          (sym (c.from_vec-2.ensures ∙ c.in_ok-pattern.ensures))
           (names_taken spec goal _ _ (names_dropped spec goal c.deref-2.result.now _ all));
     }

@@ -9,5 +9,7 @@ pub returns-clause-names : goal.returns-clause-names
 returns-clause-names c =
     let met = c.in-Some-2.met in
     names_among c.args.setting.now.spec.now c.args.setting.now.goal.now c.args.names.now met.items c.requires
-    (some_of c.in_ok-met.field-0 met (λ (m : Vec (List ℕ)). AreDifferent m.items) c.in-Some-2.is c.in_ok-met.ensures.different)
-    (some_of c.in_ok-met.field-0 met (λ (m : Vec (List ℕ)). All (Contains c.args.names.now) m.items) c.in-Some-2.is c.in_ok-met.ensures.among)
+    (some_of c.in_ok-met.field-0 met (λ (m : Vec (List ℕ)). AreDifferent m.items) c.in-Some-2.is
+    c.in_ok-met.ensures.different)
+    (some_of c.in_ok-met.field-0 met (λ (m : Vec (List ℕ)). All (Contains c.args.names.now) m.items)
+    c.in-Some-2.is c.in_ok-met.ensures.among)

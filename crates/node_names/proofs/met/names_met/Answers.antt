@@ -1,4 +1,5 @@
-use Rattle.std.proofs.Common.{◌≡◌, ◌<◌, ◌++◌, ◌∷◌, [], ℕ, List, Bool, true, false, Some, get_or, length, set, ap, sym, ◌∙◌, refl, arith}
+use Rattle.std.proofs.Common.{◌≡◌, ◌<◌, ◌++◌, ◌∷◌, [], ℕ, List, Bool, true, false, Some, get_or, length, set, ap, sym}
+use Rattle.std.proofs.Common.{◌∙◌, refl, arith}
 use Rattle.std.specs.Prelude.{slice_get}
 use Rattle.std.specs.Global.{Vec}
 use Rattle.std.proofs.lemmas.Option.{slice_get-get_or, slice_get_read}
@@ -22,7 +23,8 @@ loop-var-preserved c =
           slice_get-get_or seen place _ lt ∙ ap (λ (b : Bool). Some b) (sym c.index.ensures ∙ w.if-not-index.true) in
           met_moved names (set seen place true) c.if-not-index.seen.items (met ++ name ∷ []) c.if-not-index.met.items
           (ap (λ (v : Vec Bool). v.items) w.seen-is)
-          (ap (λ (v : Vec (List ℕ)). v.items) w.met-is ∙ w.in_ok-push.ensures.items ∙ ap (λ (x : List ℕ). met ++ x ∷ []) w.in_ok-copy.ensures)
+          (ap (λ (v : Vec (List ℕ)). v.items) w.met-is ∙ w.in_ok-push.ensures.items
+          ∙ ap (λ (x : List ℕ). met ++ x ∷ []) w.in_ok-copy.ensures)
           (met_more names seen met place name c.requires at unseen c.loop-var.invariant)
       | else-not-index w ↦
           met_moved names seen c.if-not-index.seen.items met c.if-not-index.met.items

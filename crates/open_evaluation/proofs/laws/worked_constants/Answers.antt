@@ -20,7 +20,8 @@ extended = record {
 
 not_extended : IsExtended naturals naturals_before (nat ∷ []) → ⊥
 not_extended more =
-    let k : ◌≡◌ {A = ℕ} 1 4 = ap (λ (es : List (List ℕ × SymInfo)). length (get_or es 2 ([], declares [])).0) more.table in
+    let k : ◌≡◌ {A = ℕ} 1 4 = ap (λ (es : List (List ℕ × SymInfo)). length (get_or es 2 ([], declares [])).0)
+    more.table in
     omega arith
 
 pub returns : goal.returns

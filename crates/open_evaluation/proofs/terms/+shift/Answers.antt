@@ -17,8 +17,17 @@ shift_term-returns-in_ok-args-in-App t c =
     let view : app f (trees_of c.in-App.args) ≡ c.args.term.now = ap tree_of (sym c.in-App.is) ∙ c.term.view_is in
     c.app.ensures
     ∙ ap (λ n. app n (trees_of c.in_ok-args-in-App.args)) c.in_ok-number-in-App.ensures.number
-    ∙ ap (λ us. app (shifted_number k u f) us) (ap trees_of made ∙ sym (shifted_all-trees_of k u xs) ∙ ap (λ us. shifted_all k u (trees_of us)) same)
+    ∙ ap (λ us. app (shifted_number k u f) us) (ap trees_of made ∙ sym (shifted_all-trees_of k u xs)
+    ∙ ap (λ us. shifted_all k u (trees_of us)) same)
     ∙ ap (shifted k u) view
 
 pub shift_terms-shift_term-requires : goal.shift_terms-shift_term-requires
-shift_terms-shift_term-requires t c = (omega (arith, weight-member c.args.terms.now c.loop-term.term-index c.term-item.result c.loop-term-test.true c.term-item.is), tt)
+shift_terms-shift_term-requires t
+    c = (
+      omega (
+        arith,
+        weight-member c.args.terms.now c.loop-term.term-index c.term-item.result
+            c.loop-term-test.true c.term-item.is,
+      ),
+      tt,
+    )

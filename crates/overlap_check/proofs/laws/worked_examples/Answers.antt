@@ -2,7 +2,8 @@ use Rattle.std.proofs.Common.{inl, inr, refl}
 use Rattle.spec_core.specs.Naturals.{plus_zero_rule}
 use Rattle.overlap_check.specs.Examples.{right_zero_rule, same_rule}
 use Rattle.overlap_check.proofs.LinearSums.{naturals_are_linear, second_repeats, first_repeats_not}
-use Rattle.overlap_check.proofs.OverlappingSums.{overlap_of_own, not_as_they_stand, named, not_others, zeros_match, first_overlap}
+use Rattle.overlap_check.proofs.OverlappingSums.{overlap_of_own, not_as_they_stand, named, not_others, zeros_match}
+use Rattle.overlap_check.proofs.OverlappingSums.{first_overlap}
 use Rattle.overlap_check.proofs.laws.worked_examples.Goals as goal
 
 pub returns : goal.returns
@@ -16,5 +17,19 @@ returns c = record {
   not_itself = λ t h. h.0 refl;
   named = named;
   not_others = not_others;
-  both = (0, 1, refl, refl, first_overlap, record { first = plus_zero_rule; second = right_zero_rule; first_at = refl; second_at = refl; match_both = zeros_match; named = named });
+  both = (
+    0,
+    1,
+    refl,
+    refl,
+    first_overlap,
+    record {
+      first = plus_zero_rule;
+      second = right_zero_rule;
+      first_at = refl;
+      second_at = refl;
+      match_both = zeros_match;
+      named = named;
+    },
+  );
 }

@@ -9,7 +9,9 @@ use Rattle.overlap_check.proofs.linearity.linear.Goals as goal
 use Rattle.overlap_check.proofs.linearity.linear.Goals.{After-rule-item}
 
 here : (c : After-rule-item) → slice_get c.args.spec.now.rules c.loop-place.place ≡ Some c.rule-item.result
-here c = subst (λ rs. slice_get rs c.loop-place.place ≡ Some c.rule-item.result) c.as_slice-rule-items.ensures (slice_get_read c.as_slice-rule-items.result.now _ c.loop-place.place c.rule-item.result refl c.loop-place-test.true c.rule-item.is)
+here c = subst (λ rs. slice_get rs c.loop-place.place ≡ Some c.rule-item.result) c.as_slice-rule-items.ensures
+    (slice_get_read c.as_slice-rule-items.result.now _ c.loop-place.place c.rule-item.result refl
+    c.loop-place-test.true c.rule-item.is)
 
 sorted : (c : After-rule-item) → RuleIsSorted c.args.spec.now.sig c.rule-item.result
 sorted c = c.requires.rules c.loop-place.place c.rule-item.result (here c)
@@ -26,14 +28,24 @@ least_repeated-requires c =
 
 pub returns-in-Some : goal.returns-in-Some
 returns-in-Some c =
-    let b = (goal.at.returns-in-Some c).After-rule-item in
-    (c.loop-place.place, refl, record { rule = c.rule-item.result; at = here b; least = c.in-Some.ensures; before = c.loop-place.invariant })
+    let b = (goal.at.returns-in-Some c).After-rule-item in (
+      c.loop-place.place,
+      refl,
+      record { rule = c.rule-item.result; at = here b; least = c.in-Some.ensures; before = c.loop-place.invariant },
+    )
 
 pub loop-place-preserved : goal.loop-place-preserved
 loop-place-preserved c =
     let b = (goal.at.loop-place-preserved c).After-rule-item in
-    more_linear c.args.spec.now.rules c.loop-place.place c.rule-item.result (here b) c.loop-place.invariant c.in_default.ensures
+    more_linear c.args.spec.now.rules c.loop-place.place c.rule-item.result (here b) c.loop-place.invariant
+    c.in_default.ensures
 
 pub returns : goal.returns
 returns c k rule at =
-    c.loop-place.invariant k rule (omega (arith, c.loop-place-test.false, slice_get_within c.args.spec.now.rules k rule at, ap length c.as_slice-rule-items.ensures)) at
+    c.loop-place.invariant k rule
+    (omega (
+      arith,
+      c.loop-place-test.false,
+      slice_get_within c.args.spec.now.rules k rule at,
+      ap length c.as_slice-rule-items.ensures,
+    )) at

@@ -4,7 +4,9 @@ use Rattle.term_core.specs.Ground.{IsGroundIn}
 use Rattle.term_core.specs.Precedence.{by_number}
 use Rattle.longest_chains.specs.Chains.{Descends, IsLongest}
 use Rattle.path_order.specs.Above.{Above, by_argument, by_head, this_is, all_none, all_some}
-use Rattle.path_order.specs.Bounded.{AboveWithin, SomeReachesWithin, AboveAllWithin, FallsWithin, within_argument, within_head, within_arguments, within_this_is, within_this_above, within_later, within_none, within_some, within_here, within_further}
+use Rattle.path_order.specs.Bounded.{AboveWithin, SomeReachesWithin, AboveAllWithin, FallsWithin, within_argument}
+use Rattle.path_order.specs.Bounded.{within_head, within_arguments, within_this_is, within_this_above, within_later}
+use Rattle.path_order.specs.Bounded.{within_none, within_some, within_here, within_further}
 use Rattle.path_order.specs.Rank.{GroundAbove}
 use Rattle.longest_chains.proofs.Each.{Each, each-map}
 use Rattle.path_order.specs.Irreflexive.{same-arguments, same-symbol}
@@ -185,7 +187,11 @@ returns c =
       of_succ =
           record { some_chain = (over 0 zero_term ∷ zero_term ∷ [], succ_chain, refl); no_longer = links_succ };
       of_last =
-          record { some_chain = (alone 1 ∷ alone 0 ∷ [], last_chain, refl); no_longer = links_alone 3 2 (alone 2) refl };
+          record {
+            some_chain = (alone 1 ∷ alone 0 ∷ [], last_chain, refl);
+            no_longer = links_alone 3 2
+                (alone 2) refl;
+          };
       nested = within_two;
       not_within_one = not_nested;
       unbounded = no_longest succ_in;

@@ -1,10 +1,12 @@
 use Rattle.std.proofs.Common.{◌≢◌, ℕ, refl, ap, inl, inr, arith}
 use Rattle.term_core.specs.Tree.{Tree, Trees, var, app, none, some}
 use Rattle.term_core.specs.Precedence.{Precedence, by_number}
-use Rattle.path_order.specs.Above.{Above, SomeReaches, by_argument, by_head, by_arguments, this_is, this_above, later, all_none, all_some, here}
+use Rattle.path_order.specs.Above.{Above, SomeReaches, by_argument, by_head, by_arguments, this_is, this_above, later}
+use Rattle.path_order.specs.Above.{all_none, all_some, here}
 use Rattle.path_order.specs.Irreflexive.{Reaches, irreflexive}
 use Rattle.path_order.specs.Examples.{zero_term, succ_term, plus_term, even_term, odd_term, with_statuses, x, y, z}
-use Rattle.path_order.proofs.Deciding.{some-parts, all-parts, only-argument, place-falls, later-only, other-case, no-place}
+use Rattle.path_order.proofs.Deciding.{some-parts, all-parts, only-argument, place-falls, later-only, other-case}
+use Rattle.path_order.proofs.Deciding.{no-place}
 use Rattle.path_order.proofs.laws.worked_examples.Goals as goal
 
 abbrev number : Tree → ℕ

@@ -1,4 +1,5 @@
-use Rattle.std.proofs.Common.{rules, ◌≡◌, ◌≢◌, ◌↔◌, ◌+◌, ◌≤◌, ℕ, List, IsTrue, length, drop, take, map, ap, sym, ◌∙◌, refl, arith}
+use Rattle.std.proofs.Common.{rules, ◌≡◌, ◌≢◌, ◌↔◌, ◌+◌, ◌≤◌, ℕ, List, IsTrue, length, drop, take, map, ap, sym, ◌∙◌}
+use Rattle.std.proofs.Common.{refl, arith}
 use Rattle.std.proofs.lemmas.Bool.{eqb-true, eq-eqb, false≢true}
 use Rattle.std.proofs.lemmas.List.{length-map, take_all}
 use Rattle.term_core.specs.Measure.{weight, list_weight}
@@ -8,11 +9,15 @@ use Rattle.term_core.specs.View.{tree_of}
 use Rattle.term_order.specs.Operands.{read, meaning}
 use Rattle.path_order.specs.Operands.{meanings}
 use Rattle.path_order.specs.declared.path.Standing.TheVariants.{Greater, Neither}
-use Rattle.path_order.proofs.Deciding.{greater_test, neither_test, all-then, all-else, some-then, some-else, all-empty, variable, smaller-head, other-head, at_greater, at_neither, all-same, none-differs, list-falls, level-weight, arranged-weight, positive, stands-as, same_more}
+use Rattle.path_order.proofs.Deciding.{greater_test, neither_test, all-then, all-else, some-then, some-else, all-empty}
+use Rattle.path_order.proofs.Deciding.{variable, smaller-head, other-head, at_greater, at_neither, all-same}
+use Rattle.path_order.proofs.Deciding.{none-differs, list-falls, level-weight, arranged-weight, positive, stands-as}
+use Rattle.path_order.proofs.Deciding.{same_more}
 use Rattle.term_order.proofs.Readings.{operand_app}
 use Rattle.path_order.proofs.Patterns.{app_weight}
 use Rattle.path_order.proofs.path.+compare.Goals as goal
-use Rattle.path_order.proofs.path.+compare.Goals.{compare-else-other_level-level-2-via-then-other_level-level-2+else-ts-ss, compare-else-other_level-level-2-via-else-other_level-level-2}
+use Rattle.path_order.proofs.path.+compare.Goals.{compare-else-other_level-level-2-via-then-other_level-level-2+else-ts-ss}
+use Rattle.path_order.proofs.path.+compare.Goals.{compare-else-other_level-level-2-via-else-other_level-level-2}
 
 -- the measure of what a resolved operand means is that of the operand
 same_weight : {t u : Tree} → u ≡ t → weight u ≡ weight t
@@ -66,7 +71,8 @@ above_all-returns-else-eq t c =
 pub compare-some_reaches-requires : goal.compare-some_reaches-requires
 compare-some_reaches-requires t c =
     let values = terms_of c.args.list.now in
-    let left = operand_app values c.resolved-t.result c.in-App-Var.field-0-0 c.as_slice.ensures c.in-App-Var.is-0 c.term.view_is in (
+    let left = operand_app values c.resolved-t.result c.in-App-Var.field-0-0 c.as_slice.ensures
+    c.in-App-Var.is-0 c.term.view_is in (
       omega (
         arith,
         app_weight _ _ _ left,
@@ -81,7 +87,8 @@ compare-some_reaches-requires t c =
 pub compare-above_all-requires : goal.compare-above_all-requires
 compare-above_all-requires t c =
     let values = terms_of c.args.list.now in
-    let right = operand_app values c.resolved-s.result c.in-App-App.g c.as_slice-ss.ensures c.in-App-App.is-1 c.other.view_is in (
+    let right = operand_app values c.resolved-s.result c.in-App-App.g c.as_slice-ss.ensures c.in-App-App.is-1
+    c.other.view_is in (
       omega (
         arith,
         app_weight _ _ _ right,
@@ -96,8 +103,10 @@ compare-above_all-requires t c =
 pub compare-compare_arguments-requires : goal.compare-compare_arguments-requires
 compare-compare_arguments-requires t c =
     let values = terms_of c.args.list.now in
-    let left = operand_app values c.resolved-t.result c.in-App-App.f c.as_slice-ts.ensures c.in-App-App.is-0 c.term.view_is in
-    let right = operand_app values c.resolved-s.result c.in-App-App.g c.as_slice-ss.ensures c.in-App-App.is-1 c.other.view_is in (
+    let left = operand_app values c.resolved-t.result c.in-App-App.f c.as_slice-ts.ensures c.in-App-App.is-0
+    c.term.view_is in
+    let right = operand_app values c.resolved-s.result c.in-App-App.g c.as_slice-ss.ensures c.in-App-App.is-1
+    c.other.view_is in (
       omega (
         arith,
         app_weight _ _ _ left,
@@ -126,7 +135,8 @@ compare-compare_arguments-requires t c =
 pub compare-some_reaches-requires-else-other_level-level-2 : goal.compare-some_reaches-requires-else-other_level-level-2
 compare-some_reaches-requires-else-other_level-level-2 t c =
     let values = terms_of c.args.list.now in
-    let left = operand_app values c.resolved-t.result c.in-App-App.f c.as_slice-ts.ensures c.in-App-App.is-0 c.term.view_is in (
+    let left = operand_app values c.resolved-t.result c.in-App-App.f c.as_slice-ts.ensures c.in-App-App.is-0
+    c.term.view_is in (
       omega (
         arith,
         app_weight _ _ _ left,
@@ -141,8 +151,10 @@ compare-some_reaches-requires-else-other_level-level-2 t c =
 pub compare-returns-in-App-Var : goal.compare-returns-in-App-Var
 compare-returns-in-App-Var t c =
     let values = terms_of c.args.list.now in
-    let left = operand_app values c.resolved-t.result c.in-App-Var.field-0-0 c.as_slice.ensures c.in-App-Var.is-0 c.term.view_is in
-    let right = c.resolved-s.ensures.variable c.in-App-Var.field-0-1.0 (sym (ap tree_of (sym c.in-App-Var.is-1) ∙ c.other.view_is)) in
+    let left = operand_app values c.resolved-t.result c.in-App-Var.field-0-0 c.as_slice.ensures
+    c.in-App-Var.is-0 c.term.view_is in
+    let right = c.resolved-s.ensures.variable c.in-App-Var.field-0-1.0
+    (sym (ap tree_of (sym c.in-App-Var.is-1) ∙ c.other.view_is)) in
     stands-as c.args.order.now c.greater_or_neither.result c.resolved-t.ensures.same c.resolved-s.ensures.same
     (variable c.args.order.now (meaning values c.resolved-t.result) (meaning values c.resolved-s.result)
     c.in-App-Var.field-0-0.0 c.in-App-Var.field-0-1.0 (meanings values c.with.result) c.some_reaches.result _
@@ -152,8 +164,10 @@ compare-returns-in-App-Var t c =
 pub compare-returns-then-other_level-level : goal.compare-returns-then-other_level-level
 compare-returns-then-other_level-level t c =
     let values = terms_of c.args.list.now in
-    let left = operand_app values c.resolved-t.result c.in-App-App.f c.as_slice-ts.ensures c.in-App-App.is-0 c.term.view_is in
-    let right = operand_app values c.resolved-s.result c.in-App-App.g c.as_slice-ss.ensures c.in-App-App.is-1 c.other.view_is in
+    let left = operand_app values c.resolved-t.result c.in-App-App.f c.as_slice-ts.ensures c.in-App-App.is-0
+    c.term.view_is in
+    let right = operand_app values c.resolved-s.result c.in-App-App.g c.as_slice-ss.ensures c.in-App-App.is-1
+    c.other.view_is in
     stands-as c.args.order.now c.greater_or_neither-then-other_level-level.result c.resolved-t.ensures.same
     c.resolved-s.ensures.same
     (smaller-head c.args.order.now (meaning values c.resolved-t.result) (meaning values c.resolved-s.result)
@@ -167,8 +181,10 @@ compare-returns-then-other_level-level t c =
 pub compare-returns-else-other_level-level-2 : goal.compare-returns-else-other_level-level-2
 compare-returns-else-other_level-level-2 t c =
     let values = terms_of c.args.list.now in
-    let left = operand_app values c.resolved-t.result c.in-App-App.f c.as_slice-ts.ensures c.in-App-App.is-0 c.term.view_is in
-    let right = operand_app values c.resolved-s.result c.in-App-App.g c.as_slice-ss.ensures c.in-App-App.is-1 c.other.view_is in
+    let left = operand_app values c.resolved-t.result c.in-App-App.f c.as_slice-ts.ensures c.in-App-App.is-0
+    c.term.view_is in
+    let right = operand_app values c.resolved-s.result c.in-App-App.g c.as_slice-ss.ensures c.in-App-App.is-1
+    c.other.view_is in
     stands-as c.args.order.now c.greater_or_neither-else-other_level-level-2.result c.resolved-t.ensures.same
     c.resolved-s.ensures.same
     (other-head c.args.order.now (meaning values c.resolved-t.result) (meaning values c.resolved-s.result)
@@ -253,7 +269,8 @@ compare_arguments-returns-in-Greater t c =
     at_greater _ _ _ (meanings values c.args.t.args) (meanings values c.args.s.args) _ c.requires c.loop-i.i
     (omega (arith, c.loop-i-test.true, c.len-i-end.ensures values)) c.loop-i.invariant (meaning values c.at.result)
     (meaning values c.at-in-loop-i.result)
-    (c.at.ensures values (meaning values c.at.result)) (c.at-in-loop-i.ensures values (meaning values c.at-in-loop-i.result))
+    (c.at.ensures values (meaning values c.at.result))
+    (c.at-in-loop-i.ensures values (meaning values c.at-in-loop-i.result))
     c.in-Greater.ensures c.above_all-is_above.result _ (meanings values c.after.result) (c.after.ensures values)
     c.above_all-is_above.ensures c.greater_or_neither.ensures
 
@@ -279,8 +296,10 @@ compare_arguments-returns-in-Neither t c =
     at_neither _ _ _ (meanings values c.args.t.args) (meanings values c.args.s.args) _ c.requires c.loop-i.i
     (omega (arith, c.loop-i-test.true, c.len-i-end.ensures values)) c.loop-i.invariant (meaning values c.at.result)
     (meaning values c.at-in-loop-i.result)
-    (c.at.ensures values (meaning values c.at.result)) (c.at-in-loop-i.ensures values (meaning values c.at-in-loop-i.result))
-    c.in-Neither.ensures.0 c.in-Neither.ensures.1 c.some_reaches-reaches.result _ (meanings values c.after-in-Neither.result)
+    (c.at.ensures values (meaning values c.at.result))
+    (c.at-in-loop-i.ensures values (meaning values c.at-in-loop-i.result))
+    c.in-Neither.ensures.0 c.in-Neither.ensures.1 c.some_reaches-reaches.result _
+    (meanings values c.after-in-Neither.result)
     (c.after-in-Neither.ensures values) c.some_reaches-reaches.ensures c.greater_or_neither-in-Neither.ensures
 
 pub compare_arguments-loop-i-preserved : goal.compare_arguments-loop-i-preserved
@@ -290,7 +309,8 @@ compare_arguments-loop-i-preserved t c =
     (meaning values c.at-in-loop-i.result)
     (omega (arith, c.loop-i-test.true, c.len-i-end.ensures values))
     (omega (arith, c.requires.as_many, c.loop-i-test.true, c.len-i-end.ensures values))
-    (c.at.ensures values (meaning values c.at.result)) (c.at-in-loop-i.ensures values (meaning values c.at-in-loop-i.result))
+    (c.at.ensures values (meaning values c.at.result))
+    (c.at-in-loop-i.ensures values (meaning values c.at-in-loop-i.result))
     c.in-Same.ensures c.loop-i.invariant
 
 pub some_reaches-compare-requires : goal.some_reaches-compare-requires

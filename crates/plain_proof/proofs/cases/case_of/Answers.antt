@@ -11,4 +11,6 @@ returns c u =
     let x = c.args.var.0 in
     let pattern = app c.args.sym.0 (trees_of (variables c.args.from c.args.count)) in
     let is = c.app-pattern.ensures ∙ ap (λ ts. app c.args.sym.0 (trees_of ts)) c.in_ok-fresh.ensures in
-    set_is_only made x pattern (subst (λ t. IsSetTo [] x t made) is (subst (λ o. IsSetTo o x c.app-pattern.result made) c.new-made.ensures c.in_ok-set.ensures.set)) u
+    set_is_only made x pattern
+    (subst (λ t. IsSetTo [] x t made) is
+    (subst (λ o. IsSetTo o x c.app-pattern.result made) c.new-made.ensures c.in_ok-set.ensures.set)) u

@@ -5,4 +5,5 @@ use Rattle.plain_proof.proofs.cases.fresh.Goals as goal
 pub loop-number-preserved : goal.loop-number-preserved
 loop-number-preserved c =
     let n = c.loop-number.number in
-    c.in_ok-push.ensures.pushed ∙ (λ i. c.loop-number.invariant i ++ c.var.ensures i ∷ []) ∙ sym (variables_next c.args.from n (c.args.from + n) refl)
+    c.in_ok-push.ensures.pushed ∙ (λ i. c.loop-number.invariant i ++ c.var.ensures i ∷ [])
+    ∙ sym (variables_next c.args.from n (c.args.from + n) refl)

@@ -12,5 +12,6 @@ returns c spec g x m n fine a b =
     let e : b.equation ≡ a.equation = cc in
     let s : Some a.sort ≡ Some b.sort = sym a.sorted ∙ b.sorted in
     let k : b.sort ≡ a.sort = cc in
-    let other = subst (λ (z : Equation). CasesClose spec (sorts_of g.vars) z x (constructors_of spec.sig a.sort) n) e (subst (λ z. CasesClose spec (sorts_of g.vars) b.equation x (constructors_of spec.sig z) n) k b.cases) in
+    let other = subst (λ (z : Equation). CasesClose spec (sorts_of g.vars) z x (constructors_of spec.sig a.sort)
+    n) e (subst (λ z. CasesClose spec (sorts_of g.vars) b.equation x (constructors_of spec.sig z) n) k b.cases) in
     one_sum spec (sorts_of g.vars) a.equation x (constructors_of spec.sig a.sort) m n fine a.cases other

@@ -11,5 +11,7 @@ returns-in-Err-Why-clause-made g c = λ clause at.
     let above = g.O.TermOrder.above c.args.order.now in
     let spec = c.args.spec.now in
     let ns = clauses_of c.args.nodes.now in
-    let says = subst (λ (e : StepError). Answered above clause ns (row_of spec (Contains []) ns clause c.args.step.now) (Err e)) c.in-Err-Why.field-0-is (c.in-Err-Why.ensures.answered clause at) in
+    let says = subst (λ (e : StepError). Answered above clause ns
+    (row_of spec (Contains []) ns clause c.args.step.now) (Err e)) c.in-Err-Why.field-0-is
+    (c.in-Err-Why.ensures.answered clause at) in
     not_made above c.one_answer.ensures spec c.requires.fine ns clause c.args.step.now c.in-Err-Why.field-0-0 says

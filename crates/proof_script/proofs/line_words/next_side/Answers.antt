@@ -10,4 +10,5 @@ returns-else-eq-2 c =
   where
     by : (b : Bool) → c.in_ok-word.word.now ≡ side_text b → ⊥
     by true e = no_match c.in_ok-word.word.now c.as_slice.result.now c.if-eq.ensures (e ∙ sym c.as_slice.ensures)
-    by false e = no_match c.in_ok-word.word.now c.as_slice-else-eq.result.now c.if-eq-2.ensures (e ∙ sym c.as_slice-else-eq.ensures)
+    by false e = no_match c.in_ok-word.word.now c.as_slice-else-eq.result.now c.if-eq-2.ensures
+        (e ∙ sym c.as_slice-else-eq.ensures)

@@ -16,8 +16,10 @@ returns-then-not-is_empty c =
     let same : c.in-Ok.text.now ≡ c.args.bytes.now = c.in-Ok.ensures.cases.0 in
     let utf8 = c.in-Ok.ensures.cases.1 in
     let n = c.name_at.result in
-    let none : n ≡ 0 → NoName (chars c.args.bytes.now) = subst (λ (bs : List ℕ). n ≡ 0 → NoName (chars bs)) same c.name_at.ensures.none in
-    let longest : 0 < n → LongestName (chars c.args.bytes.now) n = subst (λ (bs : List ℕ). 0 < n → LongestName (chars bs) n) same c.name_at.ensures.longest in
+    let none : n ≡ 0 → NoName (chars c.args.bytes.now) = subst (λ (bs : List ℕ). n ≡ 0 → NoName (chars bs)) same
+    c.name_at.ensures.none in
+    let longest : 0 < n → LongestName (chars c.args.bytes.now) n = subst (λ (bs : List ℕ). 0 < n →
+    LongestName (chars bs) n) same c.name_at.ensures.longest in
     let long : length c.in-Ok.text.now ≡ length c.args.bytes.now = ap (λ (bs : List ℕ). length bs) same in
     let some : 0 < length c.args.bytes.now = grind (arith, long) in (
       λ t. (utf8, found_name c.args.bytes.now n utf8 some longest (eqb-true n (length c.in-Ok.text.now) t ∙ long)),

@@ -19,7 +19,8 @@ returns-in-Ok c =
     let unsigned : get_or bytes 0 0 ≢ 43 = grind arith in
     let lone : get_or bytes 0 0 ≡ 48 → length bytes ≤ 1 = grind arith in
     let P = λ (r : Option ℕ). MatchOption r ((n : ℕ) → IsNumber bytes n → ⊥) (λ n. IsNumber bytes n) in
-    subst P (sym c.ok.ensures.value) (parsed_number bytes c.parse.result c.if-bytes-gt9.false unsigned lone (rw (c.in-Ok.ensures.cases.0) at c.parse.ensures.value.0))
+    subst P (sym c.ok.ensures.value) (parsed_number bytes c.parse.result c.if-bytes-gt9.false unsigned lone
+    (rw (c.in-Ok.ensures.cases.0) at c.parse.ensures.value.0))
 
 pub returns-in-Err : goal.returns-in-Err
 returns-in-Err c = λ n is. c.in-Err.ensures.cases.0 (number_utf8 c.args.bytes.now n is)

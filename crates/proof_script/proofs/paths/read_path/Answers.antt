@@ -21,7 +21,9 @@ loop-rest-preserved c =
     let behind = c.in-Some.behind.now in
     let pushed = c.in_ok-push.ensures.pushed in
     record {
-      read = path_grows bytes path rest number behind c.loop-rest.invariant.read c.in-Some.ensures ∙ ap (λ (p : List ℕ). path_text p ++ behind) (sym pushed);
-      between = subst (λ (p : List ℕ). AllByRecursion (Between 1 9) p) (sym pushed) (all_append (Between 1 9) path (number ∷ []) c.loop-rest.invariant.between (c.in-Some.ensures.between, tt));
+      read = path_grows bytes path rest number behind c.loop-rest.invariant.read c.in-Some.ensures
+          ∙ ap (λ (p : List ℕ). path_text p ++ behind) (sym pushed);
+      between = subst (λ (p : List ℕ). AllByRecursion (Between 1 9) p) (sym pushed)
+          (all_append (Between 1 9) path (number ∷ []) c.loop-rest.invariant.between (c.in-Some.ensures.between, tt));
       goes_on = goes_on bytes rest number behind c.loop-rest.invariant.goes_on c.in-Some.ensures;
     }

@@ -6,4 +6,5 @@ pub returns-in-Some : goal.returns-in-Some
 returns-in-Some c = λ sig. record { named = refl; stand = (rw c.in-Some.is at c.in_ok-place.ensures) sig }
 
 pub returns-in-None : goal.returns-in-None
-returns-in-None c = λ sig q step h. no_case sig c.args.words.now ((rw c.in-None.is at c.in_ok-place.ensures) sig q) step h
+returns-in-None c = λ sig q step h. no_case sig c.args.words.now
+    ((rw c.in-None.is at c.in_ok-place.ensures) sig q) step h

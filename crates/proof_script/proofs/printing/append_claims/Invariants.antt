@@ -8,6 +8,7 @@ use Rattle.proof_script.proofs.printing.append_claims.Given as goal
 abbrev pub invariant-loop-claim : goal.invariant-loop-claim
 invariant-loop-claim l =
     record {
-      text : l.text.items ++ claims_text l.sig (drop l.claim-index l.claims) ≡ l.fn.text.items ++ claims_text l.sig l.claims;
+      text : l.text.items ++ claims_text l.sig (drop l.claim-index l.claims) ≡ l.fn.text.items
+          ++ claims_text l.sig l.claims;
       rest : AllByRecursion (ClaimIsInRange l.sig) (drop l.claim-index l.claims);
     }

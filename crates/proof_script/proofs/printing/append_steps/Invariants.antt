@@ -9,6 +9,7 @@ use Rattle.proof_script.proofs.printing.append_steps.Given as goal
 abbrev pub invariant-loop-step : goal.invariant-loop-step
 invariant-loop-step l =
     record {
-      text : l.text.items ++ lines_text l.sig (map step_line (drop l.step-index l.steps)) ≡ l.fn.text.items ++ lines_text l.sig (map step_line l.steps);
+      text : l.text.items ++ lines_text l.sig (map step_line (drop l.step-index l.steps)) ≡ l.fn.text.items
+          ++ lines_text l.sig (map step_line l.steps);
       rest : AllByRecursion (LineIsInRange l.sig) (map step_line (drop l.step-index l.steps));
     }

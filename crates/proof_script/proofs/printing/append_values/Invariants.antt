@@ -9,6 +9,7 @@ use Rattle.proof_script.proofs.printing.append_values.Given as goal
 abbrev pub invariant-loop-name : goal.invariant-loop-name
 invariant-loop-name l =
     record {
-      text : l.text.items ++ lines_text l.sig (map value_line (drop l.name-index l.values)) ≡ l.fn.text.items ++ lines_text l.sig (map value_line l.values);
+      text : l.text.items ++ lines_text l.sig (map value_line (drop l.name-index l.values)) ≡ l.fn.text.items
+          ++ lines_text l.sig (map value_line l.values);
       rest : AllByRecursion (LineIsInRange l.sig) (map value_line (drop l.name-index l.values));
     }

@@ -18,5 +18,7 @@ pub returns-else-found-conclusion : goal.returns-else-found-conclusion
 returns-else-found-conclusion c =
     let w = c.in_ok-found in
     λ sig d n l.
-    let one = one_words sig (names_differ sig d) c.args.words.now (equation w.found w.number ∷ []) (equation c.args.conclusion n ∷ []) refl (tt, tt) (tt, tt) (w.ensures sig) l in
-    true_false (sym ((booleans_Decides w.found c.args.conclusion).1 (ap (λ ws. flag_in (word_first ws)) one)) ∙ c.if-found-conclusion.false)
+    let one = one_words sig (names_differ sig d) c.args.words.now (equation w.found w.number ∷ [])
+    (equation c.args.conclusion n ∷ []) refl (tt, tt) (tt, tt) (w.ensures sig) l in
+    true_false (sym ((booleans_Decides w.found c.args.conclusion).1 (ap (λ ws. flag_in (word_first ws)) one))
+    ∙ c.if-found-conclusion.false)

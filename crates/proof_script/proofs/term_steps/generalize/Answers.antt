@@ -18,7 +18,12 @@ pub returns-then-is_empty : goal.returns-then-is_empty
 returns-then-is_empty c =
     let sig = c.args.sig.now in
     let words = c.args.words.now in
-    record { named = refl; stand = joined sig words (term c.in-Some.term) c.in-Some.rest.now ([]) (rw c.in-Some.is at c.in_ok-term.ensures) (no_more sig c.in-Some.rest.now (empty_is c.in-Some.rest.now c.if-is_empty.ensures)) }
+    record {
+      named = refl;
+      stand = joined sig words (term c.in-Some.term) c.in-Some.rest.now ([])
+          (rw c.in-Some.is at c.in_ok-term.ensures)
+          (no_more sig c.in-Some.rest.now (empty_is c.in-Some.rest.now c.if-is_empty.ensures));
+    }
 
 pub returns-else-is_empty : goal.returns-else-is_empty
 returns-else-is_empty c =
@@ -26,5 +31,6 @@ returns-else-is_empty c =
     let d = names_differ sig c.requires in
     let words = c.args.words.now in
     λ step h. no_generalize sig words (λ t l.
-    let b1 = behind sig d words (term c.in-Some.term) c.in-Some.rest.now (term t) ([]) refl tt tt (rw c.in-Some.is at c.in_ok-term.ensures) l in
+    let b1 = behind sig d words (term c.in-Some.term) c.in-Some.rest.now (term t) ([]) refl tt tt
+    (rw c.in-Some.is at c.in_ok-term.ensures) l in
     not_empty c.in-Some.rest.now c.is_empty.result c.is_empty.ensures c.if-is_empty.false b1.1.is) step h

@@ -9,6 +9,7 @@ use Rattle.proof_script.proofs.words.append_line.Given as goal
 abbrev pub invariant-loop-word : goal.invariant-loop-word
 invariant-loop-word l =
     record {
-      text : l.text.items ++ words_text l.sig (map word_of (drop l.word-index l.words)) ≡ l.fn.text.items ++ (l.head ++ words_text l.sig (map word_of l.words));
+      text : l.text.items ++ words_text l.sig (map word_of (drop l.word-index l.words)) ≡ l.fn.text.items
+          ++ (l.head ++ words_text l.sig (map word_of l.words));
       rest : AllByRecursion (WordIsInRange l.sig) (map word_of (drop l.word-index l.words));
     }

@@ -8,6 +8,8 @@ use Rattle.proof_script.proofs.words.append_others.Given as goal
 abbrev pub invariant-loop-term : goal.invariant-loop-term
 invariant-loop-term l =
     record {
-      text : l.text.items ++ flat_map (λ u. codes ", " ++ u) (map (text_by l.sig l.variables) (drop l.term-index l.terms)) ≡ l.fn.text.items ++ flat_map (λ u. codes ", " ++ u) (map (text_by l.sig l.variables) l.terms);
+      text : l.text.items ++ flat_map (λ u. codes ", " ++ u)
+          (map (text_by l.sig l.variables) (drop l.term-index l.terms)) ≡ l.fn.text.items
+          ++ flat_map (λ u. codes ", " ++ u) (map (text_by l.sig l.variables) l.terms);
       rest : AllByRecursion (SymbolsAreInRange l.sig) (drop l.term-index l.terms);
     }

@@ -7,7 +7,8 @@ use Rattle.clause_core.specs.Tidied.{goal_clause}
 use Rattle.routine_proof.specs.Routine.{no_split, split}
 use Rattle.proof_search.specs.Proving.{IsCoverOf}
 use Rattle.proof_search.proofs.FewStarts.{few_starts}
-use Rattle.proof_search.proofs.FirstProofs.{by_setting, first_start, splits_left, found_split, later_left, same_left, ends}
+use Rattle.proof_search.proofs.FirstProofs.{by_setting, first_start, splits_left, found_split, later_left, same_left}
+use Rattle.proof_search.proofs.FirstProofs.{ends}
 use Rattle.proof_search.proofs.Tests.{is_some_same}
 use Rattle.proof_search.proofs.guiding.first_proof.Goals as goal
 

@@ -1,4 +1,5 @@
-use Rattle.std.proofs.Common.{◌≡◌, ◌∙◌, ◌+◌, ◌-◌, ℕ, zero, suc, Result, Ok, Err, List, [], ◌∷◌, ◌++◌, arith, ap, refl, sym, subst, length}
+use Rattle.std.proofs.Common.{◌≡◌, ◌∙◌, ◌+◌, ◌-◌, ℕ, zero, suc, Result, Ok, Err, List, [], ◌∷◌, ◌++◌, arith, ap, refl}
+use Rattle.std.proofs.Common.{sym, subst, length}
 use Rattle.std.specs.Prelude.{OnOk}
 use Rattle.std.proofs.lemmas.List.{append_assoc}
 use Rattle.page_core.specs.declared.parts.Part.TheVariants.{Case}
@@ -69,7 +70,8 @@ returns-in_ok-push-in-Cases-2 c =
     subst (λ p. IsPending o (length b.nodes.now) p) at.is c.requires.next in
     let stack : c.push-in-Cases-2.new.pending.items ≡ (old ++ others) ++ EndCase ∷ [] =
     c.in_ok-push-in-Cases-2.ensures ∙ ap (λ ps. ps ++ EndCase ∷ []) c.in_ok-push-in-Cases.ensures in
-    let page : c.draw_heading.new.page ≡ after c.args.page.now (begins Case ∷ heading_events (block_of b) at.parent at.index) =
+    let page : c.draw_heading.new.page ≡ after c.args.page.now
+    (begins Case ∷ heading_events (block_of b) at.parent at.index) =
     c.in_ok-draw_heading-in-Cases.ensures
     ∙ ap (λ p. after p (heading_events (block_of b) at.parent at.index)) c.in_ok-begin-in-Cases.ensures
     ∙ after-after c.args.page.now (begins Case ∷ []) (heading_events (block_of b) at.parent at.index) in

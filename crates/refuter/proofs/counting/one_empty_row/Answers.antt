@@ -6,4 +6,5 @@ pub returns : goal.returns
 returns c =
     let zeros : c.in_ok-numbers.numbers.items ≡ replicate 256 0 = search rules in
     let row : c.from_vec.result ≡ set c.in_ok-numbers.numbers.items 0 c.min.result = search rules in
-    empty_row c.args.cap c.min.result 256 c.in_ok-numbers.numbers.items c.from_vec.result refl zeros row (omega (arith, c.min.ensures))
+    empty_row c.args.cap c.min.result 256 c.in_ok-numbers.numbers.items c.from_vec.result refl zeros row
+    (omega (arith, c.min.ensures))

@@ -9,6 +9,8 @@ use Rattle.refuter.proofs.fewest.lower_all.Given as goal
 abbrev pub invariant-loop-number : goal.invariant-loop-number
 invariant-loop-number l =
     record {
-      each : (s : SortId) → IsSort l.sig s → lowered_by (number_in l.row) (number_in l.next s) (constructors_after l.sig l.number s) ≡ lowered_by (number_in l.row) (number_in l.row s) (constructors_of l.sig s);
+      each : (s : SortId) → IsSort l.sig s →
+          lowered_by (number_in l.row) (number_in l.next s) (constructors_after l.sig l.number s) ≡ lowered_by
+          (number_in l.row) (number_in l.row s) (constructors_of l.sig s);
       fell : MatchBool l.lowered (sum l.next < sum l.row) (l.next ≡ l.row);
     }

@@ -5,4 +5,11 @@ use Rattle.refuter.proofs.fewest.total_size.Goals as goal
 
 pub loop-sort-preserved : goal.loop-sort-preserved
 loop-sort-preserved c =
-    omega (arith, c.loop-sort.invariant, c.min-size.ensures, c.saturating_add.ensures, total_more (number_in c.args.row.now) c.args.sorts.now c.loop-sort.sort-index (record { 0 = 0 }) c.loop-sort-test.true)
+    omega (
+      arith,
+      c.loop-sort.invariant,
+      c.min-size.ensures,
+      c.saturating_add.ensures,
+      total_more (number_in c.args.row.now) c.args.sorts.now c.loop-sort.sort-index (record { 0 = 0 })
+          c.loop-sort-test.true,
+    )

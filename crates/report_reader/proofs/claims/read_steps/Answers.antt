@@ -14,7 +14,9 @@ returns-in_err-line c =
     let k = c.loop-node in
     let asked : length k.steps < a.nodes = omega (arith, k.invariant.many, c.loop-node-test.true) in
     let p = err_from_is_err_and c.from_residual.result c.from_residual.ensures.1 in
-    λ text report goal size b. rw (p.1, p.2) (proving_stops a.sig.now c.requires.declared text k.lines report goal a.nodes k.steps a.start c.in_err-line.field-0.0 (k.invariant.behind text report goal size b) asked size c.in_err-line.ensures)
+    λ text report goal size b. rw (p.1, p.2) (proving_stops a.sig.now c.requires.declared text k.lines report
+    goal a.nodes k.steps a.start c.in_err-line.field-0.0 (k.invariant.behind text report goal size b) asked
+    size c.in_err-line.ensures)
 
 pub returns-in-Err-NotAStep : goal.returns-in-Err-NotAStep
 returns-in-Err-NotAStep c =
@@ -40,8 +42,14 @@ loop-node-preserved c =
     let found = rw c.in-Ok.is at c.read_step.ensures.ok in
     record {
       within = omega (arith, w.ensures.0.read, k.invariant.within);
-      many = omega (arith, k.invariant.many, ap (λ (ts : List Step). length ts) pushed, length-append k.steps (step ∷ []));
+      many = omega (
+        arith,
+        k.invariant.many,
+        ap (λ (ts : List Step). length ts) pushed,
+        length-append k.steps (step ∷ []),
+      );
       behind = λ text report goal size b.
           subst (λ (ts : List Step). IsBehind a.sig.now text w.behind (proving report goal a.nodes ts)) (sym pushed)
-          (step_moved a.sig.now text k.lines report goal a.nodes k.steps w.line.now w.behind step (k.invariant.behind text report goal size b) w.ensures.0 found asked (omega (arith, w.ensures.1, size)));
+          (step_moved a.sig.now text k.lines report goal a.nodes k.steps w.line.now w.behind step
+          (k.invariant.behind text report goal size b) w.ensures.0 found asked (omega (arith, w.ensures.1, size)));
     }

@@ -1,5 +1,7 @@
 use Rattle.std.proofs.Common.{arith}
-use Rattle.report_reader.proofs.BudgetReads.{from_nodes, from_plain, from_cut, from_skipped, at_tried, at_skipped, at_plain, at_nodes, past_depth, past_tried, past_skipped, past_cut, past_plain}
+use Rattle.report_reader.proofs.BudgetReads.{from_nodes, from_plain, from_cut, from_skipped, at_tried, at_skipped}
+use Rattle.report_reader.proofs.BudgetReads.{at_plain, at_nodes, past_depth, past_tried, past_skipped, past_cut}
+use Rattle.report_reader.proofs.BudgetReads.{past_plain}
 use Rattle.report_reader.proofs.first_lines.read_budget.Goals as goal
 
 pub returns-in_err-tried : goal.returns-in_err-tried

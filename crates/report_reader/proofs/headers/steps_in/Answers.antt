@@ -1,7 +1,8 @@
 use Rattle.std.proofs.Common.{[], codes, arith}
 use Rattle.report_reader.proofs.NumberReads.{one_number}
 use Rattle.report_reader.proofs.headers.steps_in.Goals as goal
-use Rattle.report_reader.proofs.headers.steps_in.Goals.{then-steps-eq0-via-then-steps-eq0, then-steps-eq0-via-else-steps-eq0+then-steps-gt-MAX_STEPS}
+use Rattle.report_reader.proofs.headers.steps_in.Goals.{then-steps-eq0-via-then-steps-eq0}
+use Rattle.report_reader.proofs.headers.steps_in.Goals.{then-steps-eq0-via-else-steps-eq0+then-steps-gt-MAX_STEPS}
 
 pub returns-then-steps-eq0 : goal.returns-then-steps-eq0
 returns-then-steps-eq0 c =

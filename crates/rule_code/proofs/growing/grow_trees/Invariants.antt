@@ -8,5 +8,6 @@ use Rattle.rule_code.proofs.growing.grow_trees.Given as goal
 abbrev pub invariant-loop-symbol : goal.invariant-loop-symbol
 invariant-loop-symbol l = record {
   count : length l.trees.items ≡ l.symbol;
-  each : (f : ℕ) (tree : DecisionTree) → slice_get l.trees.items f ≡ Some tree → IsTree l.spec.rules (numbers_of f 0 l.spec.rules) tree;
+  each : (f : ℕ) (tree : DecisionTree) → slice_get l.trees.items f ≡ Some tree →
+      IsTree l.spec.rules (numbers_of f 0 l.spec.rules) tree;
 }

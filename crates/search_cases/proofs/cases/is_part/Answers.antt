@@ -11,7 +11,12 @@ pub verdict_part-requires-clause-values : goal.verdict_part-requires-clause-valu
 verdict_part-requires-clause-values c =
     let spec = c.args.spec.now in
     let count = length c.args.values.now in
-    let stand = subst (λ ids. StandAt c.placed.new.bank ids c.args.values.now) (sym c.deref.ensures.value) c.in_ok-places.ensures.stand in
-    let are : AreValuesOf spec (sorts_of (take count c.args.goal.now.vars)) c.args.values.now = subst (λ (vs : List VarInfo). AreValuesOf spec (sorts_of (take count vs)) c.args.values.now) c.as_slice-vars.ensures c.in_ok-places.ensures.are in
-    let first : AreValuesOf spec (take count (sorts_of c.args.goal.now.vars)) c.args.values.now = subst (λ (ss : List SortId). AreValuesOf spec ss c.args.values.now) (sym (take-map (λ (v : VarInfo). v.sort) count c.args.goal.now.vars)) are in
+    let stand = subst (λ ids. StandAt c.placed.new.bank ids c.args.values.now) (sym c.deref.ensures.value)
+    c.in_ok-places.ensures.stand in
+    let are : AreValuesOf spec (sorts_of (take count c.args.goal.now.vars)) c.args.values.now = subst
+    (λ (vs : List VarInfo). AreValuesOf spec (sorts_of (take count vs)) c.args.values.now)
+    c.as_slice-vars.ensures c.in_ok-places.ensures.are in
+    let first : AreValuesOf spec (take count (sorts_of c.args.goal.now.vars)) c.args.values.now = subst
+    (λ (ss : List SortId). AreValuesOf spec ss c.args.values.now)
+    (sym (take-map (λ (v : VarInfo). v.sort) count c.args.goal.now.vars)) are in
     (c.args.values.now, stand, first)

@@ -14,5 +14,11 @@ pub returns : goal.returns
 returns c =
     let sorts = c.args.sorts.now in
     let raw = c.args.raw.now in
-    let h = subst (λ ns. Answers (each (sort_test sorts) ns) (λ (found : List SortId). found ≡ map (sort_number sorts) ns) c.sorts_named.result) c.as_slice.ensures c.sorts_named.ensures in
-    answers_then (test (Sort raw.at RepeatedName) (¬ (IsNewName raw.name c.args.taken.now))) (each (sort_test sorts) raw.args) (λ (found : List SortId). found ≡ map (sort_number sorts) raw.args) (λ (found : List SortId). (found ≡ map (sort_number sorts) raw.args) × (c.take_name.new.taken ≡ c.args.taken.now ++ raw.name ∷ [])) c.sorts_named.result c.in_ok-take_name.ensures.0 (λ found is. (is, c.in_ok-take_name.ensures.1)) h
+    let h = subst (λ ns. Answers (each (sort_test sorts) ns)
+    (λ (found : List SortId). found ≡ map (sort_number sorts) ns) c.sorts_named.result) c.as_slice.ensures
+    c.sorts_named.ensures in
+    answers_then (test (Sort raw.at RepeatedName) (¬ (IsNewName raw.name c.args.taken.now)))
+    (each (sort_test sorts) raw.args) (λ (found : List SortId). found ≡ map (sort_number sorts) raw.args)
+    (λ (found : List SortId). (found ≡ map (sort_number sorts) raw.args)
+    × (c.take_name.new.taken ≡ c.args.taken.now ++ raw.name ∷ [])) c.sorts_named.result
+    c.in_ok-take_name.ensures.0 (λ found is. (is, c.in_ok-take_name.ensures.1)) h

@@ -8,10 +8,14 @@ use Rattle.sort_check.proofs.declarations.sort_named.Goals as goal
 
 pub returns-in-Some : goal.returns-in-Some
 returns-in-Some c =
-    let at : position (bytes_eq c.args.raw.now.name) c.args.sorts.now ≡ Some c.in-Some.place = cc in
-    (λ new. new_not c.args.raw.now.name c.args.sorts.now c.in-Some.place new (place_is c.args.raw.now.name c.args.sorts.now c.in-Some.place at), λ i. record { 0 = unwrap_or (sym at i) 0 })
+    let at : position (bytes_eq c.args.raw.now.name) c.args.sorts.now ≡ Some c.in-Some.place = cc in (
+      λ new. new_not c.args.raw.now.name c.args.sorts.now c.in-Some.place new
+          (place_is c.args.raw.now.name c.args.sorts.now c.in-Some.place at),
+      λ i. record { 0 = unwrap_or (sym at i) 0 },
+    )
 
 pub returns-in-None : goal.returns-in-None
 returns-in-None c =
     let at : position (bytes_eq c.args.raw.now.name) c.args.sorts.now ≡ None = cc in
-    subst (λ e. Tells (sort_test c.args.sorts.now c.args.raw.now) e) (sym c.fault.ensures) (no_place c.args.raw.now.name c.args.sorts.now at, refl)
+    subst (λ e. Tells (sort_test c.args.sorts.now c.args.raw.now) e) (sym c.fault.ensures)
+    (no_place c.args.raw.now.name c.args.sorts.now at, refl)

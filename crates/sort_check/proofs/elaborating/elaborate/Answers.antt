@@ -13,4 +13,5 @@ pub returns-clause-sorted : goal.returns-clause-sorted
 returns-clause-sorted c = well_sorted_where c.args.raw.now c.spec_of.result c.spec_of.ensures
 
 pub returns-clause-exact : goal.returns-clause-exact
-returns-clause-exact c = answer_exact (spec_tests c.args.raw.now) (IsNumbered c.args.raw.now) c.spec_of.result c.spec_of.ensures
+returns-clause-exact c = answer_exact (spec_tests c.args.raw.now) (IsNumbered c.args.raw.now) c.spec_of.result
+    c.spec_of.ensures

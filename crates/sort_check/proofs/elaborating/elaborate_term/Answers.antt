@@ -6,7 +6,9 @@ pub returns-clause-stands : goal.returns-clause-stands
 returns-clause-stands c = term_stands_where c.args.sig.now c.args.raw.now c.ground_term.result c.ground_term.ensures
 
 pub returns-clause-answered : goal.returns-clause-answered
-returns-clause-answered c = term_made_where c.args.sig.now c.args.raw.now c.declared.ensures c.ground_term.result c.ground_term.ensures
+returns-clause-answered c = term_made_where c.args.sig.now c.args.raw.now c.declared.ensures
+    c.ground_term.result c.ground_term.ensures
 
 pub returns-clause-exact : goal.returns-clause-exact
-returns-clause-exact c = answer_exact (ground_tests c.args.sig.now c.args.raw.now) (IsGround c.args.sig.now c.args.raw.now) c.ground_term.result c.ground_term.ensures
+returns-clause-exact c = answer_exact (ground_tests c.args.sig.now c.args.raw.now)
+    (IsGround c.args.sig.now c.args.raw.now) c.ground_term.result c.ground_term.ensures

@@ -10,12 +10,17 @@ returns-in_err-check_bind-clause-answer c =
     let sig = c.args.sig.now in
     let e = c.in_err-check_bind.field-0.0 in
     let q : c.from_residual.result ≡ Err e = search rules in
-    answer_err (binds_tests sig c.args.raws.now) _ c.from_residual.result e q (bind_fault sig c.args.raws.now c.loop-place.place c.index-raws-place.result e c.loop-place-test.true c.index-raws-place.is c.loop-place.invariant.clean c.in_err-check_bind.ensures)
+    answer_err (binds_tests sig c.args.raws.now) _ c.from_residual.result e q
+    (bind_fault sig c.args.raws.now c.loop-place.place c.index-raws-place.result e c.loop-place-test.true
+    c.index-raws-place.is c.loop-place.invariant.clean c.in_err-check_bind.ensures)
 
 pub loop-place-preserved : goal.loop-place-preserved
 loop-place-preserved c =
     let sig = c.args.sig.now in
     record {
-      clean = after_next (bind_tests sig) c.args.raws.now c.loop-place.place c.index-raws-place.result c.loop-place-test.true c.index-raws-place.is c.loop-place.invariant.clean c.in_ok-check_bind.ensures.0;
-      made = made_next (bound sig) c.args.raws.now c.loop-place.place c.index-raws-place.result c.loop-place.entries.items c.add.new.entries.items c.loop-place-test.true c.index-raws-place.is c.loop-place.invariant.made (search rules);
+      clean = after_next (bind_tests sig) c.args.raws.now c.loop-place.place c.index-raws-place.result
+          c.loop-place-test.true c.index-raws-place.is c.loop-place.invariant.clean c.in_ok-check_bind.ensures.0;
+      made = made_next (bound sig) c.args.raws.now c.loop-place.place c.index-raws-place.result
+          c.loop-place.entries.items c.add.new.entries.items c.loop-place-test.true c.index-raws-place.is
+          c.loop-place.invariant.made (search rules);
     }

@@ -12,7 +12,9 @@ pub returns-in-Some : goal.returns-in-Some
 returns-in-Some c =
     let name = c.args.name.now in
     let old = found_old name.name (λ (g : RawGoal). g.head.name) c.args.before.now c.in-Some.field-0 (search rules) in
-    subst (λ e. Tells (test (Sort name.at RepeatedName) (¬ (IsNewName name.name (map (λ (g : RawGoal). g.head.name) c.args.before.now)))) e) (sym c.fault.ensures) (old, refl)
+    subst (λ e. Tells (test (Sort name.at RepeatedName)
+    (¬ (IsNewName name.name (map (λ (g : RawGoal). g.head.name) c.args.before.now)))) e)
+    (sym c.fault.ensures) (old, refl)
 
 pub returns-in-None : goal.returns-in-None
 returns-in-None c =

@@ -6,6 +6,7 @@ use Rattle.sort_check.proofs.laws.one_first_fault.Goals as goal
 
 pub returns : goal.returns
 returns c = record {
-  one = λ raw at other kind another p q. let e : Sort at kind ≡ Sort other another = one_first (spec_tests raw) (Sort at kind) (Sort other another) p q in (cc, cc);
+  one = λ raw at other kind another p q. let e : Sort at kind ≡ Sort other another = one_first (spec_tests raw)
+      (Sort at kind) (Sort other another) p q in (cc, cc);
   none = λ raw at kind p q. not_both (spec_tests raw) (Sort at kind) p q;
 }

@@ -3,7 +3,9 @@ use Rattle.std.proofs.lemmas.List.{take_all, length-take-le, get_or_read}
 use Rattle.term_core.specs.Precedence.{times}
 use Rattle.sort_check.proofs.Counting.{count-hit, count-miss, counts-made, times-few}
 use Rattle.sort_check.proofs.orders.occurrences.Goals as goal
-use Rattle.sort_check.proofs.orders.occurrences.Goals.{then-place-ge1+then-place-len, else-place-ge1, else-place-ge1-via-then-place-ge1+else-place-len, else-place-ge1-via-else-place-ge1}
+use Rattle.sort_check.proofs.orders.occurrences.Goals.{then-place-ge1+then-place-len, else-place-ge1}
+use Rattle.sort_check.proofs.orders.occurrences.Goals.{else-place-ge1-via-then-place-ge1+else-place-len}
+use Rattle.sort_check.proofs.orders.occurrences.Goals.{else-place-ge1-via-else-place-ge1}
 
 pub overflow_add-index_mut : goal.overflow_add-index_mut
 overflow_add-index_mut c =

@@ -1,4 +1,5 @@
-use Rattle.std.proofs.Common.{rules, ◌≡◌, ◌≤◌, ◌<◌, ℕ, List, false, ◌++◌, ◌∙◌, ◌+◌, [], Err, sym, ap, subst, arith, length, length-set, take, drop, set, get_or}
+use Rattle.std.proofs.Common.{rules, ◌≡◌, ◌≤◌, ◌<◌, ℕ, List, false, ◌++◌, ◌∙◌, ◌+◌, [], Err, sym, ap, subst, arith}
+use Rattle.std.proofs.Common.{length, length-set, take, drop, set, get_or}
 use Rattle.std.specs.Prelude.{slice_index}
 use Rattle.std.proofs.lemmas.Bool.{false_from_ne_true}
 use Rattle.std.proofs.lemmas.List.{take_all}
@@ -11,7 +12,8 @@ use Rattle.sort_check.specs.OrderTests.{arity, heads_of, function_tests, status_
 use Rattle.sort_check.specs.Marks.{AreMarks}
 use Rattle.sort_check.specs.declared.faults.SortFault.TheVariants.{Sort}
 use Rattle.sort_check.specs.declared.faults.SortKind.TheVariants.{StatusTwice, NoOrderOfArguments}
-use Rattle.sort_check.proofs.LineLoops.{written-whole, heads-next, statuses-next, statuses-begin, statuses-long, all-made}
+use Rattle.sort_check.proofs.LineLoops.{written-whole, heads-next, statuses-next, statuses-begin, statuses-long}
+use Rattle.sort_check.proofs.LineLoops.{all-made}
 use Rattle.sort_check.proofs.Telling.{answer_err, after_tells, tells_first, tells_then}
 use Rattle.sort_check.proofs.orders.set_statuses.Goals as goal
 

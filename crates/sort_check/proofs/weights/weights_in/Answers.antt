@@ -1,4 +1,5 @@
-use Rattle.std.proofs.Common.{rules, ◌≡◌, ◌≤◌, ◌<◌, false, ◌++◌, ◌∙◌, ◌+◌, [], Err, sym, ap, subst, arith, length, length-set, take, drop}
+use Rattle.std.proofs.Common.{rules, ◌≡◌, ◌≤◌, ◌<◌, false, ◌++◌, ◌∙◌, ◌+◌, [], Err, sym, ap, subst, arith, length}
+use Rattle.std.proofs.Common.{length-set, take, drop}
 use Rattle.std.proofs.lemmas.Bool.{false_from_ne_true}
 use Rattle.std.proofs.lemmas.List.{take_all, length-replicate}
 use Rattle.spec_core.specs.Findings.{each_after}

@@ -36,8 +36,11 @@ returns c =
     let admitted = c.worked_examples-2.ensures.naturals_are_admitted in
     let sound = accepted_by_sums c.tidying_laws.ensures in
     let proved = (sound naturals (only (proves_unit unit_steps)) fine admitted c.worked_examples.ensures.accepted).0 in
-    let refuted = (sound naturals (only (refutes (codes "same") (x_and_y zero_term (succ_term zero_term)))) fine admitted c.worked_examples.ensures.refuted).0 in
+    let refuted = (sound naturals (only (refutes (codes "same") (x_and_y zero_term (succ_term zero_term)))) fine
+    admitted c.worked_examples.ensures.refuted).0 in
     record {
-      unit_is_true = subst (λ g. GoalIsTrue naturals g) (goal_named_one naturals fine (codes "unit") proved.0 unit_goal proved.1 unit_named) proved.2;
-      same_fails = subst (λ g. GoalFails naturals (zero_term ∷ succ_term zero_term ∷ []) g) (goal_named_one naturals fine (codes "same") refuted.0 same_goal refuted.1 same_named) refuted.2.1;
+      unit_is_true = subst (λ g. GoalIsTrue naturals g)
+          (goal_named_one naturals fine (codes "unit") proved.0 unit_goal proved.1 unit_named) proved.2;
+      same_fails = subst (λ g. GoalFails naturals (zero_term ∷ succ_term zero_term ∷ []) g)
+          (goal_named_one naturals fine (codes "same") refuted.0 same_goal refuted.1 same_named) refuted.2.1;
     }

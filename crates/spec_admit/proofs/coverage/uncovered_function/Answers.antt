@@ -6,8 +6,10 @@ use Rattle.spec_admit.proofs.coverage.uncovered_function.Goals as goal
 
 pub returns-in-Some : goal.returns-in-Some
 returns-in-Some c =
-    let named : AreNamedFor c.args.spec.now c.loop-number.number c.in-Some.values = rw c.in-Some.is at c.in_ok-values.ensures in
-    first_uncovered c.args.spec.now c.loop-number.number c.in-Some.values (omega (arith, c.constructors-number.ensures.count)) (omega arith) c.loop-number.invariant named
+    let named : AreNamedFor c.args.spec.now c.loop-number.number c.in-Some.values = rw c.in-Some.is
+    at c.in_ok-values.ensures in
+    first_uncovered c.args.spec.now c.loop-number.number c.in-Some.values
+    (omega (arith, c.constructors-number.ensures.count)) (omega arith) c.loop-number.invariant named
 
 pub returns : goal.returns
 returns c = covering c.args.spec.now (λ f above within. c.loop-number.invariant f above (omega arith))

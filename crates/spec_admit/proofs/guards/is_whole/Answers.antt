@@ -14,9 +14,11 @@ tree-requires c = are_numbers c.args.spec.now c.tree_decides_groups.ensures c.ar
 pub returns-in-Whole : goal.returns-in-Whole
 returns-in-Whole c =
     let b = (goal.at.returns-in-Whole c).After-deref in
-    decided c.args.spec.now c.tree_decides_groups.ensures c.args.left.now c.deref.result.now (all b) Whole (rw c.in-Whole.is at c.in_ok-tree.ensures)
+    decided c.args.spec.now c.tree_decides_groups.ensures c.args.left.now c.deref.result.now (all b) Whole
+    (rw c.in-Whole.is at c.in_ok-tree.ensures)
 
 pub returns : goal.returns
 returns c =
     let b = (goal.at.returns c).After-deref in
-    decided c.args.spec.now c.tree_decides_groups.ensures c.args.left.now c.deref.result.now (all b) Gap (rw c.in-Gap.is at c.in_ok-tree.ensures)
+    decided c.args.spec.now c.tree_decides_groups.ensures c.args.left.now c.deref.result.now (all b) Gap
+    (rw c.in-Gap.is at c.in_ok-tree.ensures)

@@ -7,8 +7,10 @@ abbrev pub invariant-loop-name : goal.invariant-loop-name
 invariant-loop-name l =
     record {
       all : pairs_of l.table.entries ++ reverse l.rest.items ≡ pairs_of l.fn.table.entries ++ l.fn.symbols.items;
-      onward : AreFresh (pairs_of l.table.entries) (reverse l.rest.items) → AreFresh (pairs_of l.fn.table.entries) l.fn.symbols.items;
-      back : AreFresh (pairs_of l.fn.table.entries) l.fn.symbols.items → AreFresh (pairs_of l.table.entries) (reverse l.rest.items);
+      onward : AreFresh (pairs_of l.table.entries) (reverse l.rest.items) →
+          AreFresh (pairs_of l.fn.table.entries) l.fn.symbols.items;
+      back : AreFresh (pairs_of l.fn.table.entries) l.fn.symbols.items →
+          AreFresh (pairs_of l.table.entries) (reverse l.rest.items);
     }
 
 abbrev pub decreases-loop-name : goal.decreases-loop-name

@@ -9,5 +9,14 @@ pub loop-sort-preserved : goal.loop-sort-preserved
 loop-sort-preserved c n h =
     elim (below_or_last n c.loop-sort.sort h) [
       | inl b ↦ c.loop-sort.invariant n b
-      | inr q ↦ subst (λ m. HasSmallValue c.args.tables.now (sort_of_number m)) (sym q) (has_small c.args.tables.now c.in_ok-least.least.items c.in_ok-least.ensures c.loop-sort.sort (omega (arith, c.loop-sort-test.true, c.sorts-sort-end.ensures)) (omega (arith, c.if-index-gt-SMALL_VALUE_SYMBOLS.false, get_or_read c.in_ok-least.least.items _ _ (omega (arith, c.loop-sort-test.true, c.sorts-sort-end.ensures, c.in_ok-least.ensures.long)) c.index.ensures 0)))
+      | inr q ↦ subst (λ m. HasSmallValue c.args.tables.now (sort_of_number m)) (sym q)
+          (has_small c.args.tables.now c.in_ok-least.least.items c.in_ok-least.ensures c.loop-sort.sort
+          (omega (arith, c.loop-sort-test.true, c.sorts-sort-end.ensures))
+          (omega (
+            arith,
+            c.if-index-gt-SMALL_VALUE_SYMBOLS.false,
+            get_or_read c.in_ok-least.least.items _ _
+                (omega (arith, c.loop-sort-test.true, c.sorts-sort-end.ensures, c.in_ok-least.ensures.long))
+                c.index.ensures 0,
+          )))
     ]

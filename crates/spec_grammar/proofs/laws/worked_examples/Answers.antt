@@ -1,4 +1,5 @@
-use Rattle.std.proofs.Common.{◌≡◌, ◌≢◌, ℕ, zero, suc, ◌+◌, List, [], ◌∷◌, ◌++◌, inl, inr, Some, None, refl, ap, sym, ◌∙◌, arith}
+use Rattle.std.proofs.Common.{◌≡◌, ◌≢◌, ℕ, zero, suc, ◌+◌, List, [], ◌∷◌, ◌++◌, inl, inr, Some, None, refl, ap, sym}
+use Rattle.std.proofs.Common.{◌∙◌, arith}
 use Rattle.std.specs.Prelude.{codes}
 use Rattle.spec_grammar.specs.declared.keys.Key.{Key}
 use Rattle.spec_grammar.specs.declared.keys.Key.TheVariants.{Comma, Colon, Spike, Equal}
@@ -10,7 +11,8 @@ use Rattle.spec_grammar.specs.Items.{Item, Word, Sign, Number}
 use Rattle.spec_grammar.specs.Grammar.{Marked, IsSpecText, IsTermText}
 use Rattle.spec_grammar.specs.Derives.{Derives, IsFault, bare, clean}
 use Rattle.spec_grammar.specs.KeepsLimits.{raw_depth, WordsKeepLimits}
-use Rattle.spec_grammar.specs.Examples.{pair_term, pair_items, chain, one_equal, equal_items, one_status, status_items, one_order, two_weights, order_items, weight_items, format_two}
+use Rattle.spec_grammar.specs.Examples.{pair_term, pair_items, chain, one_equal, equal_items, one_status, status_items}
+use Rattle.spec_grammar.specs.Examples.{one_order, two_weights, order_items, weight_items, format_two}
 use Rattle.spec_grammar.specs.Symbols.{run, spec_symbols}
 use Rattle.spec_grammar.proofs.Agrees.{spec_agrees}
 use Rattle.spec_grammar.proofs.Means.{spec_means}
@@ -128,9 +130,36 @@ returns c = record {
   second_order = second_order;
   order_in_format_one = order_in_format_one;
   other_format = ((no_declarations, (Number 1, None) ∷ [], header), λ c. no_other_format c.0 c.1 c.2 c.3 c.4);
-  without_arrow = (_, _, _, refl, refl, (_, _, refl, refl, refl), (_, [], refl, inr (refl, cons_nil, refl), refl), inl (refl, refl, refl, refl));
-  with_arrow = (_, _, _, refl, refl, (_, _, refl, refl, refl), (_, [], refl, inl refl, refl), inl (refl, refl, refl, refl));
-  nothing = (_, _, _, refl, refl, (_, _, refl, refl, refl), (_, [], refl, inl refl, refl), inl (refl, refl, refl, refl));
+  without_arrow = (
+    _,
+    _,
+    _,
+    refl,
+    refl,
+    (_, _, refl, refl, refl),
+    (_, [], refl, inr (refl, cons_nil, refl), refl),
+    inl (refl, refl, refl, refl),
+  );
+  with_arrow = (
+    _,
+    _,
+    _,
+    refl,
+    refl,
+    (_, _, refl, refl, refl),
+    (_, [], refl, inl refl, refl),
+    inl (refl, refl, refl, refl),
+  );
+  nothing = (
+    _,
+    _,
+    _,
+    refl,
+    refl,
+    (_, _, refl, refl, refl),
+    (_, [], refl, inl refl, refl),
+    inl (refl, refl, refl, refl),
+  );
   arguments = refl;
   comma = ((pair_term, clean pair_items, refl), λ c. no_comma c.0 c.1 c.2 c.3 c.4);
   eighth = refl;

@@ -6,4 +6,5 @@ use Rattle.spec_printing.specs.Printed.{bind_printed}
 use Rattle.spec_printing.proofs.printing.append_binds.Given as goal
 
 abbrev pub invariant-loop-other : goal.invariant-loop-other
-invariant-loop-other l = l.text.items ≡ l.initial.text.items ++ flat_map (λ (b : RawBind). codes ", " ++ bind_printed b) (take l.other-index l.others)
+invariant-loop-other l = l.text.items ≡ l.initial.text.items
+    ++ flat_map (λ (b : RawBind). codes ", " ++ bind_printed b) (take l.other-index l.others)

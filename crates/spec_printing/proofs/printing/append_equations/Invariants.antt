@@ -5,4 +5,5 @@ use Rattle.spec_printing.specs.Printed.{equation_printed}
 use Rattle.spec_printing.proofs.printing.append_equations.Given as goal
 
 abbrev pub invariant-loop-other : goal.invariant-loop-other
-invariant-loop-other l = l.text.items ≡ l.initial.text.items ++ flat_map (λ (e : RawEq). l.between ++ equation_printed e) (take l.other-index l.others)
+invariant-loop-other l = l.text.items ≡ l.initial.text.items
+    ++ flat_map (λ (e : RawEq). l.between ++ equation_printed e) (take l.other-index l.others)

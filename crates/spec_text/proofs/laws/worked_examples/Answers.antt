@@ -1,4 +1,5 @@
-use Rattle.std.proofs.Common.{◌≡◌, ℕ, ◌+◌, ◌<◌, List, [], ◌∷◌, ◌++◌, true, false, None, inl, inr, refl, ap, sym, subst, ◌∙◌, arith, lit<, lit≤}
+use Rattle.std.proofs.Common.{◌≡◌, ℕ, ◌+◌, ◌<◌, List, [], ◌∷◌, ◌++◌, true, false, None, inl, inr, refl, ap, sym, subst}
+use Rattle.std.proofs.Common.{◌∙◌, arith, lit<, lit≤}
 use Rattle.std.specs.Prelude.{nat_lt, ◌||◌, ◌==◌, codes}
 use Rattle.std.specs.List.{list_all}
 use Rattle.std.specs.Char.{is_ascii_alphabetic, is_ascii_alphanumeric}
@@ -37,7 +38,8 @@ ends c h n p = true_false (sym p ∙ is_xid_continue-ascii c h ∙ n)
 letter : (c : ℕ) → c < 128 → (is_ascii_alphabetic c || (c == 95)) ≡ true → Sound (word_piece [] (c ∷ []))
 letter c h e =
     let a : IsAscii (c ∷ []) = IsAscii-cons c [] h IsAscii-nil in
-    word_sound [] (c ∷ []) tt (IsUtf8-from_ascii (c ∷ []) a) (subst (λ (cs : List ℕ). IsName cs) (sym (chars-IsAscii (c ∷ []) a)) (starts_at c h e, tt))
+    word_sound [] (c ∷ []) tt (IsUtf8-from_ascii (c ∷ []) a)
+    (subst (λ (cs : List ℕ). IsName cs) (sym (chars-IsAscii (c ∷ []) a)) (starts_at c h e, tt))
 
 f : Sound (word_piece [] (codes "f"))
 f = letter 102 (lit< tt) refl
@@ -54,15 +56,28 @@ twelve_piece = record { gap = 32 ∷ []; text = codes "12"; kind = Number 12 }
 twelve : Sound twelve_piece
 twelve =
     let a : IsAscii (codes "12") = ascii (codes "12") refl in
-    let spelled : IsSpelling (Number 12) (codes "12") = ((lit< tt, (lit< tt, (lit< tt, tt))), lit≤ tt, refl) in
-    (blank, IsUtf8-from_ascii (codes "12") a, subst (λ (cs : List ℕ). IsSpelling (Number 12) cs) (sym (chars-IsAscii (codes "12") a)) spelled)
+    let spelled : IsSpelling (Number 12) (codes "12") = ((lit< tt, (lit< tt, (lit< tt, tt))), lit≤ tt, refl) in (
+      blank,
+      IsUtf8-from_ascii (codes "12") a,
+      subst (λ (cs : List ℕ). IsSpelling (Number 12) cs) (sym (chars-IsAscii (codes "12") a)) spelled,
+    )
 
 pieces : List Written
-pieces = word_piece [] (codes "f") ∷ sign_piece [] LeftPar ∷ word_piece [] (codes "x") ∷ sign_piece [] RightPar ∷ sign_piece (32 ∷ []) Arrow ∷ twelve_piece ∷ []
+pieces = word_piece [] (codes "f") ∷ sign_piece [] LeftPar ∷ word_piece [] (codes "x") ∷ sign_piece []
+    RightPar ∷ sign_piece (32 ∷ []) Arrow ∷ twelve_piece ∷ []
 
-call : AreTokens (codes "f(x) => 12") (token Word 0 1 ∷ token LeftPar 1 1 ∷ token Word 2 1 ∷ token RightPar 3 1 ∷ token Arrow 5 2 ∷ token (Number 12) 8 2 ∷ [])
+call : AreTokens (codes "f(x) => 12") (token Word 0 1 ∷ token LeftPar 1 1 ∷ token Word 2 1 ∷ token RightPar 3
+    1 ∷ token Arrow 5 2 ∷ token (Number 12) 8 2 ∷ [])
 unfolding pieces
-call = written_tokens pieces [] (f, tt, (sign_sound [] LeftPar tt tt, tt, (x, tt, (sign_sound [] RightPar tt tt, tt, (sign_sound (32 ∷ []) Arrow blank tt, tt, (twelve, tt, tt)))))) tt
+call = written_tokens pieces [] (
+  f,
+  tt,
+  (
+    sign_sound [] LeftPar tt tt,
+    tt,
+    (x, tt, (sign_sound [] RightPar tt tt, tt, (sign_sound (32 ∷ []) Arrow blank tt, tt, (twelve, tt, tt)))),
+  ),
+) tt
 
 arrow : AreTokens (codes "=>") (token Arrow 0 2 ∷ [])
 arrow = written_tokens (sign_piece [] Arrow ∷ []) [] (sign_sound [] Arrow tt tt, tt, tt) tt
@@ -71,10 +86,12 @@ no_equals : (ts : List Token) → AreTokens (codes "=>") (token Equals 0 1 ∷ t
 no_equals ts h = let e = one_list (codes "=>") (token Arrow 0 2 ∷ []) (token Equals 0 1 ∷ ts) arrow h in by e
   where
     by : token Arrow 0 2 ∷ [] ≡ token Equals 0 1 ∷ ts → ⊥
-    by e = let k : ◌≡◌ {A = Token} (token Arrow 0 2) (token Equals 0 1) = cc in let n : ◌≡◌ {A = ℕ} 2 1 = ap (λ (t : Token). t.len) k in omega arith
+    by e = let k : ◌≡◌ {A = Token} (token Arrow 0 2) (token Equals 0 1) = cc in
+        let n : ◌≡◌ {A = ℕ} 2 1 = ap (λ (t : Token). t.len) k in omega arith
 
 -- the name a, and what follows it in a text of this size
-letter_first : (total : ℕ) (rest : List ℕ) → 1 + size rest ≡ total → Stops Continues rest → IsFirst total (97 ∷ rest) (token Word 0 1) rest
+letter_first : (total : ℕ) (rest : List ℕ) → 1 + size rest ≡ total → Stops Continues rest →
+    IsFirst total (97 ∷ rest) (token Word 0 1) rest
 letter_first total rest e s = record {
   gap = [];
   text = 97 ∷ [];
@@ -103,14 +120,21 @@ commented =
       at = refl;
       len = refl;
     } in
-    with_chars (λ cs. (r : List ℕ) × Scans (size cs) cs ts r × IsLastGap r) (97 ∷ rest) (ascii (97 ∷ rest) refl) ([], (rest, letter_first 5 rest refl (ends 35 (lit< tt) refl), ([], second, refl)), inl nothing)
+    with_chars (λ cs. (r : List ℕ) × Scans (size cs) cs ts r × IsLastGap r) (97 ∷ rest) (ascii (97 ∷ rest) refl)
+    ([], (rest, letter_first 5 rest refl (ends 35 (lit< tt) refl), ([], second, refl)), inl nothing)
 
 -- a fault after the name a and a space
-behind_letter : (x : ℕ) (xs : List ℕ) → list_all (λ b. nat_lt b 128) (97 ∷ 32 ∷ x ∷ xs) ≡ true → skip_gaps false (x ∷ xs) ≡ x ∷ xs → first_token (x ∷ xs) ≡ None → IsTextFault (97 ∷ 32 ∷ x ∷ xs) 2
+behind_letter : (x : ℕ) (xs : List ℕ) → list_all (λ b. nat_lt b 128) (97 ∷ 32 ∷ x ∷ xs) ≡ true →
+    skip_gaps false (x ∷ xs) ≡ x ∷ xs → first_token (x ∷ xs) ≡ None → IsTextFault (97 ∷ 32 ∷ x ∷ xs) 2
 behind_letter x xs a s n =
     let cs = 97 ∷ 32 ∷ x ∷ xs in
     let rest = 32 ∷ x ∷ xs in
-    inr (with_chars (λ ys. HasFault ys 2) cs (ascii cs a) (fault_here cs (token Word 0 1 ∷ []) rest 2 x xs (rest, letter_first (size cs) rest refl (ends 32 (lit< tt) refl), refl) s n (omega arith)))
+    inr (with_chars (λ ys. HasFault ys 2) cs (ascii cs a)
+    (fault_here cs (token Word 0 1 ∷ []) rest 2 x xs (
+      rest,
+      letter_first (size cs) rest refl (ends 32 (lit< tt) refl),
+      refl,
+    ) s n (omega arith)))
 
 strange : IsTextFault (codes "a $") 2
 strange = behind_letter 36 [] refl refl (rw (starts_not 36 (lit< tt) refl) refl)
@@ -126,8 +150,16 @@ bad_byte : IsTextFault (36 ∷ 255 ∷ []) 1
 bad_byte = inl (record {
   short = lit< tt;
   front = IsUtf8-from_ascii (36 ∷ []) (ascii (36 ∷ []) refl);
-  longest = λ m lt u. true_false (sym (is_utf8-from_IsUtf8 (36 ∷ 255 ∷ []) (subst IsUtf8 (take_all m (36 ∷ 255 ∷ []) lt) u)) ∙ no_text);
+  longest = λ m lt u. true_false
+      (sym (is_utf8-from_IsUtf8 (36 ∷ 255 ∷ []) (subst IsUtf8 (take_all m (36 ∷ 255 ∷ []) lt) u)) ∙ no_text);
 })
 
 pub returns : goal.returns
-returns c = record { call = call; no_equals = no_equals; commented = commented; strange = strange; long_number = long_number; bad_byte = bad_byte }
+returns c = record {
+  call = call;
+  no_equals = no_equals;
+  commented = commented;
+  strange = strange;
+  long_number = long_number;
+  bad_byte = bad_byte;
+}

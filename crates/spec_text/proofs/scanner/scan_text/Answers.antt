@@ -29,7 +29,11 @@ returns-in_default c =
     let b = size_is rest i.0 in
     let same : size (chars rest) ≡ size (first.0 ∷ first.1) = ap size first.2 in
     let f : first_token (first.0 ∷ first.1) ≡ None = ap first_token (sym first.2) ∙ c.in_default.ensures in
-    inr (c.utf8.text, fault_here (chars text) c.loop-rest.tokens.items i.1.0 _ first.0 first.1 i.1.1 (sym i.1.2 ∙ first.2) f (omega (arith, a, b, i.2, same)))
+    inr (
+      c.utf8.text,
+      fault_here (chars text) c.loop-rest.tokens.items i.1.0 _ first.0 first.1 i.1.1 (sym i.1.2
+          ∙ first.2) f (omega (arith, a, b, i.2, same)),
+    )
 
 pub overflow_sub-len : goal.overflow_sub-len
 overflow_sub-len c =
@@ -46,7 +50,14 @@ loop-rest-smaller c =
     let lt = first_lt (chars rest) c.in-Some.kind (chars after) c.in-Some.ensures.0 in
     let le = skip_gaps_le false (chars after) in
     let e : chars next ≡ skip_gaps false (chars after) = c.skip_gaps-rest-in-loop-rest.ensures.value in
-    omega (arith, lt, le, ap size e, size_is next c.skip_gaps-rest-in-loop-rest.utf8, size_is rest c.loop-rest.invariant.0)
+    omega (
+      arith,
+      lt,
+      le,
+      ap size e,
+      size_is next c.skip_gaps-rest-in-loop-rest.utf8,
+      size_is rest c.loop-rest.invariant.0,
+    )
 
 pub loop-rest-preserved : goal.loop-rest-preserved
 loop-rest-preserved c =
@@ -69,7 +80,14 @@ loop-rest-preserved c =
     let skipped : skip_gaps false i.1.0 ≡ x.0 ∷ x.1 = sym i.1.2 ∙ x.2 in
     let found : first_token (x.0 ∷ x.1) ≡ Some (kind, chars after) = ap first_token (sym x.2) ∙ first.0 in (
       c.skip_gaps-rest-in-loop-rest.utf8,
-      (chars after, rw c.in_ok-push.ensures.items (scans_on (size (chars text)) (chars text) c.loop-rest.tokens.items i.1.0 _ (chars after) i.1.1 (is_first (size (chars text)) i.1.0 x.0 x.1 _ (chars after) skipped found (omega (arith, st, sr, i.2, same)) (omega (arith, st, sr, sa, lt, i.2)))), e),
+      (
+        chars after,
+        rw c.in_ok-push.ensures.items
+            (scans_on (size (chars text)) (chars text) c.loop-rest.tokens.items i.1.0 _ (chars after) i.1.1
+            (is_first (size (chars text)) i.1.0 x.0 x.1 _ (chars after) skipped found
+            (omega (arith, st, sr, i.2, same)) (omega (arith, st, sr, sa, lt, i.2)))),
+        e,
+      ),
       omega (arith, lt, le, ap size e, sn, sr, i.2),
     )
 

@@ -8,7 +8,9 @@ use Rattle.spec_text.specs.Scanner.{skip_gaps}
 use Rattle.spec_text.proofs.scanner.scan_text.Given as goal
 
 abbrev pub invariant-loop-rest : goal.invariant-loop-rest
-invariant-loop-rest l = shadow (Utf8 l.rest) × ((r : List ℕ) × Scans (size (chars l.text)) (chars l.text) l.tokens.items r × (chars l.rest ≡ skip_gaps false r)) × (length l.rest ≤ length l.text)
+invariant-loop-rest l = shadow (Utf8 l.rest)
+    × ((r : List ℕ) × Scans (size (chars l.text)) (chars l.text) l.tokens.items r
+    × (chars l.rest ≡ skip_gaps false r)) × (length l.rest ≤ length l.text)
 
 abbrev pub decreases-loop-rest : goal.decreases-loop-rest
 decreases-loop-rest l = length l.rest

@@ -12,4 +12,7 @@ constructors_of-constructors-requires c =
 pub returns : goal.returns
 returns c =
     let count = c.constructors_of-constructors.ensures ∙ ap (λ ss. constructor_count ss) c.as_slice.ensures in
-    line_made _ _ _ _ _ _ _ _ _ _ _ _ c.in_ok-text.ensures.items c.in_ok-append_count.ensures c.in_ok-append_count-2.ensures c.in_ok-append_count-3.ensures c.in_ok-append_count-4.ensures c.in_ok-append_count-5.ensures c.in_ok-push.ensures.items ∙ line_of c.args.raw.now _ _ _ _ _ c.len.ensures count c.len-2.ensures c.len-3.ensures c.len-4.ensures
+    line_made _ _ _ _ _ _ _ _ _ _ _ _ c.in_ok-text.ensures.items c.in_ok-append_count.ensures
+    c.in_ok-append_count-2.ensures c.in_ok-append_count-3.ensures c.in_ok-append_count-4.ensures
+    c.in_ok-append_count-5.ensures c.in_ok-push.ensures.items
+    ∙ line_of c.args.raw.now _ _ _ _ _ c.len.ensures count c.len-2.ensures c.len-3.ensures c.len-4.ensures

@@ -1,5 +1,6 @@
 use Rattle.spec_order.specs.Orders.{order_of}
-use Rattle.spike_cli.proofs.OneEnding.{one_specification, no_refusal, one_refusal, one_term_text, no_term_refusal, one_term_refusal}
+use Rattle.spike_cli.proofs.OneEnding.{one_specification, no_refusal, one_refusal, one_term_text, no_term_refusal}
+use Rattle.spike_cli.proofs.OneEnding.{one_term_refusal}
 use Rattle.spike_cli.proofs.laws.one_ending.Goals as goal
 
 pub returns : goal.returns

@@ -1,4 +1,5 @@
-use Rattle.std.proofs.Common.{◌≡◌, ◌≤◌, ◌<◌, ◌+◌, ◌∙◌, ℕ, List, [], ◌∷◌, ◌++◌, Some, inr, sym, ap, subst, refl, arith, length, get_or, take}
+use Rattle.std.proofs.Common.{◌≡◌, ◌≤◌, ◌<◌, ◌+◌, ◌∙◌, ℕ, List, [], ◌∷◌, ◌++◌, Some, inr, sym, ap, subst, refl, arith}
+use Rattle.std.proofs.Common.{length, get_or, take}
 use Rattle.std.specs.Prelude.{slice_get, codes}
 use Rattle.std.proofs.lemmas.List.{append-nil, length-take, take_all}
 use Rattle.std.proofs.lemmas.Option.{slice_get_read}

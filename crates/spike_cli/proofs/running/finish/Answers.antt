@@ -19,22 +19,48 @@ returns-in-Check-clause-finishes g c =
     let held = g.F.Files.held c.args.files.now in
     let raw = c.args.accepted.now.raw in
     let spec = c.args.accepted.now.admitted.spec in
-    reads_nothing (g.S.Sink.written c.args.out.now) (g.S.Sink.written c.check.new.out) (g.S.Sink.faults c.args.out.now) (g.S.Sink.faults c.check.new.out) (g.F.Files.faults c.args.files.now) (g.F.Files.faults c.args.files.now) (IsEnd held (task_of c.args.command.now) raw spec) (MayWriteOn held (task_of c.args.command.now) raw spec) c.check.result (subst (λ (k : Command). Finishes (g.S.Sink.written c.args.out.now) (g.S.Sink.written c.check.new.out) (g.S.Sink.faults c.args.out.now) (g.S.Sink.faults c.check.new.out) (IsEnd held (task_of k) raw spec) (MayWriteOn held (task_of k) raw spec) c.check.result) (sym c.in-Check.is) c.check.ensures.finishes)
+    reads_nothing (g.S.Sink.written c.args.out.now) (g.S.Sink.written c.check.new.out)
+    (g.S.Sink.faults c.args.out.now) (g.S.Sink.faults c.check.new.out) (g.F.Files.faults c.args.files.now)
+    (g.F.Files.faults c.args.files.now) (IsEnd held (task_of c.args.command.now) raw spec)
+    (MayWriteOn held (task_of c.args.command.now) raw spec) c.check.result
+    (subst (λ (k : Command). Finishes (g.S.Sink.written c.args.out.now) (g.S.Sink.written c.check.new.out)
+    (g.S.Sink.faults c.args.out.now) (g.S.Sink.faults c.check.new.out) (IsEnd held (task_of k) raw spec)
+    (MayWriteOn held (task_of k) raw spec) c.check.result) (sym c.in-Check.is) c.check.ensures.finishes)
 
 pub returns-in-Refute-clause-finishes : goal.returns-in-Refute-clause-finishes
 returns-in-Refute-clause-finishes g c =
     let held = g.F.Files.held c.args.files.now in
     let raw = c.args.accepted.now.raw in
     let spec = c.args.accepted.now.admitted.spec in
-    let made = subst (λ (b : ProofBounds). Finishes (g.S.Sink.written c.args.out.now) (g.S.Sink.written c.write_report.new.out) (g.S.Sink.faults c.args.out.now) (g.S.Sink.faults c.write_report.new.out) (IsReport b spec) (BeginsReport b spec) c.write_report.result) c.search_alone.ensures c.write_report.ensures.finishes in
-    reads_nothing (g.S.Sink.written c.args.out.now) (g.S.Sink.written c.write_report.new.out) (g.S.Sink.faults c.args.out.now) (g.S.Sink.faults c.write_report.new.out) (g.F.Files.faults c.args.files.now) (g.F.Files.faults c.args.files.now) (IsEnd held (task_of c.args.command.now) raw spec) (MayWriteOn held (task_of c.args.command.now) raw spec) c.write_report.result (subst (λ (k : Command). Finishes (g.S.Sink.written c.args.out.now) (g.S.Sink.written c.write_report.new.out) (g.S.Sink.faults c.args.out.now) (g.S.Sink.faults c.write_report.new.out) (IsEnd held (task_of k) raw spec) (MayWriteOn held (task_of k) raw spec) c.write_report.result) (sym c.in-Refute.is) made)
+    let made = subst (λ (b : ProofBounds). Finishes (g.S.Sink.written c.args.out.now)
+    (g.S.Sink.written c.write_report.new.out) (g.S.Sink.faults c.args.out.now)
+    (g.S.Sink.faults c.write_report.new.out) (IsReport b spec) (BeginsReport b spec) c.write_report.result)
+    c.search_alone.ensures c.write_report.ensures.finishes in
+    reads_nothing (g.S.Sink.written c.args.out.now) (g.S.Sink.written c.write_report.new.out)
+    (g.S.Sink.faults c.args.out.now) (g.S.Sink.faults c.write_report.new.out)
+    (g.F.Files.faults c.args.files.now) (g.F.Files.faults c.args.files.now)
+    (IsEnd held (task_of c.args.command.now) raw spec)
+    (MayWriteOn held (task_of c.args.command.now) raw spec) c.write_report.result
+    (subst (λ (k : Command). Finishes (g.S.Sink.written c.args.out.now)
+    (g.S.Sink.written c.write_report.new.out) (g.S.Sink.faults c.args.out.now)
+    (g.S.Sink.faults c.write_report.new.out) (IsEnd held (task_of k) raw spec)
+    (MayWriteOn held (task_of k) raw spec) c.write_report.result) (sym c.in-Refute.is) made)
 
 pub returns-in-Prove-clause-finishes : goal.returns-in-Prove-clause-finishes
 returns-in-Prove-clause-finishes g c =
     let held = g.F.Files.held c.args.files.now in
     let raw = c.args.accepted.now.raw in
     let spec = c.args.accepted.now.admitted.spec in
-    reads_nothing (g.S.Sink.written c.args.out.now) (g.S.Sink.written c.write_report-in-Prove.new.out) (g.S.Sink.faults c.args.out.now) (g.S.Sink.faults c.write_report-in-Prove.new.out) (g.F.Files.faults c.args.files.now) (g.F.Files.faults c.args.files.now) (IsEnd held (task_of c.args.command.now) raw spec) (MayWriteOn held (task_of c.args.command.now) raw spec) c.write_report-in-Prove.result (subst (λ (k : Command). Finishes (g.S.Sink.written c.args.out.now) (g.S.Sink.written c.write_report-in-Prove.new.out) (g.S.Sink.faults c.args.out.now) (g.S.Sink.faults c.write_report-in-Prove.new.out) (IsEnd held (task_of k) raw spec) (MayWriteOn held (task_of k) raw spec) c.write_report-in-Prove.result) (sym c.in-Prove.is) c.write_report-in-Prove.ensures.finishes)
+    reads_nothing (g.S.Sink.written c.args.out.now) (g.S.Sink.written c.write_report-in-Prove.new.out)
+    (g.S.Sink.faults c.args.out.now) (g.S.Sink.faults c.write_report-in-Prove.new.out)
+    (g.F.Files.faults c.args.files.now) (g.F.Files.faults c.args.files.now)
+    (IsEnd held (task_of c.args.command.now) raw spec)
+    (MayWriteOn held (task_of c.args.command.now) raw spec) c.write_report-in-Prove.result
+    (subst (λ (k : Command). Finishes (g.S.Sink.written c.args.out.now)
+    (g.S.Sink.written c.write_report-in-Prove.new.out) (g.S.Sink.faults c.args.out.now)
+    (g.S.Sink.faults c.write_report-in-Prove.new.out) (IsEnd held (task_of k) raw spec)
+    (MayWriteOn held (task_of k) raw spec) c.write_report-in-Prove.result) (sym c.in-Prove.is)
+    c.write_report-in-Prove.ensures.finishes)
 
 pub returns-in-Eval-clause-finishes : goal.returns-in-Eval-clause-finishes
 returns-in-Eval-clause-finishes g c =
@@ -42,9 +68,24 @@ returns-in-Eval-clause-finishes g c =
     let raw = c.args.accepted.now.raw in
     let spec = c.args.accepted.now.admitted.spec in
     let steps = c.in-Eval.steps in
-    let made = subst (λ (s : Spec). Finishes (g.S.Sink.written c.args.out.now) (g.S.Sink.written c.evaluate.new.out) (g.S.Sink.faults c.args.out.now) (g.S.Sink.faults c.evaluate.new.out) (IsEvaluation s c.as_bytes.result.now steps) (IsEvaluationText s c.as_bytes.result.now steps) c.evaluate.result) c.spec.ensures.is c.evaluate.ensures.finishes in
-    let here = subst (λ (b : List ℕ). Finishes (g.S.Sink.written c.args.out.now) (g.S.Sink.written c.evaluate.new.out) (g.S.Sink.faults c.args.out.now) (g.S.Sink.faults c.evaluate.new.out) (IsEvaluation spec b steps) (IsEvaluationText spec b steps) c.evaluate.result) c.as_bytes.ensures.value made in
-    reads_nothing (g.S.Sink.written c.args.out.now) (g.S.Sink.written c.evaluate.new.out) (g.S.Sink.faults c.args.out.now) (g.S.Sink.faults c.evaluate.new.out) (g.F.Files.faults c.args.files.now) (g.F.Files.faults c.args.files.now) (IsEnd held (task_of c.args.command.now) raw spec) (MayWriteOn held (task_of c.args.command.now) raw spec) c.evaluate.result (subst (λ (k : Command). Finishes (g.S.Sink.written c.args.out.now) (g.S.Sink.written c.evaluate.new.out) (g.S.Sink.faults c.args.out.now) (g.S.Sink.faults c.evaluate.new.out) (IsEnd held (task_of k) raw spec) (MayWriteOn held (task_of k) raw spec) c.evaluate.result) (sym c.in-Eval.is) here)
+    let made = subst (λ (s : Spec). Finishes (g.S.Sink.written c.args.out.now)
+    (g.S.Sink.written c.evaluate.new.out) (g.S.Sink.faults c.args.out.now)
+    (g.S.Sink.faults c.evaluate.new.out) (IsEvaluation s c.as_bytes.result.now steps)
+    (IsEvaluationText s c.as_bytes.result.now steps) c.evaluate.result) c.spec.ensures.is
+    c.evaluate.ensures.finishes in
+    let here = subst (λ (b : List ℕ). Finishes (g.S.Sink.written c.args.out.now)
+    (g.S.Sink.written c.evaluate.new.out) (g.S.Sink.faults c.args.out.now)
+    (g.S.Sink.faults c.evaluate.new.out) (IsEvaluation spec b steps) (IsEvaluationText spec b steps)
+    c.evaluate.result) c.as_bytes.ensures.value made in
+    reads_nothing (g.S.Sink.written c.args.out.now) (g.S.Sink.written c.evaluate.new.out)
+    (g.S.Sink.faults c.args.out.now) (g.S.Sink.faults c.evaluate.new.out)
+    (g.F.Files.faults c.args.files.now) (g.F.Files.faults c.args.files.now)
+    (IsEnd held (task_of c.args.command.now) raw spec)
+    (MayWriteOn held (task_of c.args.command.now) raw spec) c.evaluate.result
+    (subst (λ (k : Command). Finishes (g.S.Sink.written c.args.out.now)
+    (g.S.Sink.written c.evaluate.new.out) (g.S.Sink.faults c.args.out.now)
+    (g.S.Sink.faults c.evaluate.new.out) (IsEnd held (task_of k) raw spec)
+    (MayWriteOn held (task_of k) raw spec) c.evaluate.result) (sym c.in-Eval.is) here)
 
 pub returns-in-Replay-clause-finishes : goal.returns-in-Replay-clause-finishes
 returns-in-Replay-clause-finishes g c =

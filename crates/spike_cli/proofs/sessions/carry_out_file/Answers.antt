@@ -8,7 +8,8 @@ use Rattle.spike_cli.specs.Sessions.{for_bytes, too_long_commands}
 use Rattle.file_replies.proofs.Readings.{line_stopped, reads_bytes}
 use Rattle.spike_cli.proofs.sessions.carry_out_file.Goals as goal
 
-pub returns-in_err-write_all-in-Err-TooLong-clause-finishes : goal.returns-in_err-write_all-in-Err-TooLong-clause-finishes
+pub returns-in_err-write_all-in-Err-TooLong-clause-finishes :
+    goal.returns-in_err-write_all-in-Err-TooLong-clause-finishes
 returns-in_err-write_all-in-Err-TooLong-clause-finishes g c =
     let spec = c.args.admitted.now.spec in
     let held = g.F.Files.held c.args.files.now c.args.commands.now in

@@ -3,7 +3,13 @@ use Rattle.sort_check.proofs.FewDeclarations.{few_declarations}
 use Rattle.step_cases.proofs.specification.specification.Goals as goal
 
 pub elaborate-requires : goal.elaborate-requires
-elaborate-requires c = record { few = few_declarations c.in-Ok.raw (keeps_limits c.args.bytes.now c.in-Ok.raw c.in-Ok.ensures.derived) }
+elaborate-requires c = record {
+  few = few_declarations c.in-Ok.raw
+      (keeps_limits c.args.bytes.now c.in-Ok.raw c.in-Ok.ensures.derived);
+}
 
 pub returns : goal.returns
-returns c = record { sorted = c.in-Ok-elaborate.ensures.sorted (keeps_limits c.args.bytes.now c.in-Ok.raw c.in-Ok.ensures.derived) }
+returns c = record {
+  sorted = c.in-Ok-elaborate.ensures.sorted
+      (keeps_limits c.args.bytes.now c.in-Ok.raw c.in-Ok.ensures.derived);
+}

@@ -49,8 +49,10 @@ wrong_sort h =
     let w = h 0 nat refl in
     let e : Some (app 0 none) ≡ Some w.0 = w.1 in
     let same : w.0 ≡ app 0 none = cc in
-    let p : Sorted naturals_sig (nat ∷ nat ∷ []) (app 0 none) nat = subst (λ t. Sorted naturals_sig (nat ∷ nat ∷ []) t nat) same w.2 in
-    let q : ◌≡◌ {A = SymInfo} (record { args = []; result = record { 0 = 0 } }) p.0 = let a : Some (record { args = []; result = record { 0 = 0 } }) ≡ Some p.0 = p.1 in cc in
+    let p : Sorted naturals_sig (nat ∷ nat ∷ []) (app 0 none) nat = subst
+    (λ t. Sorted naturals_sig (nat ∷ nat ∷ []) t nat) same w.2 in
+    let q : ◌≡◌ {A = SymInfo} (record { args = []; result = record { 0 = 0 } }) p.0 = let a : Some
+    (record { args = []; result = record { 0 = 0 } }) ≡ Some p.0 = p.1 in cc in
     let k : ◌≡◌ {A = ℕ} 0 1 = ap (λ (i : SymInfo). i.result.0) q ∙ ap (λ (s : SortId). s.0) p.2 in
     omega arith
 

@@ -5,4 +5,5 @@ pub compare-requires-clause-first : goal.compare-requires-clause-first
 compare-requires-clause-first c = testable c.args.one.now (c.within.ensures.0 c.if-not-within.false)
 
 pub compare-requires-clause-second : goal.compare-requires-clause-second
-compare-requires-clause-second c = testable c.args.other.now (c.within-else-not-within.ensures.0 c.if-not-within-2.false)
+compare-requires-clause-second c = testable c.args.other.now
+    (c.within-else-not-within.ensures.0 c.if-not-within-2.false)

@@ -47,7 +47,15 @@ returns c = record {
   no_zeroth = no_zeroth;
   no_third = no_third;
   none_below_a_variable = below_a_variable;
-  replaced = (inner, _, _, (1, refl, refl), (var 1, _, _, (0, refl, refl), refl, (0, refl, refl), refl), (1, refl, refl), refl);
+  replaced = (
+    inner,
+    _,
+    _,
+    (1, refl, refl),
+    (var 1, _, _, (0, refl, refl), refl, (0, refl, refl), refl),
+    (1, refl, refl),
+    refl,
+  );
   all_occurrences = refl;
   met_first = refl;
   met_second = refl;

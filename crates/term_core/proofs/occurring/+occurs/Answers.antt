@@ -1,5 +1,6 @@
 -- Whether a variable is in terms, one term more at a time.
-use Rattle.std.proofs.Common.{◌≡◌, ℕ, zero, suc, ◌<◌, List, [], ◌∷◌, true, false, inl, inr, refl, sym, subst, length, get_or, take, add-one, arith}
+use Rattle.std.proofs.Common.{◌≡◌, ℕ, zero, suc, ◌<◌, List, [], ◌∷◌, true, false, inl, inr, refl, sym, subst, length}
+use Rattle.std.proofs.Common.{get_or, take, add-one, arith}
 use Rattle.term_core.specs.Tree.{Tree, trees_of}
 use Rattle.term_core.specs.Variables.{Occurs, OccursAny}
 use Rattle.term_core.proofs.Bounds.{occurs_below}

@@ -8,4 +8,5 @@ returns-in_err-checked_sub c =
 
 pub returns-in_err-get : goal.returns-in_err-get
 returns-in_err-get c =
-    rw c.from_residual-in_err-get.ensures (no_argument c.args.args.now c.from-index.result c.args.number c.in_err-get.ensures (omega (arith, c.in_ok-checked_sub.ensures, c.from-index.ensures)))
+    rw c.from_residual-in_err-get.ensures (no_argument c.args.args.now c.from-index.result c.args.number
+    c.in_err-get.ensures (omega (arith, c.in_ok-checked_sub.ensures, c.from-index.ensures)))

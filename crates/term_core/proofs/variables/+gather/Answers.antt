@@ -14,7 +14,9 @@ gather-returns-in_ok-push-in-Var t c =
     let numbers : List VarId → List ℕ = λ vars. map (λ (v : VarId). v.0) vars in
     let found = c.args.found.now in
     let variable = ap tree_of (sym c.in-Var.is) ∙ c.term.view_is in
-    let new = sym (any_number c.in-Var.var.0 found) ∙ ap (λ vars. list_any (λ (v : VarId). eqb v.0 c.in-Var.var.0) vars) (sym c.as_slice.ensures) ∙ sym c.if-not-contains.ensures.value in
+    let new = sym (any_number c.in-Var.var.0 found)
+    ∙ ap (λ vars. list_any (λ (v : VarId). eqb v.0 c.in-Var.var.0) vars) (sym c.as_slice.ensures)
+    ∙ sym c.if-not-contains.ensures.value in
     ap numbers c.in_ok-push-in-Var.ensures.pushed
     ∙ map-append (λ (v : VarId). v.0) found (c.in-Var.var ∷ [])
     ∙ sym (met_new (numbers found) c.in-Var.var.0 new)
@@ -25,14 +27,25 @@ gather-returns-else-not-contains t c =
     let numbers : List VarId → List ℕ = λ vars. map (λ (v : VarId). v.0) vars in
     let found = c.args.found.now in
     let variable = ap tree_of (sym c.in-Var.is) ∙ c.term.view_is in
-    let old = sym (any_number c.in-Var.var.0 found) ∙ ap (λ vars. list_any (λ (v : VarId). eqb v.0 c.in-Var.var.0) vars) (sym c.as_slice.ensures) ∙ sym c.if-not-contains.ensures.value in
+    let old = sym (any_number c.in-Var.var.0 found)
+    ∙ ap (λ vars. list_any (λ (v : VarId). eqb v.0 c.in-Var.var.0) vars) (sym c.as_slice.ensures)
+    ∙ sym c.if-not-contains.ensures.value in
     sym (met_old (numbers found) c.in-Var.var.0 old) ∙ ap (λ u. gathered (numbers found) (occurrences u)) variable
 
 pub gather_all-gather-requires : goal.gather_all-gather-requires
-gather_all-gather-requires t c = (omega (arith, weight-member c.args.terms.now c.loop-term.term-index c.term-item.result c.loop-term-test.true c.term-item.is), tt)
+gather_all-gather-requires t
+    c = (
+      omega (
+        arith,
+        weight-member c.args.terms.now c.loop-term.term-index c.term-item.result
+            c.loop-term-test.true c.term-item.is,
+      ),
+      tt,
+    )
 
 pub gather_all-loop-term-preserved : goal.gather_all-loop-term-preserved
 gather_all-loop-term-preserved t c =
     c.in_ok-gather.ensures
     ∙ ap (λ found. gathered found (occurrences c.term-item.result)) c.loop-term.invariant
-    ∙ sym (gathered-take_more _ c.args.terms.now c.loop-term.term-index c.term-item.result c.loop-term-test.true c.term-item.is)
+    ∙ sym (gathered-take_more _ c.args.terms.now c.loop-term.term-index c.term-item.result c.loop-term-test.true
+    c.term-item.is)

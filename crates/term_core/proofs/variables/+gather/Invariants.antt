@@ -14,4 +14,5 @@ decreases-gather_all l = list_weight l.terms.now
 
 abbrev pub invariant-gather_all-loop-term : goal.invariant-gather_all-loop-term
 invariant-gather_all-loop-term l =
-    map (λ (v : VarId). v.0) l.found ≡ gathered (map (λ (v : VarId). v.0) l.fn.found) (occurrences_all (trees_of (take l.term-index l.terms)))
+    map (λ (v : VarId). v.0) l.found ≡ gathered (map (λ (v : VarId). v.0) l.fn.found)
+    (occurrences_all (trees_of (take l.term-index l.terms)))

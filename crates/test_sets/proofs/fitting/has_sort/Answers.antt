@@ -12,6 +12,7 @@ returns-in-Some c =
     let t = c.args.term.now in
     let found = c.in-Some.found in
     let s = c.args.sort in (
-      λ same. (let e : found.0 ≡ s.0 = eqb-true found.0 s.0 same in let r : found ≡ s = λ i. record { 0 = e i } in subst (λ x. Sorted sig ctx t x) r c.in-Some.ensures),
+      λ same. (let e : found.0 ≡ s.0 = eqb-true found.0 s.0 same in
+          let r : found ≡ s = λ i. record { 0 = e i } in subst (λ x. Sorted sig ctx t x) r c.in-Some.ensures),
       λ is. eq-eqb found.0 s.0 (ap (λ (x : SortId). x.0) (sort_unique sig ctx t found s c.in-Some.ensures is)),
     )

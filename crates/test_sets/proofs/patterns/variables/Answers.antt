@@ -8,4 +8,5 @@ loop-number-preserved c =
     let n = c.loop-number.number in
     c.in_ok-push.ensures.items
     ∙ ap (λ (t : Tree). c.loop-number.terms.items ++ Some t ∷ []) c.var.ensures
-    ∙ entries_next c.args.from n c.loop-number.terms.items (omega (arith, c.loop-number.auto.number)) c.loop-number.invariant
+    ∙ entries_next c.args.from n c.loop-number.terms.items (omega (arith, c.loop-number.auto.number))
+    c.loop-number.invariant

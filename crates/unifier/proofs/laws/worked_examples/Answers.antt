@@ -1,5 +1,6 @@
 use Rattle.std.proofs.Common.{refl}
-use Rattle.unifier.proofs.SampleUnifiers.{not_general, general, relevant, not_relevant, sums, clash, occurs, too_large, not_too_large}
+use Rattle.unifier.proofs.SampleUnifiers.{not_general, general, relevant, not_relevant, sums, clash, occurs, too_large}
+use Rattle.unifier.proofs.SampleUnifiers.{not_too_large}
 use Rattle.unifier.proofs.laws.worked_examples.Goals as goal
 
 pub returns : goal.returns

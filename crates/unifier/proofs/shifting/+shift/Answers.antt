@@ -21,17 +21,34 @@ shift-returns-in_ok-shift_all-in-App-clause-shifted t c =
     let xs = c.as_slice.result.now in
     let same : xs ≡ c.in-App.args = c.as_slice.ensures in
     let made : c.in_ok-shift_all-in-App.field-0 ≡ map (shifted by) xs = c.in_ok-shift_all-in-App.ensures.shifted in
-    let view : app c.in-App.sym.0 (trees_of c.in-App.args) ≡ c.args.term.now = ap tree_of (sym c.in-App.is) ∙ c.term.view_is in
-    c.app.ensures ∙ ap (λ us. app c.in-App.sym.0 us) (ap trees_of made ∙ sym (shifted_all-trees_of by xs) ∙ ap (λ us. shifted_all by (trees_of us)) same) ∙ ap (shifted by) view
+    let view : app c.in-App.sym.0 (trees_of c.in-App.args) ≡ c.args.term.now = ap tree_of (sym c.in-App.is)
+    ∙ c.term.view_is in
+    c.app.ensures ∙ ap (λ us. app c.in-App.sym.0 us) (ap trees_of made ∙ sym (shifted_all-trees_of by xs)
+    ∙ ap (λ us. shifted_all by (trees_of us)) same) ∙ ap (shifted by) view
 
 pub shift_all-shift-requires : goal.shift_all-shift-requires
-shift_all-shift-requires t c = (omega (arith, weight-member c.args.terms.now c.loop-term.term-index c.term-item.result c.loop-term-test.true c.term-item.is), tt)
+shift_all-shift-requires t
+    c = (
+      omega (
+        arith,
+        weight-member c.args.terms.now c.loop-term.term-index c.term-item.result
+            c.loop-term-test.true c.term-item.is,
+      ),
+      tt,
+    )
 
 pub shift_all-returns-in_err-shift-clause-too_large :
     goal.shift_all-returns-in_err-shift-clause-too_large
 shift_all-returns-in_err-shift-clause-too_large t c =
-    λ e. too_large_member c.args.by c.args.terms.now c.loop-term.term-index c.term-item.result c.loop-term-test.true c.term-item.is (c.in_err-shift.ensures.too_large (ap Err (same_error c.from_residual-in_err-shift.result too_large c.in_err-shift.field-0.0 e c.from_residual-in_err-shift.ensures.1)))
+    λ e. too_large_member c.args.by c.args.terms.now c.loop-term.term-index c.term-item.result
+    c.loop-term-test.true c.term-item.is
+    (c.in_err-shift.ensures.too_large
+    (ap Err (same_error c.from_residual-in_err-shift.result too_large c.in_err-shift.field-0.0 e
+    c.from_residual-in_err-shift.ensures.1)))
 
 pub shift_all-loop-term-preserved : goal.shift_all-loop-term-preserved
-shift_all-loop-term-preserved t c =
-    (grind (arith, common_steps, c.loop-term.invariant.0, c.in_ok-push.ensures.pushed), within_more c.args.by c.args.terms.now c.loop-term.term-index c.term-item.result c.loop-term-test.true c.term-item.is c.loop-term.invariant.1 c.in_ok-shift.ensures.within)
+shift_all-loop-term-preserved t c = (
+  grind (arith, common_steps, c.loop-term.invariant.0, c.in_ok-push.ensures.pushed),
+  within_more c.args.by c.args.terms.now c.loop-term.term-index c.term-item.result c.loop-term-test.true
+      c.term-item.is c.loop-term.invariant.1 c.in_ok-shift.ensures.within,
+)

@@ -11,4 +11,5 @@ abbrev pub decreases-shift_all : goal.decreases-shift_all
 decreases-shift_all l = list_weight l.terms.now
 
 abbrev pub invariant-shift_all-loop-term : goal.invariant-shift_all-loop-term
-invariant-shift_all-loop-term l = (l.made ≡ map (shifted l.by) (take l.term-index l.terms)) × (HaveTooLarge l.by (trees_of (take l.term-index l.terms)) → ⊥)
+invariant-shift_all-loop-term l = (l.made ≡ map (shifted l.by) (take l.term-index l.terms))
+    × (HaveTooLarge l.by (trees_of (take l.term-index l.terms)) → ⊥)

@@ -8,7 +8,8 @@ use Rattle.bank_machine.proofs.machine.Machine.turn.Goals as goal
 pub at-kind-requires : goal.at-kind-requires
 at-kind-requires c =
     let q = c.requires.works in
-    subst (λ (p : Program). c.args.stack.now.next < length p.code) (sym c.self.view_is) (code_there c.args.self.now.code c.args.stack.now.next q.0.top.steps q.0.top.end q.2.at.code)
+    subst (λ (p : Program). c.args.stack.now.next < length p.code) (sym c.self.view_is)
+    (code_there c.args.self.now.code c.args.stack.now.next q.0.top.steps q.0.top.end q.2.at.code)
 
 pub build-requires-clause-works : goal.build-requires-clause-works
 build-requires-clause-works c =
@@ -34,7 +35,8 @@ pub returns-in-Build-clause-turn : goal.returns-in-Build-clause-turn
 returns-in-Build-clause-turn c = if_ok_map c.build.result _ _ (λ turn h. h c.args.left) c.build.ensures.turn
 
 pub returns-in-Build-clause-kept : goal.returns-in-Build-clause-kept
-returns-in-Build-clause-kept c = right_kept c.args.self.now.spec c.args.bank.now c.build.new.bank c.args.kept.now c.build.ensures.adds c.requires.kept
+returns-in-Build-clause-kept c = right_kept c.args.self.now.spec c.args.bank.now c.build.new.bank
+    c.args.kept.now c.build.ensures.adds c.requires.kept
 
 pub returns-in-Decide-clause-turn : goal.returns-in-Decide-clause-turn
 returns-in-Decide-clause-turn c = c.decide.ensures c.args.left

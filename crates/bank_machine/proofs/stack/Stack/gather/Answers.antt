@@ -7,10 +7,15 @@ use Rattle.bank_machine.proofs.StackMoves.{gathered_next}
 use Rattle.bank_machine.proofs.stack.Stack.gather.Goals as goal
 
 pub slot-requires : goal.slot-requires
-slot-requires c = all_at (λ (s : ℕ). c.args.self.now.base + s < length c.args.self.now.places.items) c.args.slots.now c.requires c.loop-slot.slot-index _ (slice_get-get_or c.args.slots.now c.loop-slot.slot-index 0 c.loop-slot-test.true)
+slot-requires c = all_at (λ (s : ℕ). c.args.self.now.base + s < length c.args.self.now.places.items)
+    c.args.slots.now c.requires c.loop-slot.slot-index _
+    (slice_get-get_or c.args.slots.now c.loop-slot.slot-index 0 c.loop-slot-test.true)
 
 pub loop-slot-preserved : goal.loop-slot-preserved
-loop-slot-preserved c = gathered_next c.args.self.now.places.items c.args.self.now.base c.args.slots.now c.loop-slot.slot-index c.loop-slot-test.true c.loop-slot.args.items c.push.new.self.items c.slot.result c.loop-slot.invariant c.slot.ensures c.in_ok-push.ensures.items
+loop-slot-preserved c = gathered_next c.args.self.now.places.items c.args.self.now.base c.args.slots.now
+    c.loop-slot.slot-index c.loop-slot-test.true c.loop-slot.args.items c.push.new.self.items c.slot.result
+    c.loop-slot.invariant c.slot.ensures c.in_ok-push.ensures.items
 
 pub returns : goal.returns
-returns c = c.loop-slot.invariant ∙ ap (λ z. gathered c.args.self.now.places.items c.args.self.now.base z) (take_all c.loop-slot.slot-index c.args.slots.now (omega (arith, c.loop-slot-test.false)))
+returns c = c.loop-slot.invariant ∙ ap (λ z. gathered c.args.self.now.places.items c.args.self.now.base z)
+    (take_all c.loop-slot.slot-index c.args.slots.now (omega (arith, c.loop-slot-test.false)))

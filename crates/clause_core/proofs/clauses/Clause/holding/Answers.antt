@@ -8,8 +8,13 @@ use Rattle.clause_core.proofs.HeldTerms.{stands, holds}
 use Rattle.clause_core.proofs.clauses.Clause.holding.Goals as goal
 
 pub replaced-requires : goal.replaced-requires
-replaced-requires c =
-    (c.requires.term, subst (λ path. IsAt path (side c.args.place.now.left c.in-Some.equation.now) c.requires.term) (sym c.as_slice.ensures) (stands c.args.self.now c.args.place.now c.in-Some.equation.now c.in-Some.ensures.0 c.in-Some.ensures.1 c.requires))
+replaced-requires c = (
+  c.requires.term,
+  subst (λ path. IsAt path (side c.args.place.now.left c.in-Some.equation.now)
+      c.requires.term) (sym c.as_slice.ensures)
+      (stands c.args.self.now c.args.place.now c.in-Some.equation.now c.in-Some.ensures.0 c.in-Some.ensures.1
+      c.requires),
+)
 
 pub returns : goal.returns
 returns c =
@@ -18,9 +23,11 @@ returns c =
     let e : Equation = c.in-Some.equation.now in
     let h = c.in_ok-changed.ensures in
     let d : Equation = c.in_ok-changed.changed in
-    let made_list : c.push.new.self.items ≡ d ∷ [] = c.in_ok-push.ensures.items ∙ ap (λ (es : List Equation). es ++ d ∷ []) c.new-made.ensures.items in
+    let made_list : c.push.new.self.items ≡ d ∷ [] = c.in_ok-push.ensures.items
+    ∙ ap (λ (es : List Equation). es ++ d ∷ []) c.new-made.ensures.items in
     if_ok_map c.exchanged.result
-    (λ made. (at : EquationAt (equations place.conclusion clause) place.number) → made ≡ exchanged place.conclusion clause at c.push.new.self.items)
+    (λ made. (at : EquationAt (equations place.conclusion clause) place.number) →
+    made ≡ exchanged place.conclusion clause at c.push.new.self.items)
     (λ made. (p : TermAt clause place) → made ≡ holding p c.args.new)
     (λ made is. holds clause place e c.in-Some.ensures.0 c.in-Some.ensures.1 c.args.new h.0 d made h.1
     (subst (λ path. IsReplaced path (side place.left e) c.args.new h.0) c.as_slice.ensures h.2)

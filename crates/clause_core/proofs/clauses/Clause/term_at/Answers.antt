@@ -6,5 +6,6 @@ returns-in_err-equation c = rw c.from_residual.ensures (λ p. c.in_err-equation.
 
 pub returns : goal.returns
 returns c =
-    looked_up c.args.self.now c.args.place.now c.in_ok-equation.equation.now c.in_ok-equation.ensures.0 c.in_ok-equation.ensures.1
+    looked_up c.args.self.now c.args.place.now c.in_ok-equation.equation.now c.in_ok-equation.ensures.0
+    c.in_ok-equation.ensures.1
     c.as_slice.result.now c.side.result.now c.as_slice.ensures c.side.ensures c.at.result c.at.ensures

@@ -19,43 +19,70 @@ whole_verdict-requires-clause-kept c =
 pub whole_verdict-requires-clause-ready : goal.whole_verdict-requires-clause-ready
 whole_verdict-requires-clause-ready c =
     let i = c.self.inside in
-    let fine : IsWellSorted i.spec.now = subst (λ (z : Partial). IsWellSorted z.spec) (sym c.self.view_is) c.requires.fine in
-    let q : GoalIsSorted i.spec.now.sig i.goal.now = subst (λ (z : Partial). GoalIsSorted z.spec.sig z.goal) (sym c.self.view_is) (c.requires.fine.goals c.requires.listed.0 c.args.self.now.goal c.requires.listed.1) in
+    let fine : IsWellSorted i.spec.now = subst (λ (z : Partial). IsWellSorted z.spec) (sym c.self.view_is)
+    c.requires.fine in
+    let q : GoalIsSorted i.spec.now.sig i.goal.now = subst (λ (z : Partial). GoalIsSorted z.spec.sig z.goal)
+    (sym c.self.view_is) (c.requires.fine.goals c.requires.listed.0 c.args.self.now.goal c.requires.listed.1) in
     let I = c.self.invariant in
     let terms = c.requires.values.0 in
     let stand = c.requires.values.1 in
     let first0 = c.requires.values.2 in
-    let first : AreFirstValues i.spec.now i.goal.now terms = subst (λ (z : Partial). AreFirstValues z.spec z.goal terms) (sym c.self.view_is) first0 in
+    let first : AreFirstValues i.spec.now i.goal.now terms = subst
+    (λ (z : Partial). AreFirstValues z.spec z.goal terms) (sym c.self.view_is) first0 in
     let long : length c.args.fixed.now ≡ length terms = places_count c.args.bank.now c.args.fixed.now terms stand in
     let all : length terms ≡ length i.goal.now.vars = omega (arith, long, c.if-fixed-count.true, c.len-count.ensures) in
-    let w = whole_ready i.spec.now i.goal.now i.machine i.opened.now.goal i.constants i.premises.items i.conclusions.items I fine q terms c.args.bank.now c.args.fixed.now stand (values_of_all i.spec.now i.goal.now i.machine i.opened.now.goal i.constants i.premises.items i.conclusions.items I fine q terms first all) in
-    let g = there i.spec.now i.goal.now i.machine i.opened.now.goal i.constants i.premises.items i.conclusions.items I fine q in
-    let left : CanCompareAll i.machine c.args.bank.now c.as_slice-premises.result.now c.args.fixed.now g.premises terms = subst (λ ps. CanCompareAll i.machine c.args.bank.now ps c.args.fixed.now g.premises terms) (sym c.as_slice-premises.ensures.value) w.0 in
-    let right : CanCompareAll i.machine c.args.bank.now c.as_slice-conclusions.result.now c.args.fixed.now g.conclusions terms = subst (λ ps. CanCompareAll i.machine c.args.bank.now ps c.args.fixed.now g.conclusions terms) (sym c.as_slice-conclusions.ensures.value) w.1 in
+    let w = whole_ready i.spec.now i.goal.now i.machine i.opened.now.goal i.constants i.premises.items
+    i.conclusions.items I fine q terms c.args.bank.now c.args.fixed.now stand
+    (values_of_all i.spec.now i.goal.now i.machine i.opened.now.goal i.constants i.premises.items
+    i.conclusions.items I fine q terms first all) in
+    let g = there i.spec.now i.goal.now i.machine i.opened.now.goal i.constants i.premises.items
+    i.conclusions.items I fine q in
+    let left : CanCompareAll i.machine c.args.bank.now c.as_slice-premises.result.now c.args.fixed.now
+    g.premises terms = subst (λ ps. CanCompareAll i.machine c.args.bank.now ps c.args.fixed.now g.premises
+    terms) (sym c.as_slice-premises.ensures.value) w.0 in
+    let right : CanCompareAll i.machine c.args.bank.now c.as_slice-conclusions.result.now c.args.fixed.now
+    g.conclusions terms = subst (λ ps. CanCompareAll i.machine c.args.bank.now ps c.args.fixed.now
+    g.conclusions terms) (sym c.as_slice-conclusions.ensures.value) w.1 in
     (g, terms, left, right)
 
 pub returns-then-fixed-count-clause-part : goal.returns-then-fixed-count-clause-part
 returns-then-fixed-count-clause-part c terms stand first0 =
     let i = c.self.inside in
-    let fine : IsWellSorted i.spec.now = subst (λ (z : Partial). IsWellSorted z.spec) (sym c.self.view_is) c.requires.fine in
-    let q : GoalIsSorted i.spec.now.sig i.goal.now = subst (λ (z : Partial). GoalIsSorted z.spec.sig z.goal) (sym c.self.view_is) (c.requires.fine.goals c.requires.listed.0 c.args.self.now.goal c.requires.listed.1) in
+    let fine : IsWellSorted i.spec.now = subst (λ (z : Partial). IsWellSorted z.spec) (sym c.self.view_is)
+    c.requires.fine in
+    let q : GoalIsSorted i.spec.now.sig i.goal.now = subst (λ (z : Partial). GoalIsSorted z.spec.sig z.goal)
+    (sym c.self.view_is) (c.requires.fine.goals c.requires.listed.0 c.args.self.now.goal c.requires.listed.1) in
     let I = c.self.invariant in
-    let first : AreFirstValues i.spec.now i.goal.now terms = subst (λ (z : Partial). AreFirstValues z.spec z.goal terms) (sym c.self.view_is) first0 in
+    let first : AreFirstValues i.spec.now i.goal.now terms = subst
+    (λ (z : Partial). AreFirstValues z.spec z.goal terms) (sym c.self.view_is) first0 in
     let long : length c.args.fixed.now ≡ length terms = places_count c.args.bank.now c.args.fixed.now terms stand in
     let all : length terms ≡ length i.goal.now.vars = omega (arith, long, c.if-fixed-count.true, c.len-count.ensures) in
-    let w = whole_ready i.spec.now i.goal.now i.machine i.opened.now.goal i.constants i.premises.items i.conclusions.items I fine q terms c.args.bank.now c.args.fixed.now stand (values_of_all i.spec.now i.goal.now i.machine i.opened.now.goal i.constants i.premises.items i.conclusions.items I fine q terms first all) in
-    let g = there i.spec.now i.goal.now i.machine i.opened.now.goal i.constants i.premises.items i.conclusions.items I fine q in
-    let left : CanCompareAll i.machine c.args.bank.now c.as_slice-premises.result.now c.args.fixed.now g.premises terms = subst (λ ps. CanCompareAll i.machine c.args.bank.now ps c.args.fixed.now g.premises terms) (sym c.as_slice-premises.ensures.value) w.0 in
-    let right : CanCompareAll i.machine c.args.bank.now c.as_slice-conclusions.result.now c.args.fixed.now g.conclusions terms = subst (λ ps. CanCompareAll i.machine c.args.bank.now ps c.args.fixed.now g.conclusions terms) (sym c.as_slice-conclusions.ensures.value) w.1 in
-    subst (λ (z : Partial). AllHaveVerdict z.spec z.goal terms c.args.budget c.in_ok-verdict.verdict) c.self.view_is (whole_part i.spec.now i.goal.now i.machine i.opened.now.goal i.constants i.premises.items i.conclusions.items I fine q terms first all c.args.budget c.in_ok-verdict.verdict (c.in_ok-verdict.ensures.decided g terms left right))
+    let w = whole_ready i.spec.now i.goal.now i.machine i.opened.now.goal i.constants i.premises.items
+    i.conclusions.items I fine q terms c.args.bank.now c.args.fixed.now stand
+    (values_of_all i.spec.now i.goal.now i.machine i.opened.now.goal i.constants i.premises.items
+    i.conclusions.items I fine q terms first all) in
+    let g = there i.spec.now i.goal.now i.machine i.opened.now.goal i.constants i.premises.items
+    i.conclusions.items I fine q in
+    let left : CanCompareAll i.machine c.args.bank.now c.as_slice-premises.result.now c.args.fixed.now
+    g.premises terms = subst (λ ps. CanCompareAll i.machine c.args.bank.now ps c.args.fixed.now g.premises
+    terms) (sym c.as_slice-premises.ensures.value) w.0 in
+    let right : CanCompareAll i.machine c.args.bank.now c.as_slice-conclusions.result.now c.args.fixed.now
+    g.conclusions terms = subst (λ ps. CanCompareAll i.machine c.args.bank.now ps c.args.fixed.now
+    g.conclusions terms) (sym c.as_slice-conclusions.ensures.value) w.1 in
+    subst (λ (z : Partial). AllHaveVerdict z.spec z.goal terms c.args.budget c.in_ok-verdict.verdict)
+    c.self.view_is (whole_part i.spec.now i.goal.now i.machine i.opened.now.goal i.constants
+    i.premises.items i.conclusions.items I fine q terms first all c.args.budget c.in_ok-verdict.verdict
+    (c.in_ok-verdict.ensures.decided g terms left right))
 
 pub returns-then-fixed-count-clause-marks : goal.returns-then-fixed-count-clause-marks
 returns-then-fixed-count-clause-marks c =
-    marks_kept c.args.self.now.spec.sig.constructors c.args.self.now.extended.sig.constructors c.args.bank.now c.whole_verdict.new.bank c.args.marks.now.marks.items c.in_ok-verdict.ensures.adds c.requires.marks
+    marks_kept c.args.self.now.spec.sig.constructors c.args.self.now.extended.sig.constructors c.args.bank.now
+    c.whole_verdict.new.bank c.args.marks.now.marks.items c.in_ok-verdict.ensures.adds c.requires.marks
 
 pub returns-in_err-verdict-clause-marks : goal.returns-in_err-verdict-clause-marks
 returns-in_err-verdict-clause-marks c =
-    marks_kept c.args.self.now.spec.sig.constructors c.args.self.now.extended.sig.constructors c.args.bank.now c.whole_verdict.new.bank c.args.marks.now.marks.items c.whole_verdict.ensures.adds c.requires.marks
+    marks_kept c.args.self.now.spec.sig.constructors c.args.self.now.extended.sig.constructors c.args.bank.now
+    c.whole_verdict.new.bank c.args.marks.now.marks.items c.whole_verdict.ensures.adds c.requires.marks
 
 pub verdict_over-requires-clause-entries : goal.verdict_over-requires-clause-entries
 verdict_over-requires-clause-entries c =
@@ -66,7 +93,9 @@ pub returns-in-Some-clause-part : goal.returns-in-Some-clause-part
 returns-in-Some-clause-part c terms stand first =
     let z = c.args.self.now in
     let e = first_entries z c.args.bank.now c.args.fixed.now terms stand first in
-    all_have z.spec c.requires.fine z.goal c.args.budget terms e.fit c.in-Some.verdict (subst (λ r. SayOfAll z.spec z.goal c.args.budget terms r) c.in-Some.is (c.in_ok-verdict-2.ensures.says terms e))
+    all_have z.spec c.requires.fine z.goal c.args.budget terms e.fit c.in-Some.verdict
+    (subst (λ r. SayOfAll z.spec z.goal c.args.budget terms r) c.in-Some.is
+    (c.in_ok-verdict-2.ensures.says terms e))
 
 pub overflow_cast-result : goal.overflow_cast-result
 overflow_cast-result c =
@@ -82,17 +111,37 @@ returns-in-None-clause-part c terms stand first =
     let e = first_entries z c.args.bank.now c.args.fixed.now terms stand first in
     let i = c.self.inside in
     let count : length i.goal.now.vars ≡ length z.goal.vars = ap (λ (p : Partial). length p.goal.vars) c.self.view_is in
-    let long = places_count c.args.bank.now c.args.fixed.now terms stand in
-    (omega (arith, long), omega (arith, no_more_entries z c.args.bank.now c.args.fixed.now terms e, count, c.len-count.ensures, c.if-fixed-count.false), open_yet z.spec c.requires.fine z.goal c.args.budget terms e.fit (subst (λ r. SayOfAll z.spec z.goal c.args.budget terms r) c.in-None.is (c.in_ok-verdict-2.ensures.says terms e)))
+    let long = places_count c.args.bank.now c.args.fixed.now terms stand in (
+      omega (arith, long),
+      omega (
+        arith,
+        no_more_entries z c.args.bank.now c.args.fixed.now terms e,
+        count,
+        c.len-count.ensures,
+        c.if-fixed-count.false,
+      ),
+      open_yet z.spec c.requires.fine z.goal c.args.budget terms e.fit
+          (subst (λ r. SayOfAll z.spec z.goal c.args.budget terms r) c.in-None.is
+          (c.in_ok-verdict-2.ensures.says terms e)),
+    )
 
 pub returns-then-fixed-count-clause-few : goal.returns-then-fixed-count-clause-few
 returns-then-fixed-count-clause-few c =
     let i = c.self.inside in
-    let once = few_evaluated i.spec.now i.goal.now i.machine i.opened.now.goal i.constants i.premises.items i.conclusions.items c.self.invariant c.args.budget (length c.args.bank.now) (length c.whole_verdict.new.bank) c.as_slice-premises.result.now c.as_slice-conclusions.result.now c.as_slice-premises.ensures.value c.as_slice-conclusions.ensures.value c.in_ok-verdict.ensures.few in
-    few_looked c.args.self.now c.args.budget (length c.args.bank.now) (length c.whole_verdict.new.bank) (subst (λ (z : Partial). length c.whole_verdict.new.bank ≤ length c.args.bank.now + most_evaluated z c.args.budget) c.self.view_is once)
+    let once = few_evaluated i.spec.now i.goal.now i.machine i.opened.now.goal i.constants i.premises.items
+    i.conclusions.items c.self.invariant c.args.budget (length c.args.bank.now)
+    (length c.whole_verdict.new.bank) c.as_slice-premises.result.now c.as_slice-conclusions.result.now
+    c.as_slice-premises.ensures.value c.as_slice-conclusions.ensures.value c.in_ok-verdict.ensures.few in
+    few_looked c.args.self.now c.args.budget (length c.args.bank.now) (length c.whole_verdict.new.bank)
+    (subst (λ (z : Partial). length c.whole_verdict.new.bank ≤ length c.args.bank.now + most_evaluated z
+    c.args.budget) c.self.view_is once)
 
 pub returns-in-Some-clause-few : goal.returns-in-Some-clause-few
-returns-in-Some-clause-few c = few_over c.args.self.now c.args.budget (length c.args.self.now.goal.vars - length c.args.fixed.now) (length c.args.bank.now) (length c.verdict_over.new.bank) (omega arith) c.in_ok-verdict-2.ensures.few
+returns-in-Some-clause-few c = few_over c.args.self.now c.args.budget
+    (length c.args.self.now.goal.vars - length c.args.fixed.now) (length c.args.bank.now)
+    (length c.verdict_over.new.bank) (omega arith) c.in_ok-verdict-2.ensures.few
 
 pub returns-in-None-clause-few : goal.returns-in-None-clause-few
-returns-in-None-clause-few c = few_over c.args.self.now c.args.budget (length c.args.self.now.goal.vars - length c.args.fixed.now) (length c.args.bank.now) (length c.verdict_over.new.bank) (omega arith) c.in_ok-verdict-2.ensures.few
+returns-in-None-clause-few c = few_over c.args.self.now c.args.budget
+    (length c.args.self.now.goal.vars - length c.args.fixed.now) (length c.args.bank.now)
+    (length c.verdict_over.new.bank) (omega arith) c.in_ok-verdict-2.ensures.few

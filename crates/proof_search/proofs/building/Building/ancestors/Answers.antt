@@ -1,9 +1,11 @@
 use Rattle.std.proofs.Common.{◌≡◌, [], ◌∷◌, ◌++◌, true, false, length, get_or, ap, sym, ◌∙◌, subst, arith}
 use Rattle.std.proofs.lemmas.Bool.{eqb-true, eq-eqb}
 use Rattle.routine_proof.specs.Ways.{Node}
-use Rattle.proof_search.proofs.Climbing.{Climbs, parent_of, cover_is, climb_move, climb_before, climb_on, climb_ends, no_length}
+use Rattle.proof_search.proofs.Climbing.{Climbs, parent_of, cover_is, climb_move, climb_before, climb_on, climb_ends}
+use Rattle.proof_search.proofs.Climbing.{no_length}
 use Rattle.proof_search.proofs.building.Building.ancestors.Goals as goal
-use Rattle.proof_search.proofs.building.Building.ancestors.Goals.{then-not-is_empty-via-then-not-is_empty, then-not-is_empty-via-else-not-is_empty+then-not-is_cover}
+use Rattle.proof_search.proofs.building.Building.ancestors.Goals.{then-not-is_empty-via-then-not-is_empty}
+use Rattle.proof_search.proofs.building.Building.ancestors.Goals.{then-not-is_empty-via-else-not-is_empty+then-not-is_cover}
 
 pub bounds-steps-here : goal.bounds-steps-here
 bounds-steps-here c =

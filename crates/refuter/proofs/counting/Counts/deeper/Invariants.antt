@@ -7,5 +7,6 @@ use Rattle.refuter.proofs.counting.Counts.deeper.Given as goal
 abbrev pub invariant-loop-sort : goal.invariant-loop-sort
 invariant-loop-sort l = record {
   long : length l.table ≡ l.sort;
-  each : (s : SortId) (numbers : List ℕ) → slice_get l.table s.0 ≡ Some numbers → IsCapped l.self.cap (values_of_size l.self.sig (l.self.depth + 1) s) numbers;
+  each : (s : SortId) (numbers : List ℕ) → slice_get l.table s.0 ≡ Some numbers →
+      IsCapped l.self.cap (values_of_size l.self.sig (l.self.depth + 1) s) numbers;
 }

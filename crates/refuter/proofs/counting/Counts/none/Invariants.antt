@@ -7,5 +7,6 @@ use Rattle.refuter.proofs.counting.Counts.none.Given as goal
 abbrev pub invariant-loop-sort : goal.invariant-loop-sort
 invariant-loop-sort l = record {
   long : length l.table ≡ l._sort;
-  each : (s : SortId) (numbers : List ℕ) → slice_get l.table s.0 ≡ Some numbers → IsCapped l.cap (values_of_size l.sig 0 s) numbers;
+  each : (s : SortId) (numbers : List ℕ) → slice_get l.table s.0 ≡ Some numbers →
+      IsCapped l.cap (values_of_size l.sig 0 s) numbers;
 }

@@ -15,7 +15,8 @@ decreases-first_made l = 10 * l.depth + 10
 
 abbrev pub invariant-first_made-loop-number : goal.invariant-first_made-loop-number
 invariant-first_made-loop-number l = record {
-  first : slice_get (made_from l.self l.depth l.sort l.bound l.number) 0 ≡ slice_get (made_from l.self l.depth l.sort l.bound l.from) 0;
+  first : slice_get (made_from l.self l.depth l.sort l.bound l.number) 0 ≡ slice_get
+      (made_from l.self l.depth l.sort l.bound l.from) 0;
   same : l.row.items ≡ l.fn.row.items;
   adds : AddsCells l.fn.bank l.bank;
   few : length l.bank ≤ length l.fn.bank;

@@ -16,7 +16,8 @@ decreases-look_through l = 3 * length l.others.now + 3
 
 abbrev pub invariant-look_through-loop-more : goal.invariant-look_through-loop-more
 invariant-look_through-loop-more l = record {
-  walked : Through l.self.prepared.now.spec l.self.prepared.now.goal l.self.budget l.self.tries l.depth l.bound l.firsts l.others l.fn.bank l.bank l.fn.row.items l.row.items l.start l.fn.tally l.tally l.more;
+  walked : Through l.self.prepared.now.spec l.self.prepared.now.goal l.self.budget l.self.tries l.depth l.bound
+      l.firsts l.others l.fn.bank l.bank l.fn.row.items l.row.items l.start l.fn.tally l.tally l.more;
   kept : AreRightTables l.self.prepared.now l.bank l.tables;
   tally : IsTally l.self.tries l.tally;
   few : length l.bank ≤ max (length l.fn.bank) (most_cells l.self) + l.self.bound;

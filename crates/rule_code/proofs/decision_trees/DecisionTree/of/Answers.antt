@@ -7,11 +7,14 @@ use Rattle.rule_code.proofs.decision_trees.DecisionTree.of.Goals as goal
 
 pub nodes-init : goal.nodes-init
 nodes-init c =
-    let shown : c.push.new.self.items ≡ c.leaf.result ∷ [] = c.in_ok-push.ensures.items ∙ ap (λ xs. xs ++ c.leaf.result ∷ []) c.new-nodes.ensures.items in
-    let all : c.leaf.result.rules.items ≡ c.args.numbers.now = ap (λ (v : Vec ℕ). v.items) c.leaf.ensures.rules ∙ c.in_ok-extend_from_slice.ensures.items ∙ ap (λ xs. xs ++ c.args.numbers.now) c.new-all.ensures.items in
+    let shown : c.push.new.self.items ≡ c.leaf.result ∷ [] = c.in_ok-push.ensures.items
+    ∙ ap (λ xs. xs ++ c.leaf.result ∷ []) c.new-nodes.ensures.items in
+    let all : c.leaf.result.rules.items ≡ c.args.numbers.now = ap (λ (v : Vec ℕ). v.items) c.leaf.ensures.rules
+    ∙ c.in_ok-extend_from_slice.ensures.items ∙ ap (λ xs. xs ++ c.args.numbers.now) c.new-all.ensures.items in
     record {
       within = omega arith;
-      nodes = subst (λ xs. AreNodes c.args.rules.now c.args.numbers.now xs) (sym shown) (tree_starts c.args.rules.now c.args.numbers.now c.leaf.result all c.leaf.ensures.split);
+      nodes = subst (λ xs. AreNodes c.args.rules.now c.args.numbers.now xs) (sym shown)
+          (tree_starts c.args.rules.now c.args.numbers.now c.leaf.result all c.leaf.ensures.split);
       root = (c.leaf.result, ap (λ xs. slice_get xs 0) shown, all);
     }
 
@@ -20,7 +23,8 @@ nodes-preserved c =
     record {
       within = omega (arith, c.in_ok-room.ensures.grow.more);
       nodes = c.in_ok-room.ensures.nodes c.args.numbers.now c.nodes.invariant.nodes;
-      root = root_kept c.nodes.nodes.items c.grow.new.nodes.items _ c.args.numbers.now c.in_ok-room.ensures.grow c.nodes.invariant.root;
+      root = root_kept c.nodes.nodes.items c.grow.new.nodes.items _ c.args.numbers.now c.in_ok-room.ensures.grow
+          c.nodes.invariant.root;
     }
 
 pub nodes-smaller : goal.nodes-smaller

@@ -10,7 +10,9 @@ use Rattle.rule_code.proofs.decision_trees.DecisionTree.rules_for.Given as goal
 abbrev pub invariant-down : goal.invariant-down
 invariant-down l = record {
   within : l.at < length l.self.nodes.items;
-  left : (rules : List Rule) (numbers : List ℕ) (terms : List Tree) → IsTree rules numbers l.self → AreTerms l.bank l.args (trees_of terms) → (node : TreeNode) → slice_get l.self.nodes.items l.at ≡ Some node → AreLeft rules numbers terms node.rules.items;
+  left : (rules : List Rule) (numbers : List ℕ) (terms : List Tree) → IsTree rules numbers l.self →
+      AreTerms l.bank l.args (trees_of terms) → (node : TreeNode) →
+      slice_get l.self.nodes.items l.at ≡ Some node → AreLeft rules numbers terms node.rules.items;
 }
 
 abbrev pub decreases-down : goal.decreases-down

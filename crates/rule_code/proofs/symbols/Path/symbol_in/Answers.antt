@@ -17,5 +17,8 @@ pub returns-in-App : goal.returns-in-App
 returns-in-App c =
     let argument = c.args.self.now.argument in
     let below = c.args.self.now.below.items in
-    let e : app c.in-App.field-0.0 (trees_of c.in-App.args) ≡ c.args.rule.now.left = ap tree_of (sym c.in-App.is) ∙ c.left.view_is in
-    c.symbol_at.ensures ∙ ap (λ z. symbol_at argument z c.as_slice.result.now) c.deref.ensures.value ∙ ap (λ z. symbol_at argument below z) (c.as_slice.ensures ∙ sym (list_of-trees_of c.in-App.args)) ∙ ap (λ z. symbol_at argument below (arguments_of (Some z))) e
+    let e : app c.in-App.field-0.0 (trees_of c.in-App.args) ≡ c.args.rule.now.left = ap tree_of
+    (sym c.in-App.is) ∙ c.left.view_is in
+    c.symbol_at.ensures ∙ ap (λ z. symbol_at argument z c.as_slice.result.now) c.deref.ensures.value
+    ∙ ap (λ z. symbol_at argument below z) (c.as_slice.ensures ∙ sym (list_of-trees_of c.in-App.args))
+    ∙ ap (λ z. symbol_at argument below (arguments_of (Some z))) e

@@ -9,7 +9,8 @@ abbrev pub invariant-loop-raw : goal.invariant-loop-raw
 invariant-loop-raw l =
     record {
       few : length l.entries.items ≤ 16;
-      clean : Clean (in_turn (sides_tests l.self.sig.now) (after_sides l.self.sig.now) l.fn.entries.items (take l.raw-index l.raws));
+      clean : Clean (in_turn (sides_tests l.self.sig.now) (after_sides l.self.sig.now) l.fn.entries.items
+          (take l.raw-index l.raws));
       after : l.entries.items ≡ left_by (after_sides l.self.sig.now) l.fn.entries.items (take l.raw-index l.raws);
       made : AllZip (IsEquationOver l.self.sig.now l.entries.items) (take l.raw-index l.raws) l.made;
     }

@@ -7,6 +7,7 @@ abbrev pub invariant-loop-raw : goal.invariant-loop-raw
 invariant-loop-raw l =
     record {
       few : length l.entries.items ≤ 16;
-      clean : Clean (in_turn (opposite_tests l.self.sig.now) (after_opposite l.self.sig.now) l.fn.entries.items (take l.raw-index l.raws));
+      clean : Clean (in_turn (opposite_tests l.self.sig.now) (after_opposite l.self.sig.now) l.fn.entries.items
+          (take l.raw-index l.raws));
       after : l.entries.items ≡ left_by (after_opposite l.self.sig.now) l.fn.entries.items (take l.raw-index l.raws);
     }

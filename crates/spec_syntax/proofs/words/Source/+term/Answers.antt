@@ -15,21 +15,26 @@ args-returns-in_err-first t c =
     let d = c.args.depth in
     let bytes = c.args.self.now.bytes.now in
     let p = err_from_is_err_and c.from_residual.result c.from_residual.ensures.1 in
-    let opens = at_take (args d) (Sign LeftPar) (items_of bytes c.args.tokens.now) (items_of bytes c.in-Some.opened.now) None _ c.in-Some.ensures refl refl in
-    rw (p.1, p.2) (stop_then (term_then (d + 1) (term_mark (d + 1) 0) []) (more (d + 1) 1 ∷ key RightPar ∷ []) c.in_err-first.field-0.0 opens (rw c.argument_over.ensures at c.in_err-first.ensures))
+    let opens = at_take (args d) (Sign LeftPar) (items_of bytes c.args.tokens.now)
+    (items_of bytes c.in-Some.opened.now) None _ c.in-Some.ensures refl refl in
+    rw (p.1, p.2) (stop_then (term_then (d + 1) (term_mark (d + 1) 0) []) (more (d + 1) 1 ∷ key RightPar ∷ [])
+    c.in_err-first.field-0.0 opens (rw c.argument_over.ensures at c.in_err-first.ensures))
 
 pub args-loop-made-init : goal.args-loop-made-init
 args-loop-made-init t c =
     let d = c.args.depth in
     let bytes = c.args.self.now.bytes.now in
     let first = c.in_ok-first.first in
-    let made : c.push.new.self ≡ first ∷ [] = c.in_ok-push.ensures.pushed ∙ ap (λ ts. ts ++ first ∷ []) c.new-made.ensures in
+    let made : c.push.new.self ≡ first ∷ [] = c.in_ok-push.ensures.pushed
+    ∙ ap (λ ts. ts ++ first ∷ []) c.new-made.ensures in
     let h = rw c.argument_over.ensures at c.in_ok-first.ensures in
-    let opens = at_take (args d) (Sign LeftPar) (items_of bytes c.args.tokens.now) (items_of bytes c.in-Some.opened.now) None _ c.in-Some.ensures refl refl in
+    let opens = at_take (args d) (Sign LeftPar) (items_of bytes c.args.tokens.now)
+    (items_of bytes c.in-Some.opened.now) None _ c.in-Some.ensures refl refl in
     rw made (record {
       some = omega arith;
       left = omega (arith, ap length c.in-Some.ensures, h.2);
-      reads = at_then {left = []} (term_then (d + 1) (term_mark (d + 1) 0) []) (more (d + 1) 1 ∷ key RightPar ∷ []) opens (record { same = h.1; text = h.0; less = h.2 });
+      reads = at_then {left = []} (term_then (d + 1) (term_mark (d + 1) 0) [])
+          (more (d + 1) 1 ∷ key RightPar ∷ []) opens (record { same = h.1; text = h.0; less = h.2 });
     })
 
 pub args-loop-made-preserved : goal.args-loop-made-preserved
@@ -45,5 +50,7 @@ args-loop-made-preserved t c =
     rw (made, length_push) (record {
       some = omega arith;
       left = omega (arith, i.left, h.2);
-      reads = at_next (more (d + 1) n) (more (d + 1) (n + 1)) (key RightPar ∷ []) (λ v. sign Comma ∷ term_text (d + 1) (term_mark (d + 1) n) u v) _ i.reads h.0 h.1 h.2 (λ v. opened_grows d ts u v i.some);
+      reads = at_next (more (d + 1) n) (more (d + 1) (n + 1)) (key RightPar ∷ [])
+          (λ v. sign Comma ∷ term_text (d + 1) (term_mark (d + 1) n) u v) _ i.reads h.0 h.1 h.2
+          (λ v. opened_grows d ts u v i.some);
     })

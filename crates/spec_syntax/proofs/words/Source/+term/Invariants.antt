@@ -16,7 +16,9 @@ abbrev pub invariant-args-loop-made : goal.invariant-args-loop-made
 invariant-args-loop-made l = record {
   some : 0 < length l.made;
   left : length (items_of l.self.bytes.now l.rest) < length (items_of l.self.bytes.now l.fn.tokens);
-  reads : At (args l.depth ∷ []) (items_of l.self.bytes.now l.fn.tokens) (more (l.depth + 1) (length l.made) ∷ key RightPar ∷ []) (items_of l.self.bytes.now l.rest) (opened_text l.depth l.made);
+  reads : At (args l.depth ∷ []) (items_of l.self.bytes.now l.fn.tokens)
+      (more (l.depth + 1) (length l.made) ∷ key RightPar ∷ []) (items_of l.self.bytes.now l.rest)
+      (opened_text l.depth l.made);
 }
 
 abbrev pub decreases-args-loop-made : goal.decreases-args-loop-made

@@ -14,19 +14,24 @@ pub returns-in_err-first : goal.returns-in_err-first
 returns-in_err-first c =
     let bytes = c.args.self.now.bytes.now in
     let p = err_from_is_err_and c.from_residual.result c.from_residual.ensures.1 in
-    let opens = at_take binds (Sign LeftPar) (items_of bytes c.args.tokens.now) (items_of bytes c.in-Some.opened.now) None _ c.in-Some.ensures refl refl in
-    rw (p.1, p.2) (stop_then (bind_then (variable_mark 0) []) (more_binds 1 ∷ key RightPar ∷ []) c.in_err-first.field-0.0 opens (rw c.over.ensures at c.in_err-first.ensures))
+    let opens = at_take binds (Sign LeftPar) (items_of bytes c.args.tokens.now)
+    (items_of bytes c.in-Some.opened.now) None _ c.in-Some.ensures refl refl in
+    rw (p.1, p.2) (stop_then (bind_then (variable_mark 0) []) (more_binds 1 ∷ key RightPar ∷ [])
+    c.in_err-first.field-0.0 opens (rw c.over.ensures at c.in_err-first.ensures))
 
 pub loop-made-init : goal.loop-made-init
 loop-made-init c =
     let bytes = c.args.self.now.bytes.now in
     let first = c.in_ok-first.first in
-    let made : c.push.new.self ≡ first ∷ [] = c.in_ok-push.ensures.pushed ∙ ap (λ xs. xs ++ first ∷ []) c.new-made.ensures in
+    let made : c.push.new.self ≡ first ∷ [] = c.in_ok-push.ensures.pushed
+    ∙ ap (λ xs. xs ++ first ∷ []) c.new-made.ensures in
     let h = rw c.over.ensures at c.in_ok-first.ensures in
-    let opens = at_take binds (Sign LeftPar) (items_of bytes c.args.tokens.now) (items_of bytes c.in-Some.opened.now) None _ c.in-Some.ensures refl refl in
+    let opens = at_take binds (Sign LeftPar) (items_of bytes c.args.tokens.now)
+    (items_of bytes c.in-Some.opened.now) None _ c.in-Some.ensures refl refl in
     rw made (record {
       some = omega arith;
-      reads = at_then {left = []} (bind_then (variable_mark 0) []) (more_binds 1 ∷ key RightPar ∷ []) opens (record { same = h.1; text = h.0; less = h.2 });
+      reads = at_then {left = []} (bind_then (variable_mark 0) []) (more_binds 1 ∷ key RightPar ∷ []) opens
+          (record { same = h.1; text = h.0; less = h.2 });
     })
 
 pub loop-made-preserved : goal.loop-made-preserved
@@ -40,5 +45,7 @@ loop-made-preserved c =
     let h = rw c.len.ensures at o in
     rw (made, length_push) (record {
       some = omega arith;
-      reads = at_next (more_binds n) (more_binds (n + 1)) (key RightPar ∷ []) (λ v. sign Comma ∷ bind_text (variable_mark n) x v) _ i.reads h.0 h.1 h.2 (λ v. opened_binds_grow xs x v i.some);
+      reads = at_next (more_binds n) (more_binds (n + 1)) (key RightPar ∷ [])
+          (λ v. sign Comma ∷ bind_text (variable_mark n) x v) _ i.reads h.0 h.1 h.2
+          (λ v. opened_binds_grow xs x v i.some);
     })

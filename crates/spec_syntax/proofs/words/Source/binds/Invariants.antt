@@ -9,7 +9,8 @@ use Rattle.spec_syntax.proofs.words.Source.binds.Given as goal
 abbrev pub invariant-loop-made : goal.invariant-loop-made
 invariant-loop-made l = record {
   some : 0 < length l.made;
-  reads : At (binds ∷ []) (items_of l.self.bytes.now l.fn.tokens) (more_binds (length l.made) ∷ key RightPar ∷ []) (items_of l.self.bytes.now l.rest) (opened_binds l.made);
+  reads : At (binds ∷ []) (items_of l.self.bytes.now l.fn.tokens)
+      (more_binds (length l.made) ∷ key RightPar ∷ []) (items_of l.self.bytes.now l.rest) (opened_binds l.made);
 }
 
 abbrev pub decreases-loop-made : goal.decreases-loop-made

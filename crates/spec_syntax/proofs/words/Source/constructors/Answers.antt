@@ -18,14 +18,17 @@ returns-in_err-first c =
     let items = items_of c.args.self.now.bytes.now c.args.tokens.now in
     let p = err_from_is_err_and c.from_residual.result c.from_residual.ensures.1 in
     let h = rw c.constructor_over.ensures at c.in_err-first.ensures.reads in
-    rw (p.1, p.2) (λ n. stop_at (first_constructor version n t) (name (constructor_mark version 0 t) ∷ names ∷ []) (sorts version n 1 (t + 1) ∷ []) items items c.in_err-first.field-0.0 (λ st. refl) h)
+    rw (p.1, p.2) (λ n. stop_at (first_constructor version n t)
+    (name (constructor_mark version 0 t) ∷ names ∷ []) (sorts version n 1 (t + 1) ∷ []) items items
+    c.in_err-first.field-0.0 (λ st. refl) h)
 
 pub loop-made-init : goal.loop-made-init
 loop-made-init c =
     let version = c.args.version in
     let t = c.args.total in
     let first = c.in_ok-first.first in
-    let made : c.push.new.self ≡ first ∷ [] = c.in_ok-push.ensures.pushed ∙ ap (λ cs. cs ++ first ∷ []) c.new-made.ensures in
+    let made : c.push.new.self ≡ first ∷ [] = c.in_ok-push.ensures.pushed
+    ∙ ap (λ cs. cs ++ first ∷ []) c.new-made.ensures in
     let h = rw c.constructor_over.ensures at c.in_ok-first.ensures.reads in
     let free : constructor_mark version 0 t ≡ None = rw c.constructor_over.ensures at c.in_ok-first.ensures.within in
     let few = (constructor_none version 0 t free).1 in
@@ -66,6 +69,9 @@ returns-in_err-constructor c =
     let t = c.args.total in
     let k = length c.loop-made.made in
     let i = c.loop-made.invariant in
-    let p = err_from_is_err_and c.from_residual-in_err-constructor.result c.from_residual-in_err-constructor.ensures.1 in
+    let p = err_from_is_err_and c.from_residual-in_err-constructor.result
+    c.from_residual-in_err-constructor.ensures.1 in
     let h = rw c.len.ensures at c.in_err-constructor.ensures in
-    rw (p.1, p.2) (λ n. stop_at (first_constructor version n t) (sorts version n k (t + k) ∷ []) [] (items_of bytes c.args.tokens.now) (items_of bytes c.loop-made.rest.now) c.in_err-constructor.field-0.0 (λ st. i.same n st) (h n i.some))
+    rw (p.1, p.2) (λ n. stop_at (first_constructor version n t) (sorts version n k (t + k) ∷ []) []
+    (items_of bytes c.args.tokens.now) (items_of bytes c.loop-made.rest.now) c.in_err-constructor.field-0.0
+    (λ st. i.same n st) (h n i.some))

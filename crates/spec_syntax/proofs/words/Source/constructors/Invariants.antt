@@ -10,8 +10,11 @@ abbrev pub invariant-loop-made : goal.invariant-loop-made
 invariant-loop-made l = record {
   some : 0 < length l.made;
   few : l.total + length l.made ≤ most_constructors l.version;
-  text : clean (items_of l.self.bytes.now l.fn.tokens) ≡ begun_text l.version l.total l.made (clean (items_of l.self.bytes.now l.rest));
-  same : (n : ℕ) (st : List Symbol) → run (first_constructor l.version n l.total ++ st) (items_of l.self.bytes.now l.fn.tokens) ≡ run (sorts l.version n (length l.made) (l.total + length l.made) ∷ st) (items_of l.self.bytes.now l.rest);
+  text : clean (items_of l.self.bytes.now l.fn.tokens) ≡ begun_text l.version l.total l.made
+      (clean (items_of l.self.bytes.now l.rest));
+  same : (n : ℕ) (st : List Symbol) →
+      run (first_constructor l.version n l.total ++ st) (items_of l.self.bytes.now l.fn.tokens) ≡ run
+      (sorts l.version n (length l.made) (l.total + length l.made) ∷ st) (items_of l.self.bytes.now l.rest);
   less : length (items_of l.self.bytes.now l.rest) ≤ length (items_of l.self.bytes.now l.fn.tokens);
 }
 

@@ -18,4 +18,7 @@ loop-made-preserved c =
     let made : c.push.new.self ≡ xs ++ x ∷ [] = c.in_ok-push.ensures.pushed in
     let o = rw c.in-Some.is at c.in_ok-function.ensures in
     let h = rw c.len.ensures at o in
-    rw (made, length_push) (at_next (funs version n) (funs version (n + 1)) [] (λ v. (Sign Fun, fun_mark version n) ∷ con_text None x.head (sign Colon ∷ name_text None x.result v)) _ c.loop-made.invariant h.0 h.1 h.2 (λ v. first_funs_grow version xs x v))
+    rw (made, length_push)
+    (at_next (funs version n) (funs version (n + 1)) []
+    (λ v. (Sign Fun, fun_mark version n) ∷ con_text None x.head (sign Colon ∷ name_text None x.result v)) _
+    c.loop-made.invariant h.0 h.1 h.2 (λ v. first_funs_grow version xs x v))

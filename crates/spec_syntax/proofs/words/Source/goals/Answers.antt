@@ -18,7 +18,8 @@ loop-made-preserved c =
     let rest = clean (items_of bytes c.loop-made.rest.now) in
     let after = clean (items_of bytes c.in-Some.after.now) in
     rw (made, length_push) (record {
-      text = goals_grow 0 gs g (clean (items_of bytes c.args.tokens.now)) rest after i.text (subst (λ (k : ℕ). IsOneGoal k g rest after) (sym (zero-add (length gs))) h.0);
+      text = goals_grow 0 gs g (clean (items_of bytes c.args.tokens.now)) rest after i.text
+          (subst (λ (k : ℕ). IsOneGoal k g rest after) (sym (zero-add (length gs))) h.0);
       same = λ st. i.same st ∙ h.1 st;
       less = omega (arith, i.less, h.2);
     })

@@ -8,7 +8,9 @@ use Rattle.spec_syntax.proofs.words.Source.goals.Given as goal
 abbrev pub invariant-loop-made : goal.invariant-loop-made
 invariant-loop-made l = record {
   text : AreGoals 0 l.made (clean (items_of l.self.bytes.now l.fn.tokens)) (clean (items_of l.self.bytes.now l.rest));
-  same : (st : List Symbol) → run (goals 0 ∷ st) (items_of l.self.bytes.now l.fn.tokens) ≡ run (goals (length l.made) ∷ st) (items_of l.self.bytes.now l.rest);
+  same : (st : List Symbol) →
+      run (goals 0 ∷ st) (items_of l.self.bytes.now l.fn.tokens) ≡ run (goals (length l.made) ∷ st)
+      (items_of l.self.bytes.now l.rest);
   less : length (items_of l.self.bytes.now l.rest) ≤ length (items_of l.self.bytes.now l.fn.tokens);
 }
 

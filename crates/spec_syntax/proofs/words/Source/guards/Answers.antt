@@ -16,4 +16,6 @@ loop-made-preserved c =
     let made : c.push.new.self ≡ xs ++ x ∷ [] = c.in_ok-push.ensures.pushed in
     let o = rw c.in-Some.is at c.in_ok-guard.ensures in
     let h = rw c.len.ensures at o in
-    rw (made, length_push) (at_next (guards n) (guards (n + 1)) [] (λ v. (Sign (guard_key x.wanted), guard_mark n) ∷ term_text 0 None x.test v) _ c.loop-made.invariant h.0 h.1 h.2 (λ v. first_guards_grow xs x v))
+    rw (made, length_push)
+    (at_next (guards n) (guards (n + 1)) [] (λ v. (Sign (guard_key x.wanted), guard_mark n) ∷ term_text 0
+    None x.test v) _ c.loop-made.invariant h.0 h.1 h.2 (λ v. first_guards_grow xs x v))

@@ -11,7 +11,8 @@ use Rattle.spec_syntax.proofs.words.Source.more_conclusions.Goals as goal
 
 pub loop-made-init : goal.loop-made-init
 loop-made-init c =
-    let made : c.push.new.self ≡ c.args.first ∷ [] = c.in_ok-push.ensures.pushed ∙ ap (λ xs. xs ++ c.args.first ∷ []) c.new-made.ensures in
+    let made : c.push.new.self ≡ c.args.first ∷ [] = c.in_ok-push.ensures.pushed
+    ∙ ap (λ xs. xs ++ c.args.first ∷ []) c.new-made.ensures in
     rw made (record { begins = refl; reads = at_start (bars 1) (items_of c.args.self.now.bytes.now c.args.tokens.now) })
 
 pub loop-made-preserved : goal.loop-made-preserved
@@ -25,5 +26,6 @@ loop-made-preserved c =
     let h = rw c.len.ensures at o in
     rw (made, length_push) (record {
       begins = begins_more c.args.first xs x i.begins;
-      reads = at_next (bars n) (bars (n + 1)) [] (λ v. sign Bar ∷ sides_text (conclusion_mark n) x.left x.right v) _ i.reads h.0 h.1 h.2 (λ v. bars_more c.args.first xs x v i.begins);
+      reads = at_next (bars n) (bars (n + 1)) [] (λ v. sign Bar ∷ sides_text (conclusion_mark n) x.left x.right
+          v) _ i.reads h.0 h.1 h.2 (λ v. bars_more c.args.first xs x v i.begins);
     })

@@ -9,7 +9,8 @@ use Rattle.spec_syntax.proofs.words.Source.more_conclusions.Given as goal
 abbrev pub invariant-loop-made : goal.invariant-loop-made
 invariant-loop-made l = record {
   begins : BeginsWith l.fn.first l.made;
-  reads : At (bars 1 ∷ []) (items_of l.self.bytes.now l.fn.tokens) (bars (length l.made) ∷ []) (items_of l.self.bytes.now l.rest) (bars_text 1 (others_of l.made));
+  reads : At (bars 1 ∷ []) (items_of l.self.bytes.now l.fn.tokens) (bars (length l.made) ∷ [])
+      (items_of l.self.bytes.now l.rest) (bars_text 1 (others_of l.made));
 }
 
 abbrev pub decreases-loop-made : goal.decreases-loop-made

@@ -22,7 +22,9 @@ returns-in_err-constructor c =
     let next = items_of bytes c.in-Some.next.now in
     let p = err_from_is_err_and c.from_residual.result c.from_residual.ensures.1 in
     let h = rw c.constructor_over.ensures at c.in_err-constructor.ensures.reads in
-    rw (p.1, p.2) (λ n some. stop_at (sorts version n k t ∷ []) (name (constructor_mark version k t) ∷ names ∷ []) (sorts version n (k + 1) (t + 1) ∷ []) items next c.in_err-constructor.field-0.0 (λ st. bar_takes version n k t items next st some c.in-Some.ensures) h)
+    rw (p.1, p.2) (λ n some. stop_at (sorts version n k t ∷ [])
+    (name (constructor_mark version k t) ∷ names ∷ []) (sorts version n (k + 1) (t + 1) ∷ []) items next
+    c.in_err-constructor.field-0.0 (λ st. bar_takes version n k t items next st some c.in-Some.ensures) h)
 
 pub returns : goal.returns
 returns c =
@@ -33,9 +35,11 @@ returns c =
     let items = items_of bytes c.args.tokens.now in
     let next = items_of bytes c.in-Some.next.now in
     let h = rw c.constructor_over.ensures at c.in_ok-constructor.ensures.reads in
-    let free : constructor_mark version k t ≡ None = rw c.constructor_over.ensures at c.in_ok-constructor.ensures.within in (
+    let free : constructor_mark version k t ≡ None = rw c.constructor_over.ensures
+    at c.in_ok-constructor.ensures.within in (
       ap clean c.in-Some.ensures ∙ ap (λ (w : List Marked). sign Bar ∷ w) h.0,
-      λ n st some. bar_takes version n k t items next st some c.in-Some.ensures ∙ h.1 (sorts version n (k + 1) (t + 1) ∷ st),
+      λ n st some. bar_takes version n k t items next st some c.in-Some.ensures
+          ∙ h.1 (sorts version n (k + 1) (t + 1) ∷ st),
       omega (arith, ap length c.in-Some.ensures, h.2),
       (constructor_none version k t free).1,
     )

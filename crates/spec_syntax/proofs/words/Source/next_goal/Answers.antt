@@ -17,7 +17,8 @@ returns c =
     let h = c.in_ok-goal.ensures in
     let e = c.in-Some.ensures in
     let free : goal_mark n ≡ None = rw c.over.ensures at c.in_ok-within.ensures in
-    let taken = at_take (goals n) (Sign Goal) items next (goal_mark n) (goal_symbols (goals (n + 1) ∷ [])) e refl free in (
+    let taken = at_take (goals n) (Sign Goal) items next (goal_mark n) (goal_symbols (goals (n + 1) ∷ [])) e
+    refl free in (
       (clean next, taken.text, h.0),
       λ st. taken.same st ∙ h.1 (goals (n + 1) ∷ st),
       omega (arith, ap length e, h.2),

@@ -22,7 +22,8 @@ returns-in_err-within c =
     let next = items_of bytes c.in-Some.next.now in
     let p = err_from_is_err_and c.from_residual.result c.from_residual.ensures.1 in
     let h = rw c.over.ensures at c.in_err-within.ensures in
-    rw (p.1, p.2) (λ j. limit_stops (sorts version n j t) (Sign Sort) items next (sort_mark n) _ c.in_err-within.field-0.0 c.in-Some.ensures refl h)
+    rw (p.1, p.2) (λ j. limit_stops (sorts version n j t) (Sign Sort) items next (sort_mark n) _
+    c.in_err-within.field-0.0 c.in-Some.ensures refl h)
 
 pub returns-in_err-sort : goal.returns-in_err-sort
 returns-in_err-sort c =
@@ -34,7 +35,9 @@ returns-in_err-sort c =
     let next = items_of bytes c.in-Some.next.now in
     let p = err_from_is_err_and c.from_residual-in_err-sort.result c.from_residual-in_err-sort.ensures.1 in
     let free : sort_mark n ≡ None = rw c.over.ensures at c.in_ok-within.ensures in
-    rw (p.1, p.2) (λ j. stop_at (sorts version n j t ∷ []) (sort_symbols version (n + 1) t) [] items next c.in_err-sort.field-0.0 (λ st. sort_takes version n j t items next st c.in-Some.ensures free) (c.in_err-sort.ensures (n + 1)))
+    rw (p.1, p.2) (λ j. stop_at (sorts version n j t ∷ []) (sort_symbols version (n + 1) t) [] items next
+    c.in_err-sort.field-0.0 (λ st. sort_takes version n j t items next st c.in-Some.ensures free)
+    (c.in_err-sort.ensures (n + 1)))
 
 pub returns : goal.returns
 returns c =
@@ -48,7 +51,8 @@ returns c =
     let h = c.in_ok-sort.ensures in
     let free : sort_mark n ≡ None = rw c.over.ensures at c.in_ok-within.ensures in (
       h.0,
-      ap clean e ∙ ap (λ (m : Option LimitKind). (Sign Sort, m) ∷ clean next) (sym free) ∙ ap (λ (w : List Marked). (Sign Sort, sort_mark n) ∷ w) h.1,
+      ap clean e ∙ ap (λ (m : Option LimitKind). (Sign Sort, m) ∷ clean next) (sym free)
+          ∙ ap (λ (w : List Marked). (Sign Sort, sort_mark n) ∷ w) h.1,
       λ j st. sort_takes version n j t items next st e free ∙ h.2 (n + 1) st,
       omega (arith, ap length e, h.3),
       h.4,

@@ -11,8 +11,13 @@ use Rattle.spec_syntax.proofs.words.Source.premises.Goals as goal
 
 pub loop-made-init : goal.loop-made-init
 loop-made-init c =
-    let made : c.push.new.self ≡ c.args.first ∷ [] = c.in_ok-push.ensures.pushed ∙ ap (λ xs. xs ++ c.args.first ∷ []) c.new-made.ensures in
-    rw made (record { begins = refl; reads = at_start (commas 1) (items_of c.args.self.now.bytes.now c.args.tokens.now) })
+    let made : c.push.new.self ≡ c.args.first ∷ [] = c.in_ok-push.ensures.pushed
+    ∙ ap (λ xs. xs ++ c.args.first ∷ []) c.new-made.ensures in
+    rw made (record {
+      begins = refl;
+      reads = at_start (commas 1)
+          (items_of c.args.self.now.bytes.now c.args.tokens.now);
+    })
 
 pub loop-made-preserved : goal.loop-made-preserved
 loop-made-preserved c =
@@ -25,5 +30,7 @@ loop-made-preserved c =
     let h = rw c.len.ensures at o in
     rw (made, length_push) (record {
       begins = begins_more c.args.first xs x i.begins;
-      reads = at_next (commas n) (commas (n + 1)) [] (λ v. sign Comma ∷ sides_text (premise_mark n) x.left x.right v) _ i.reads h.0 h.1 h.2 (λ v. commas_more c.args.first xs x v i.begins);
+      reads = at_next (commas n) (commas (n + 1)) []
+          (λ v. sign Comma ∷ sides_text (premise_mark n) x.left x.right v) _ i.reads h.0 h.1 h.2
+          (λ v. commas_more c.args.first xs x v i.begins);
     })

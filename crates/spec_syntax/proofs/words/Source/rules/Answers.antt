@@ -18,4 +18,7 @@ loop-made-preserved c =
     let made : c.push.new.self ≡ xs ++ x ∷ [] = c.in_ok-push.ensures.pushed in
     let o = rw c.in-Some.is at c.in_ok-rule.ensures in
     let h = rw c.len.ensures at o in
-    rw (made, length_push) (at_next (rules version n) (rules version (n + 1)) [] (λ v. (Sign Rule, rule_mark version n) ∷ sides_text None x.left x.right (guards_text 0 x.guards v)) _ c.loop-made.invariant h.0 h.1 h.2 (λ v. first_rules_grow version xs x v))
+    rw (made, length_push)
+    (at_next (rules version n) (rules version (n + 1)) []
+    (λ v. (Sign Rule, rule_mark version n) ∷ sides_text None x.left x.right (guards_text 0 x.guards v)) _
+    c.loop-made.invariant h.0 h.1 h.2 (λ v. first_rules_grow version xs x v))

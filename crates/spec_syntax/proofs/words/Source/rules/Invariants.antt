@@ -6,7 +6,8 @@ use Rattle.spec_syntax.proofs.Steps.{At}
 use Rattle.spec_syntax.proofs.words.Source.rules.Given as goal
 
 abbrev pub invariant-loop-made : goal.invariant-loop-made
-invariant-loop-made l = At (rules l.version 0 ∷ []) (items_of l.self.bytes.now l.fn.tokens) (rules l.version (length l.made) ∷ []) (items_of l.self.bytes.now l.rest) (rules_text l.version 0 l.made)
+invariant-loop-made l = At (rules l.version 0 ∷ []) (items_of l.self.bytes.now l.fn.tokens)
+    (rules l.version (length l.made) ∷ []) (items_of l.self.bytes.now l.rest) (rules_text l.version 0 l.made)
 
 abbrev pub decreases-loop-made : goal.decreases-loop-made
 decreases-loop-made l = length (items_of l.self.bytes.now l.rest)

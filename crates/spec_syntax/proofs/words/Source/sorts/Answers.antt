@@ -13,7 +13,8 @@ use Rattle.spec_syntax.proofs.Steps.{stop_at}
 use Rattle.spec_syntax.proofs.words.Source.sorts.Goals as goal
 
 pub loop-made-init : goal.loop-made-init
-loop-made-init c = rw c.new-made.ensures (record { few = omega arith; total = refl; text = refl; last = (0, λ st. refl, inl refl); less = omega arith })
+loop-made-init c = rw c.new-made.ensures
+    (record { few = omega arith; total = refl; text = refl; last = (0, λ st. refl, inl refl); less = omega arith })
 
 pub returns-in_err-sort : goal.returns-in_err-sort
 returns-in_err-sort c =
@@ -24,7 +25,9 @@ returns-in_err-sort c =
     let i = c.loop-made.invariant in
     let p = err_from_is_err_and c.from_residual.result c.from_residual.ensures.1 in
     let h = rw c.len.ensures at c.in_err-sort.ensures in
-    rw (p.1, p.2) (stop_at (sorts version 0 0 0 ∷ []) (sorts version n i.last.0 t ∷ []) [] (items_of bytes c.args.tokens.now) (items_of bytes c.loop-made.rest.now) c.in_err-sort.field-0.0 i.last.1 (h i.last.0))
+    rw (p.1, p.2) (stop_at (sorts version 0 0 0 ∷ []) (sorts version n i.last.0 t ∷ []) []
+    (items_of bytes c.args.tokens.now) (items_of bytes c.loop-made.rest.now) c.in_err-sort.field-0.0
+    i.last.1 (h i.last.0))
 
 pub loop-made-preserved : goal.loop-made-preserved
 loop-made-preserved c =
@@ -40,11 +43,13 @@ loop-made-preserved c =
     let h = rw c.len.ensures at o in
     let after = clean (items_of bytes c.in-Some.after.now) in
     let number = ap (λ (k : ℕ). (Sign Sort, sort_mark k) ∷ sort_text version t s after) (sym (zero-add n)) in
-    let total = ap (λ (k : ℕ). (Sign Sort, sort_mark (0 + n)) ∷ sort_text version k s after) (i.total ∙ sym (zero-add (counted ss))) in
+    let total = ap (λ (k : ℕ). (Sign Sort, sort_mark (0 + n)) ∷ sort_text version k s after)
+    (i.total ∙ sym (zero-add (counted ss))) in
     rw (made, length_push, c.len-total.ensures) (record {
       few = omega (arith, h.4);
       total = rw (counted-append ss s) (omega (arith, i.total));
-      text = sorts_grow version 0 0 ss s (clean (items_of bytes c.args.tokens.now)) (clean (items_of bytes c.loop-made.rest.now)) after i.text h.0 (h.1 ∙ number ∙ total);
+      text = sorts_grow version 0 0 ss s (clean (items_of bytes c.args.tokens.now))
+          (clean (items_of bytes c.loop-made.rest.now)) after i.text h.0 (h.1 ∙ number ∙ total);
       last = (length s.constructors, λ st. i.last.1 st ∙ h.2 i.last.0 st, inr h.5);
       less = omega (arith, i.less, h.3);
     })

@@ -13,8 +13,12 @@ abbrev pub invariant-loop-made : goal.invariant-loop-made
 invariant-loop-made l = record {
   few : l.total ≤ most_constructors l.version;
   total : l.total ≡ counted l.made;
-  text : AreSorts l.version 0 0 l.made (clean (items_of l.self.bytes.now l.fn.tokens)) (clean (items_of l.self.bytes.now l.rest));
-  last : (j : ℕ) × ((st : List Symbol) → run (sorts l.version 0 0 0 ∷ st) (items_of l.self.bytes.now l.fn.tokens) ≡ run (sorts l.version (length l.made) j l.total ∷ st) (items_of l.self.bytes.now l.rest)) × ((j ≡ 0) ⊎ Lacks Bar (items_of l.self.bytes.now l.rest));
+  text : AreSorts l.version 0 0 l.made (clean (items_of l.self.bytes.now l.fn.tokens))
+      (clean (items_of l.self.bytes.now l.rest));
+  last : (j : ℕ) × ((st : List Symbol) →
+      run (sorts l.version 0 0 0 ∷ st) (items_of l.self.bytes.now l.fn.tokens) ≡ run
+      (sorts l.version (length l.made) j l.total ∷ st) (items_of l.self.bytes.now l.rest))
+      × ((j ≡ 0) ⊎ Lacks Bar (items_of l.self.bytes.now l.rest));
   less : length (items_of l.self.bytes.now l.rest) ≤ length (items_of l.self.bytes.now l.fn.tokens);
 }
 

@@ -32,7 +32,8 @@ loop-made-init c =
     let taken = at_take weights (Sign Colon) items next None _ c.in-Some.ensures refl refl in
     rw made (record {
       some = omega arith;
-      reads = at_then {left = []} (weight_then []) (more_weights ∷ []) taken (record { same = h.1; text = h.0; less = h.2 });
+      reads = at_then {left = []} (weight_then []) (more_weights ∷ []) taken
+          (record { same = h.1; text = h.0; less = h.2 });
     })
 
 pub loop-made-preserved : goal.loop-made-preserved

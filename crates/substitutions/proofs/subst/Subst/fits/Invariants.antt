@@ -7,4 +7,5 @@ use Rattle.substitutions.specs.Substitution.{entry}
 use Rattle.substitutions.proofs.subst.Subst.fits.Given as goal
 
 abbrev pub invariant-loop-place : goal.invariant-loop-place
-invariant-loop-place l = (n : ℕ) (s : SortId) → n < l.place → slice_get l.from n ≡ Some s → (t : Tree) × (entry l.self.terms n ≡ Some t) × Sorted l.sig l.to t s
+invariant-loop-place l = (n : ℕ) (s : SortId) → n < l.place → slice_get l.from n ≡ Some s →
+    (t : Tree) × (entry l.self.terms n ≡ Some t) × Sorted l.sig l.to t s
