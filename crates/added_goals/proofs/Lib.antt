@@ -1,0 +1,4 @@
+pub mod KeptGoals
+pub mod Entries
+pub mod SortNames
+pub mod SameMeaning

@@ -1,0 +1,2 @@
+-- Specifications with other goals.
+pub mod Growing

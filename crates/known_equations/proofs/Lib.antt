@@ -1,0 +1,3 @@
+-- Chains of uses in lists of terms, and the clauses of a store.
+pub mod ChainLists
+pub mod KnownClauses
