@@ -26,7 +26,7 @@ kept_by_next goal next old new same = (
 no_end : (n : ℕ) → true ≡ (suc n == 0) → ⊥
 no_end n is = let e : suc n ≡ 0 = eqb-true (suc n) 0 (sym is) in omega (arith, e)
 
--- behind the last new goal those that are awaited decide
+-- after the last new goal those that are awaited decide
 decided_by :
     (awaited old new : List Goal) → AreKept awaited [] ↔ AreKept old new →
     (b : Bool) → b ≡ (length awaited == 0) → IsTrue b ↔ AreKept old new

@@ -119,7 +119,7 @@ impl<'a> Covering<'a> {
     }
 }
 
-/// Entries for the first so many variables, by which the equation gets these sides, if there are
+/// Entries for the first `count` variables, by which the equation gets these sides, if there are
 /// such. If their symbols differ, nothing is copied.
 fn fitting_entries(
     alloc: Global,
@@ -141,7 +141,7 @@ fn fitting_entries(
     Ok(Some(entries_of(alloc, count, &bindings)?))
 }
 
-/// The entries of the first so many variables.
+/// The entries of the first `count` variables.
 fn entries_of(alloc: Global, count: usize, bindings: &Bindings) -> Result<Subst, OutOfMemory> {
     let count = count.min(u32::MAX as usize) as u32;
     let mut made = Vec::with_capacity(alloc, count as usize)?;

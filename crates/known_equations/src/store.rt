@@ -1,6 +1,7 @@
 //! `Store`: the rules and the known clauses, found by their symbols.
 
-ghost use Rattle.std.specs.Prelude.{◌≡◌, [], ◌∷◌, ◌++◌, Some, IfOk, IfSome, OnOk, OnErr, length, slice_get, take};
+ghost use Rattle.std.specs.Prelude.{◌≡◌, [], ◌∷◌, ◌++◌, Some, IfOk, IfSome, OnOk, OnErr};
+ghost use Rattle.std.specs.Prelude.{length, slice_get, take};
 ghost use Rattle.known_equations.specs.Knowledge.{with_clauses};
 
 use crate::clauses::KnownClause;
