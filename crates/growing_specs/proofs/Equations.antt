@@ -1,26 +1,13 @@
--- Both sides of each equation have one sort, said of the list and of each number.
-use Rattle.std.proofs.Common.{◌≡◌, ◌↔◌, ℕ, zero, suc, List, [], ◌∷◌, None, Some, refl, sym, ◌∙◌, ap, subst, arith, IsTrue}
+-- Both sides of an equation have one sort exactly where their sorts have one number.
+use Rattle.std.proofs.Common.{◌≡◌, ◌↔◌, ℕ, List, [], ◌∷◌, sym, ◌∙◌, ap, subst, arith, IsTrue}
 use Rattle.std.specs.Prelude.{nat_eq}
 use Rattle.std.proofs.lemmas.Bool.Decides.{nat_tests}
 use Rattle.term_core.specs.declared.ids.SortId.{SortId}
 use Rattle.spec_core.specs.Sig.{Sig}
 use Rattle.spec_core.proofs.OneSort.{sort_unique}
 use Rattle.spec_core.specs.Sorts.{Sorted}
-use Rattle.spec_core.specs.WellSorted.{EquationsAreSorted}
 use Rattle.spec_core.specs.declared.records.Equation.{Equation}
 use Rattle.growing_specs.specs.Growing.{AreSorted}
-
-module _ (sig : Sig) (ctx : List SortId) where
-  pub by_number : (es : List Equation) → AreSorted sig ctx es → EquationsAreSorted sig ctx es
-  by_number [] are k e at = absurd (let q : None ≡ Some e = at in cc)
-  by_number (x ∷ es) are zero e at = subst
-      (λ (y : Equation). (s : SortId) × Sorted sig ctx y.left s × Sorted sig ctx y.right s)
-      (let q : Some x ≡ Some e = at in cc) are.0
-  by_number (x ∷ es) are (suc k) e at = by_number es are.1 k e at
-
-  pub by_list : (es : List Equation) → EquationsAreSorted sig ctx es → AreSorted sig ctx es
-  by_list [] are = tt
-  by_list (x ∷ es) are = (are 0 x refl, by_list es (λ k e at. are (suc k) e at))
 
 equal : (m n : ℕ) → IsTrue (nat_eq m n) → m ≡ n
 equal m n h = grind (arith, nat_tests)
@@ -28,7 +15,6 @@ equal m n h = grind (arith, nat_tests)
 test_equal : (m n : ℕ) → m ≡ n → IsTrue (nat_eq m n)
 test_equal m n h = grind (arith, nat_tests)
 
--- both sides of an equation have one sort exactly where their sorts have one number
 pub same_sorts : (sig : Sig) (ctx : List SortId) (e : Equation) (s u : SortId) → Sorted sig ctx e.left s →
     Sorted sig ctx e.right u → IsTrue (nat_eq s.0 u.0) ↔ AreSorted sig ctx (e ∷ [])
 same_sorts sig ctx e s u left right = (

@@ -1,4 +1,4 @@
 -- Goals that are added and taken off keep a specification well sorted and admitted.
 pub mod Kept
--- Equations with sorts, as a list and by their numbers.
+-- Equations whose sides have one sort.
 mod Equations

@@ -6,7 +6,7 @@ use Rattle.spec_core.specs.WellSorted.{sorts_of}
 use Rattle.spec_core.specs.declared.records.Equation.{Equation}
 use Rattle.spec_core.specs.declared.records.VarInfo.{VarInfo}
 use Rattle.growing_specs.specs.Growing.{AreSorted}
-use Rattle.growing_specs.proofs.Equations.{by_number, by_list}
+use Rattle.descent.proofs.SortedEquations.{each_sorted, sorted_each}
 use Rattle.growing_specs.proofs.sorting.goal_is_sorted.Goals as goal
 
 -- lists of sorts and of equations that are equal are sorted alike
@@ -25,7 +25,7 @@ returns-then-not-are_sorted c = (
       sym no ∙ c.are_sorted.ensures.1
       (alike c.args.sig.now (sorts_of c.args.goal.now.vars) c.deref.result.now c.args.goal.now.premises
       c.as_slice-3.result.now (sym sorts) (sym c.as_slice-3.ensures)
-      (by_list c.args.sig.now (sorts_of c.args.goal.now.vars) c.args.goal.now.premises sorted.premises)),
+      (each_sorted c.args.sig.now (sorts_of c.args.goal.now.vars) c.args.goal.now.premises sorted.premises)),
 )
 
 pub returns : goal.returns
@@ -40,14 +40,14 @@ returns c =
     let few = c.if-len-gt-MOST_VARIABLES.false in
     let count = c.len.ensures in (
       λ yes. record {
-        premises = by_number sig ctx premises (alike sig c.deref.result.now ctx c.as_slice-3.result.now premises first
+        premises = sorted_each sig ctx premises (alike sig c.deref.result.now ctx c.as_slice-3.result.now premises first
             c.as_slice-3.ensures (c.are_sorted.ensures.0 c.if-not-are_sorted.false));
-        conclusions = by_number sig ctx conclusions (alike sig c.deref-2.result.now ctx c.as_slice-4.result.now
+        conclusions = sorted_each sig ctx conclusions (alike sig c.deref-2.result.now ctx c.as_slice-4.result.now
             conclusions second c.as_slice-4.ensures (c.are_sorted-2.ensures.0 yes));
         variables = subst (λ vs. AllByRecursion (λ (v : VarInfo). IsSort sig v.sort) vs) c.as_slice-2.ensures
             (c.have_sorts.ensures.0 c.if-not-have_sorts.false);
         few_variables = omega (arith, few, count);
       },
       λ sorted. c.are_sorted-2.ensures.1 (alike sig ctx c.deref-2.result.now conclusions c.as_slice-4.result.now
-          (sym second) (sym c.as_slice-4.ensures) (by_list sig ctx conclusions sorted.conclusions)),
+          (sym second) (sym c.as_slice-4.ensures) (each_sorted sig ctx conclusions sorted.conclusions)),
     )
