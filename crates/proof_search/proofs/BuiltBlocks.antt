@@ -1,14 +1,11 @@
 -- What the building of a block keeps from step to step, and what it says at its ends.
-use Rattle.std.proofs.Common.{◌≡◌, ℕ, zero, suc, ◌+◌, ◌<◌, ◌≤◌, List, [], ◌∷◌, ◌++◌, Some, None, Ok, map, refl, ap}
+use Rattle.std.proofs.Common.{◌≡◌, ℕ, suc, ◌+◌, ◌<◌, ◌≤◌, List, [], ◌∷◌, ◌++◌, Some, None, Ok, map, ap}
 use Rattle.std.proofs.Common.{sym, ◌∙◌, subst, arith, length, length-append}
 use Rattle.std.specs.Prelude.{Option, slice_get, Contains}
 use Rattle.std.proofs.lemmas.List.{length-map, map-append}
-use Rattle.std.proofs.lemmas.Option.{none-some, same_Some}
 use Rattle.term_core.specs.Tree.{Tree}
 use Rattle.spec_core.specs.declared.records.Spec.{Spec}
-use Rattle.spec_core.specs.Sig.{Sig}
 use Rattle.spec_core.specs.WellSorted.{IsWellSorted}
-use Rattle.clause_core.specs.declared.answers.Child.{Child}
 use Rattle.clause_core.specs.declared.answers.Children.{Children}
 use Rattle.clause_core.specs.declared.clauses.Clause.{Clause}
 use Rattle.clause_core.specs.declared.steps.Step.{Step}
@@ -18,36 +15,25 @@ use Rattle.descent.specs.SortedChildren.{IsNode, ChildrenAreSorted}
 use Rattle.acceptance.specs.Blocks.{clauses_of as clauses_made, nodes_of, StepMakes, StepsMake}
 use Rattle.acceptance.proofs.Longer.{steps_longer}
 use Rattle.block_links.specs.Links.{links_of}
-use Rattle.block_steps.proofs.Taking.{nodes_joined, nodes_more, one_node}
+use Rattle.block_steps.proofs.Taking.{nodes_more, one_node}
 use Rattle.inference_rules.specs.declared.nodes.Node.{Node as ClauseNode}
 use Rattle.inference_rules.specs.Answers.{clauses_of}
 use Rattle.inference_rules.specs.Nodes.{AreNodes}
 use Rattle.routine_proof.specs.declared.moves.Move.{Move}
-use Rattle.routine_proof.specs.Blocks.{Table, clauses}
+use Rattle.routine_proof.specs.Blocks.{Table}
 use Rattle.routine_proof.specs.Candidates.{Candidate}
 use Rattle.routine_proof.specs.Entries.{lemma_goals}
 use Rattle.routine_proof.specs.Routine.{Start, candidates, makes}
 use Rattle.routine_proof.specs.Ways.{Node}
-use Rattle.routine_proof.proofs.Blocks.{chosen_says}
-use Rattle.routine_proof.proofs.Built.{clauses_at}
 use Rattle.proof_search.specs.declared.building.Building.{Building}
 use Rattle.proof_search.specs.Building.{nodes_in, IsWhole, Begins, Takes, child_nodes}
 use Rattle.proof_search.specs.declared.starting.Built.TheVariants.{Block, Not}
 use Rattle.proof_search.specs.Starting.{IsNext, AreLonger, BeginsWith, IsBlock}
 use Rattle.proof_search.proofs.Along.{OneChosen, BegunAt, Along, along_first, along_long, along_end, along_none}
 use Rattle.proof_search.proofs.Along.{along_more}
-use Rattle.proof_search.proofs.AddedNodes.{child_clauses}
-use Rattle.proof_search.proofs.BuiltNodes.{there, length_one, nodes_clauses, nodes_length, begins_whole, begins_nodes}
+use Rattle.proof_search.proofs.BuiltNodes.{there, length_one, nodes_length, begins_whole, begins_nodes}
 use Rattle.proof_search.proofs.BuiltNodes.{takes_whole, takes_nodes}
-
--- the clauses of children that can be nodes
-nodes_made :
-    (sig : Sig) (ds : List Child) →
-    ((i : ℕ) (d : Child) → slice_get ds i ≡ Some d → IsNode sig d.clause) →
-    AreNodes sig (map (λ (d : Child). d.clause) ds)
-nodes_made sig [] h j c at = absurd (none-some c at)
-nodes_made sig (d ∷ ds) h zero c at = subst (IsNode sig) (same_Some d.clause c at) (h 0 d refl)
-nodes_made sig (d ∷ ds) h (suc j) c at = nodes_made sig ds (λ i e p. h (suc i) e p) j c at
+use Rattle.proof_search.proofs.ChosenNodes.{next_clause, chosen_said, clauses_after, nodes_after}
 
 module _ (above : Tree → Tree → Type 0) (spec : Spec) (lemmas : List ℕ) (start : Start) where
   abbrev table : Table
@@ -171,29 +157,19 @@ module _ (above : Tree → Tree → Type 0) (spec : Spec) (lemmas : List ℕ) (s
             IsThere cs = slice_get cs (length b.steps.items) ≡ Some here.0.clause
 
             said : SaysOver (clauses_of b.block.nodes.items)
-            said =
-                subst SaysOver (nodes_clauses b part.whole)
-                (chosen_says (table (clauses (nodes_in b)) here.0.clause)
-                (list (length b.steps.items) (nodes_in b) here.0) move (next here.0 here.1))
+            said = chosen_said above spec lemmas start b part.whole here.0 here.1 move next
 
             clause_there : IsThere (clauses_of b.block.nodes.items)
-            clause_there =
-                subst IsThere (nodes_clauses b part.whole)
-                (clauses_at (nodes_in b) (length b.steps.items) here.0 here.1)
+            clause_there = next_clause above spec lemmas start b part.whole here.0 here.1
 
             are_new :
                 clauses_of new.block.nodes.items ≡ clauses_of b.block.nodes.items ++ clauses_made move.made
-            are_new = ap clauses_of taken.nodes ∙ child_clauses b.block.nodes.items move.made.clauses
+            are_new = clauses_after above spec lemmas start b part.whole here.0 here.1 move next new taken
 
             stand : AreNodes spec.sig (clauses_of new.block.nodes.items)
             stand =
-                let made =
-                laws move.step spec lemmas (clauses_of b.block.nodes.items) here.0.clause move.made fine
-                (λ j d p. (part.nodes j d p).sorted)
-                (part.nodes (length b.steps.items) here.0.clause clause_there).sorted said in
-                subst (AreNodes spec.sig) (sym are_new)
-                (nodes_joined spec.sig (clauses_of b.block.nodes.items) (clauses_made move.made) part.nodes
-                (nodes_made spec.sig move.made.clauses made))
+                nodes_after above spec lemmas start b part.whole here.0 here.1 move next new taken laws
+                fine part.nodes
 
             abbrev MakesAt : ℕ → Type 0
             MakesAt k =

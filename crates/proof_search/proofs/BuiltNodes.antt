@@ -234,7 +234,7 @@ grown_children steps nodes k node step (c ∷ children) at is =
     (get_more nodes (new ∷ []) k node at) is
     ∙ append_assoc nodes (new ∷ []) behind
 
-zip_second :
+pub zip_second :
     {X Y : Type 0} (xs : List X) (ys : List Y) (k : ℕ) (m : X × Y) →
     slice_get (zip xs ys) k ≡ Some m → slice_get ys k ≡ Some m.1
 zip_second [] ys k m at = absurd (none-some m at)

@@ -29,8 +29,17 @@ mod AddedNodes
 mod Along
 mod BuiltBlocks
 mod Starts
+-- Nodes that are taken out, and walks past those at which the routine strategy stops.
+mod RemovedItems
+mod PassedNodes
+mod ChosenNodes
+mod Walks
 -- Which of them are proofs.
 mod StartProofs
 mod FewStarts
 mod FirstProofs
 mod AcceptedProofs
+mod ListedGoals
+-- Those whose blocks keep limits, and the nodes at which the search for one stops.
+mod BoundedProofs
+mod StuckNodes

@@ -1,5 +1,6 @@
 -- The nodes of a block that is being built, with the ways that lead to them.
 use Rattle.std.specs.Prelude.{◌≡◌, ℕ, suc, ◌≤◌, ◌<◌, List, [], ◌∷◌, ◌++◌, Option, Some, None, map, length, slice_get}
+use Rattle.std.specs.Prelude.{remove}
 use Rattle.std.specs.List.{zip}
 use Rattle.clause_core.specs.declared.answers.Child.{Child}
 use Rattle.clause_core.specs.declared.clauses.Clause.{Clause}
@@ -68,4 +69,13 @@ pub record Takes (old new : Building) (move : Move) : Type 0 where
   pub links : new.block.links.items ≡ old.block.links.items ++ links_of move.made ∷ []
   pub leadings :
       ArePlaces old.block.nodes.items old.leadings.items → ArePlaces new.block.nodes.items new.leadings.items
+  pub sides : new.sides ≡ old.sides
+
+-- the next node, of this clause, is taken out
+pub record Passes (old new : Building) (clause : Clause) : Type 0 where
+  pub is : slice_get old.block.nodes.items (length old.steps.items) ≡ Some (record { clause = clause })
+  pub nodes : new.block.nodes.items ≡ remove old.block.nodes.items (length old.steps.items)
+  pub parents : new.parents.items ≡ remove old.parents.items (length old.steps.items)
+  pub steps : new.steps.items ≡ old.steps.items
+  pub leadings : ArePlaces new.block.nodes.items new.leadings.items
   pub sides : new.sides ≡ old.sides

@@ -16,3 +16,7 @@ pub mod Chosen
 -- Blocks that are built from a start, and which of them are proofs.
 pub mod Starting
 pub mod Proving
+-- Proofs whose blocks keep limits, and the nodes at which the search for one stops.
+pub mod Bounding
+pub mod Stuck
+pub mod Walks

@@ -3,7 +3,7 @@
 ghost use Rattle.std.specs.Prelude.{◌≡◌, ◌<◌, ◌^◌, Some, IfOk, OnOk, length, slice_get};
 ghost use Rattle.routine_proof.specs.Ways.{Node as WayNode, ancestors as ancestors_of};
 ghost use Rattle.routine_proof.specs.Ways.{is_cover as is_cover_of};
-ghost use Rattle.proof_search.specs.Building.{IsWhole, nodes_in, Begins, Takes};
+ghost use Rattle.proof_search.specs.Building.{IsWhole, nodes_in, Begins, Takes, Passes};
 ghost use Rattle.proof_search.specs.FallingSides.{AreFalling};
 
 use crate::falling_sides::{FallingSides, falling_sides};
@@ -76,6 +76,37 @@ impl Building {
         first_of(self.steps)
     }
 
+    /// Takes the next node out, so that it gets no step, and answers its clause.
+    pub fn pass(&mut self) -> Clause
+        requires whole { IsWhole self.old }
+        requires next { length self.old.steps.items < length self.old.block.nodes.items }
+        ensures { Passes self.old self.new result }
+    {
+        let next = self.steps.len();
+        self.parents.remove(next);
+        self.leadings.remove(next);
+        let node = self.block.nodes.remove(next);
+        node.clause
+    }
+
+    /// The number of covers on the way to the next node.
+    pub fn covers_above(&self) -> u32
+        requires whole { IsWhole self.now }
+        requires next { length self.now.steps.items < length self.now.block.nodes.items }
+    {
+        let parents = self.parents.as_slice();
+        let steps = self.steps.as_slice();
+        let mut covers: u32 = 0;
+        let mut here = steps.len();
+        while here > 0 {
+            here = parents[here] as usize;
+            if is_cover(&steps[here]) {
+                covers = covers.saturating_add(1);
+            }
+        }
+        covers
+    }
+
     /// The ancestors of a node from which some step on the way to it isn't a cover, from node 0 on.
     pub fn ancestors(&self, alloc: Global, node: u32) -> Result<Vec<u32>, OutOfMemory>
         requires whole { IsWhole self.now }
@@ -109,7 +140,7 @@ pub(crate) fn first_of(steps: Vec<Step>) -> Option<Step>
     Some(rest.swap_remove(0))
 }
 
-fn is_cover(step: &Step) -> bool
+pub(crate) fn is_cover(step: &Step) -> bool
     ensures { result ≡ is_cover_of step.now }
 {
     matches!(step, Step::Cover(..))

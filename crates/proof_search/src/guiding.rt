@@ -86,7 +86,7 @@ fn first_proof<O: TermOrder>(
 
 /// The variable whose split is the same start as one that begins with this step: the step is its
 /// cover by the test set of its sort.
-fn same_split(
+pub(crate) fn same_split(
     alloc: Global,
     spec: &Spec,
     clause: &Clause,

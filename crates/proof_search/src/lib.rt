@@ -1,4 +1,5 @@
-//! The search for a routine proof: the first one of a goal over lemmas.
+//! The search for a routine proof: the first one of a goal over lemmas, or one whose block keeps
+//! limits, and the nodes at which the search stops.
 //!
 //! Uses routine_proof, which says what routine blocks and proofs are. The specification comes
 //! with the order that admits it (`Admitted` of spec_admit). `children` of inference_rules takes
@@ -21,12 +22,23 @@
 //! The claim that its block proves the goal is accepted after any claims that prove the lemmas
 //! and aren't on the goal.
 //!
+//! `proof_within`: what it finds is a routine proof of the goal from one of its starts, with at
+//! most as many nodes as are allowed, and its claim is accepted like that of `guided`.
+//! `stuck_nodes`: each of them is a node, other than the goal's, that chosen moves reach from the
+//! goal's clause while other nodes are passed over. At the node no entry of the list gives a
+//! step, or the first one that does covers a variable, as its cause tells. `stuck_clauses`: the
+//! clauses of such nodes.
+//!
 //! Tested: Goals by hand, and goals at random beside a plain program in Python (`tests/compare`),
 //! through the program.
+//!
+//! Neither: That `proof_within` finds a proof where the limits allow one, and which of the nodes
+//! `stuck_nodes` meets.
 #![tactic(auto)]
 
 mod answers;
 mod at;
+mod bounding;
 mod building;
 mod choosing;
 mod covering;
@@ -34,7 +46,9 @@ mod falling_sides;
 mod guiding;
 mod laws;
 mod leading_places;
+mod limits;
 mod numbered;
+mod passing;
 mod proving;
 mod referring;
 mod rewriting;
@@ -42,6 +56,11 @@ mod ruling;
 mod setting;
 mod side_spines;
 mod starting;
+mod stuck;
+mod trying;
 
 pub use answers::Guided;
 pub use guiding::guided;
+pub use limits::Limits;
+pub use stuck::{Cause, Stuck, stuck_clauses, stuck_nodes};
+pub use trying::proof_within;

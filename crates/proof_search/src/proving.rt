@@ -69,7 +69,12 @@ pub(crate) fn proof_from<O: TermOrder>(
 }
 
 /// The block, if the claim that it proves the goal isn't too long for a report.
-fn short_block(alloc: Global, spec: &Spec, goal: &Goal, block: Block) -> Result<Tried, OutOfMemory>
+pub(crate) fn short_block(
+    alloc: Global,
+    spec: &Spec,
+    goal: &Goal,
+    block: Block,
+) -> Result<Tried, OutOfMemory>
     requires { ClaimIsInRange spec.now.sig (proved_by goal.now block) }
     ensures { IfOk result (IsShortBlock spec.now goal.now block) }
 {

@@ -72,7 +72,7 @@ pub(crate) fn block<O: TermOrder>(
 }
 
 /// The move that is chosen at the next node.
-fn next_move<O: TermOrder>(
+pub(crate) fn next_move<O: TermOrder>(
     alloc: Global,
     order: &O,
     setting: &Setting,

@@ -1,6 +1,5 @@
-use Rattle.std.proofs.Common.{◌≡◌, ◌∙◌, ◌<◌, List, ℕ, Some, refl, sym, subst, length, get_or}
+use Rattle.std.proofs.Common.{◌≡◌, ◌<◌, List, ℕ, Some, sym, subst, length}
 use Rattle.std.specs.Prelude.{Result, IfOk, Ok, Err, slice_get}
-use Rattle.std.proofs.lemmas.Option.{slice_get_read}
 use Rattle.term_core.specs.Tree.{Tree}
 use Rattle.spec_core.specs.declared.records.Goal.{Goal}
 use Rattle.spec_core.specs.declared.records.Spec.{Spec}
@@ -9,25 +8,8 @@ use Rattle.routine_proof.specs.Routine.{IsFirstProof}
 use Rattle.proof_search.specs.declared.answers.Guided.{Guided}
 use Rattle.proof_search.specs.Guided.{steps_in, IsAcceptedAfter}
 use Rattle.proof_search.proofs.AcceptedProofs.{accepted_after}
+use Rattle.proof_search.proofs.ListedGoals.{listed, of_listed}
 use Rattle.proof_search.proofs.guiding.guided.Goals as goal
-
--- the goal that is read, as one of the specification's
-listed :
-    (goals items : List Goal) (i : ℕ) (one : Goal) → items ≡ goals → i < length items →
-    one ≡ get_or items i one → slice_get goals i ≡ Some one
-listed goals items i one same h is =
-    subst (λ gs. slice_get gs i ≡ Some one) same (slice_get_read items _ i one refl h is)
-
--- what is so of the goal that is read is so of the goal at its number
-of_listed :
-    {E : Type 0} (goals : List Goal) (i : ℕ) (one : Goal) (Holds : Goal → Guided → Type 0) →
-    slice_get goals i ≡ Some one → (result : Result Guided E) → IfOk result (Holds one) →
-    IfOk result (λ found. (it : Goal) → slice_get goals i ≡ Some it → Holds it found)
-of_listed goals i one Holds at (Ok found) h = λ it at_too.
-    let q : Some one ≡ Some it = sym at ∙ at_too in
-    let same : one ≡ it = cc in
-    subst (λ g. Holds g found) same h
-of_listed goals i one Holds at (Err error) h = h
 
 accepted_if_ok :
     {E : Type 0} (above : Tree → Tree → Type 0) (spec : Spec) (lemmas : List ℕ) (one : Goal)

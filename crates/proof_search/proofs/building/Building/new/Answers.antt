@@ -1,4 +1,4 @@
-use Rattle.std.proofs.Common.{◌≡◌, ℕ, ◌++◌, List, [], ◌∷◌, Option, ap, ◌∙◌}
+use Rattle.std.proofs.Common.{ℕ, ◌++◌, List, [], ◌∷◌, Option, ap, ◌∙◌}
 use Rattle.fitting_lists.specs.declared.leading_equations.LeadingPlace.{LeadingPlace}
 use Rattle.inference_rules.specs.declared.nodes.Node.{Node as ClauseNode}
 use Rattle.proof_search.proofs.AddedNodes.{same_nodes}
