@@ -14,16 +14,16 @@ use Rattle.command_line.proofs.OwnNames.{differs}
 use Rattle.command_line.proofs.Askings.{no_task_loads}
 use Rattle.command_line.proofs.Entries.{one_name}
 
-one_text : (o : Option Text) (s t : Text) → o ≡ Some s → o ≡ Some t → s ≡ t
+pub one_text : (o : Option Text) (s t : Text) → o ≡ Some s → o ≡ Some t → s ≡ t
 one_text o s t is is_too = ap (λ (x : Option Text). unwrap_or x s) (sym is ∙ is_too)
 
-one_number : (rows : List Row) (name : Text) (range : NumberRange) (n m : ℕ) → HasNumber rows name range n →
+pub one_number : (rows : List Row) (name : Text) (range : NumberRange) (n m : ℕ) → HasNumber rows name range n →
     HasNumber rows name range m → n ≡ m
 one_number rows name range n m is is_too =
     let same = one_text _ is.text is_too.text is.found is_too.found in
     sym is.writes.value ∙ (ap (λ (text : Text). digits_value 10 (without_leading_plus text)) same ∙ is_too.writes.value)
 
-one_flag : (P : Type 0) (a b : Bool) → IsTrue a ↔ P → IsTrue b ↔ P → a ≡ b
+pub one_flag : (P : Type 0) (a b : Bool) → IsTrue a ↔ P → IsTrue b ↔ P → a ≡ b
 one_flag P true b is is_too = sym (is_too.1 (is.0 refl))
 one_flag P false true is is_too = is.1 (is_too.0 refl)
 one_flag P false false is is_too = refl

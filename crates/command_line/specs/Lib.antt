@@ -13,3 +13,5 @@ pub mod Examples
 pub mod FlatApps
 pub mod Entries
 pub mod Readings
+-- What only contracts of this crate and of the crates above speak of.
+pub mod Helps

@@ -17,6 +17,10 @@ numeral_rule name range = record (new_rule name) {
   parser = Some (Unsigned range.least range.most);
 }
 
+-- an option with a text
+abbrev pub option_rule : Text → Rule
+option_rule name = record (new_rule name) { long = Some name; action = Some Set }
+
 -- an option with a number of the range, and the text that stands for it if no word gives one
 abbrev pub number_rule : Text → NumberRange → Text → Rule
 number_rule name range usual = record (new_rule name) {

@@ -2,7 +2,8 @@
 
 ghost use Rattle.std.specs.Prelude.{◌≡◌, ◌↔◌, ◌<◌, ◌^◌, IsTrue, false};
 ghost use Rattle.clap.specs.Words.{found_of, rows_of, rule_of};
-ghost use Rattle.command_line.specs.Rules.{flag_rule, number_rule, numeral_rule, word_rule};
+ghost use Rattle.command_line.specs.Rules.{flag_rule, number_rule, numeral_rule};
+ghost use Rattle.command_line.specs.Rules.{option_rule, word_rule};
 ghost use Rattle.command_line.specs.Matches.{HasNumber, HasWord, IsGiven};
 ghost use Rattle.command_line.specs.Readings.{HasSomeNumber, HasSomeWord};
 
@@ -29,6 +30,14 @@ pub fn numeral<'a>(alloc: Global, name: &'a str, range: NumberRange) -> Arg<'a>
         .required(true)
         .action(ArgAction::Set)
         .value_parser(ValueParser::Unsigned(least, most))
+}
+
+/// An option with a text.
+pub fn option<'a>(alloc: Global, name: &'a str) -> Arg<'a>
+    ensures rule { rule_of result ≡ option_rule name.entry.now }
+    ensures local { result.global ≡ false }
+{
+    Arg::new(alloc, name).long(name).action(ArgAction::Set)
 }
 
 /// An option with a number, and the text that stands for it if no word gives one.

@@ -5,13 +5,13 @@ use Rattle.clap.specs.Words.{IsAmong, Row, Text, fault_of, matches_of}
 use Rattle.clap.specs.Kinds.{Kinds}
 use Rattle.clap.specs.declared.error.kind.ErrorKind.{ErrorKind}
 use Rattle.clap.specs.declared.error.kind.ErrorKind.TheVariants.{DisplayHelp}
+use Rattle.command_line.specs.Helps.{BeginWithHelp, IsHelpWord}
 use Rattle.command_line.specs.Tasks.{IsNamed}
 use Rattle.command_line.proofs.Entries.{one_name}
 use Rattle.command_line.proofs.OwnNames.{differs}
 use Rattle.page_core.specs.declared.parts.Format.{Format}
 use Rattle.page_core.specs.declared.parts.Format.TheVariants.{Html, Text as PlainText}
-use Rattle.show_words.specs.Words.{Task, Asks, Say, AskForHelp, AskNothing, BeginWithHelp, IsHelpWord, app_for}
-use Rattle.show_words.specs.Words.{command_word}
+use Rattle.show_words.specs.Words.{Task, Asks, Say, AskForHelp, AskNothing, app_for, command_word}
 
 one_text : (o : Option Text) (s t : Text) → o ≡ Some s → o ≡ Some t → s ≡ t
 one_text o s t is is_too = ap (λ (x : Option Text). unwrap_or x s) (sym is ∙ is_too)

@@ -3,5 +3,3 @@ pub mod Words
 pub mod Usage
 pub mod Requests
 pub mod Laws
--- What only this crate's own contracts speak of.
-pub mod Readings

@@ -1,11 +1,11 @@
 -- What words ask for: a page of a report, help, or nothing.
-use Rattle.std.specs.Prelude.{◌≡◌, ◌≢◌, ◌⊎◌, List, [], ◌∷◌, Option, Some, codes}
-use Rattle.clap.specs.Words.{App, IsAmong, Row, Rule, Text, fault_of, first_of, matches_of, new_app, new_rule}
-use Rattle.clap.specs.declared.builder.action.ArgAction.TheVariants.{Set}
+use Rattle.std.specs.Prelude.{◌≡◌, ◌⊎◌, List, [], ◌∷◌, Option, codes}
+use Rattle.clap.specs.Words.{App, IsAmong, Row, Text, fault_of, first_of, matches_of, new_app}
 use Rattle.clap.specs.declared.error.kind.ErrorKind.TheVariants.{DisplayHelp}
 use Rattle.command_line.specs.Apps.{with_rules}
+use Rattle.command_line.specs.Helps.{AreFaulty, BeginWithHelp}
 use Rattle.command_line.specs.Matches.{HasWord, Takes}
-use Rattle.command_line.specs.Rules.{word_rule}
+use Rattle.command_line.specs.Rules.{option_rule, word_rule}
 use Rattle.command_line.specs.Tasks.{IsNamed}
 use Rattle.page_core.specs.declared.parts.Format.{Format}
 use Rattle.page_core.specs.declared.parts.Format.TheVariants.{Html, Text as PlainText}
@@ -16,10 +16,6 @@ pub record Task : Type 0 where
   pub file : Text
   pub report : Text
   pub goal : Option Text
-
--- an option with a text
-abbrev pub option_rule : Text → Rule
-option_rule name = record (new_rule name) { long = Some name; action = Some Set }
 
 -- `page FILE REPORT [--goal NAME]`, with this command word in the place of `page`
 abbrev pub app_named : Text → App
@@ -45,24 +41,11 @@ pub record Asks (words : List Text) (task : Task) : Type 0 where
   pub taken : Takes (app_for task.form) words
   pub task_is : Say (matches_of (app_for task.form) words) task
 
--- a word that asks for help if it is the first one
-abbrev pub IsHelpWord : Text → Type 0
-IsHelpWord word = (word ≡ codes "--help") ⊎ ((word ≡ codes "-h") ⊎ (word ≡ codes "help"))
-
-abbrev pub BeginWithHelp : List Text → Type 0
-BeginWithHelp [] = ⊥
-BeginWithHelp (word ∷ words) = IsHelpWord word
-
 -- the words ask for help: the first one does, or it is a command word and `clap` finds that another does
 abbrev pub AskForHelp : List Text → Type 0
 AskForHelp words =
     BeginWithHelp words
     ⊎ ((form : Format) × IsNamed (command_word form) words × IsAmong DisplayHelp (fault_of (app_for form) words))
-
--- `clap` finds a fault in the words, and not only that they ask for help
-pub record AreFaulty (app : App) (words : List Text) : Type 0 where
-  pub fault : fault_of app words ≢ []
-  pub other : fault_of app words ≢ DisplayHelp ∷ []
 
 -- the words ask for nothing: the first one doesn't ask for help, and if it is a command word there is a
 -- fault in them

@@ -1,15 +1,15 @@
 //! `request_of`: the one thing that words ask for.
 
-ghost use Rattle.std.specs.Prelude.{◌≡◌, ◌≢◌, ◌↔◌, IfOk, IsTrue, MatchOption, map, string_bytes};
+ghost use Rattle.std.specs.Prelude.{◌≡◌, ◌≢◌, IfOk, MatchOption, map, string_bytes};
 ghost use Rattle.clap.specs.Words.{found_of, rows_of};
 ghost use Rattle.command_line.specs.Readings.{HasArguments};
 ghost use Rattle.page_core.specs.declared.parts.Format.{Format as FormatOf};
 ghost use Rattle.show_words.specs.Requests.{IsAsked, task_of};
-ghost use Rattle.show_words.specs.Words.{IsHelpWord, Say, app_for, command_word};
+ghost use Rattle.show_words.specs.Words.{Say, app_for, command_word};
 
-use crate::arguments::{Reading, app, reading_of};
+use crate::arguments::app;
 use clap::ArgMatches;
-use command_line::word_of;
+use command_line::{Reading, asks_for_help, reading_of, word_of};
 use page_core::Format;
 use std::alloc::Global;
 use term_core::{OutOfMemory, front};
@@ -56,13 +56,6 @@ pub fn request_of<'a>(
         Reading::Help => Ok(Some(Request::Help)),
         Reading::Fault => Ok(None),
     }
-}
-
-/// Whether a first word asks for help.
-fn asks_for_help(word: &str) -> bool
-    ensures { IsTrue result ↔ IsHelpWord word.now }
-{
-    word == "--help" || word == "-h" || word == "help"
 }
 
 /// The format whose command word this is.

@@ -2,10 +2,10 @@ use Rattle.std.proofs.Common.{◌≡◌, ◌∙◌, ap, inr, map, rules, subst}
 use Rattle.std.specs.Prelude.{string_bytes}
 use Rattle.clap.specs.Words.{App, IsAmong, app_of, fault_of}
 use Rattle.clap.specs.declared.error.kind.ErrorKind.TheVariants.{DisplayHelp}
-use Rattle.show_words.specs.Readings.{IsReading}
+use Rattle.command_line.specs.Helps.{IsReading}
+use Rattle.command_line.specs.declared.matching.Reading.{Reading}
+use Rattle.command_line.specs.declared.matching.Reading.TheVariants.{Help}
 use Rattle.show_words.specs.Words.{app_for, app_named}
-use Rattle.show_words.specs.declared.arguments.Reading.{Reading}
-use Rattle.show_words.specs.declared.arguments.Reading.TheVariants.{Help}
 use Rattle.show_words.proofs.requests.request_of.Goals as goal
 
 pub returns-in-Help : goal.returns-in-Help

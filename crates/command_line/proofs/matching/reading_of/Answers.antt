@@ -1,6 +1,6 @@
 use Rattle.clap.specs.Words.{app_of}
 use Rattle.command_line.proofs.FlatApps.{is_simple_too, word_there, number_there, numeral_there}
-use Rattle.show_words.proofs.arguments.reading_of.Goals as goal
+use Rattle.command_line.proofs.matching.reading_of.Goals as goal
 
 pub returns-in-Ok : goal.returns-in-Ok
 returns-in-Ok c =
