@@ -21,3 +21,4 @@ mod texts;
 
 pub use checking::{Exploration, checked};
 pub use laws::{explorations_are_true, nothing_added, one_exploration, worked_examples};
+pub use proving::is_proved;

@@ -55,7 +55,7 @@ fn stays_if_proved(claim: &Claim, claims: &[Claim]) -> bool
 }
 
 /// Whether some claim is that the goal of this name is proved.
-fn is_proved(claims: &[Claim], name: &Name) -> bool
+pub fn is_proved(claims: &[Claim], name: &Name) -> bool
     ensures { IsTrue result ↔ IsProvedBy name.now claims.now }
 {
     for claim in claims {

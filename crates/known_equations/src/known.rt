@@ -55,6 +55,13 @@ impl<'a, O: TermOrder> Known<'a, O> {
         })
     }
 
+    /// The order in which uses fall.
+    pub fn order(&self) -> &'a O
+        ensures { result.now ≡ self.now.order }
+    {
+        self.store.order
+    }
+
     /// How many clauses are known.
     pub fn len(&self) -> usize
         ensures { result ≡ length self.now.clauses }

@@ -19,9 +19,9 @@
 //!
 //! Proved: `run`: what the program promises of every call. What a file, a report, commands or a
 //! number of goals lead to is one thing: `one_ending`, `one_replay`, `one_trim`, `one_session`,
-//! `one_load`, `one_right_report`. `search_alone_proves_nothing`,
-//! `finished_reports_are_accepted`, `finished_runs_are_replayed`, `upgrades_keep_meaning`,
-//! `upgraded_runs_answer_the_same`. `Status::code`.
+//! `one_load`, `one_right_report`. `search_alone_proves_nothing`, `finished_reports_are_accepted`,
+//! `finished_runs_are_replayed`, `upgrades_keep_meaning`, `upgraded_runs_answer_the_same`.
+//! `usual_report`: the report of `prove` with the usual numbers, in memory. `Status::code`.
 //!
 //! Tested: Reports and refusals byte by byte, faults in mid-stream, words.
 #![tactic(auto)]
@@ -42,5 +42,6 @@ pub use laws::{
     one_right_report, one_session, one_trim, search_alone_proves_nothing,
     upgraded_runs_answer_the_same, upgrades_keep_meaning,
 };
+pub use reporting::usual_report;
 pub use running::run;
 pub use sessions::MAX_COMMAND_BYTES;

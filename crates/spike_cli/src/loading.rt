@@ -1,24 +1,22 @@
 //! `load`: a generated text, its report in memory, and the report replayed.
 
 ghost use Rattle.std.specs.Prelude.{◌≡◌, ◌≤◌, ℕ, List, IfOk};
-ghost use Rattle.command_line.specs.Usual.{usual_bounds};
 ghost use Rattle.load_text.specs.LoadSpec.{load_spec};
 ghost use Rattle.proof_script.specs.Texts.{IsReportText};
 ghost use Rattle.acceptance.specs.Accepting.{IsAccepted};
 ghost use Rattle.clause_core.specs.declared.reports.Report.{Report as ReportOf};
 ghost use Rattle.spec_order.specs.Orders.{above_of, order_of};
-ghost use Rattle.spike_cli.specs.Loads.{IsLoad, SomeReport};
+ghost use Rattle.spike_cli.specs.Loads.{IsLoad};
 ghost use Rattle.file_replies.specs.Stops.{Finishes};
 ghost use Rattle.file_replies.specs.Reported.{HasReports};
 ghost use Rattle.file_replies.specs.declared.statuses.Status.TheVariants.{Done};
 
 use crate::laws::{one_ending, one_replay};
-use crate::reporting::write_report;
+use crate::reporting::usual_report;
 use accepted_spec::{Accepted, Refusal, specification};
 use clause_core::Report;
-use command_line::ProofBounds;
 use file_replies::{Status, Stop};
-use io_core::{Sink, SureSink, write_all};
+use io_core::{Sink, write_all};
 use load_text::load_text;
 use proof_script::one_report;
 use replay_check::{Answer, replay};
@@ -52,7 +50,7 @@ fn lines(alloc: Global, goals: u32) -> Result<Vec<u8>, OutOfMemory>
 {
     one_report();
     let accepted = generated(alloc, goals)?;
-    let sink = reported(alloc, &accepted.admitted)?;
+    let sink = usual_report(alloc, &accepted.admitted)?;
     let report = replayed(alloc, &accepted.admitted, sink.bytes())?;
     load_lines(alloc, goals, report.claims.as_slice())
 }
@@ -72,20 +70,6 @@ fn generated(alloc: Global, goals: u32) -> Result<Accepted, OutOfMemory>
         Ok(accepted) => Ok(accepted),
         Err(Refusal::OutOfMemory) => Err(OutOfMemory),
         Err(Refusal::Line(_)) => unreachable!(),
-    }
-}
-
-/// The report of the specification with the usual bounds, in memory.
-fn reported(alloc: Global, admitted: &Admitted<AnyOrder>) -> Result<SureSink, OutOfMemory>
-    requires ordered { admitted.now.order ≡ order_of admitted.now.spec }
-    requires reported { HasReports admitted.now.spec }
-    ensures { IfOk result (SomeReport admitted.now.spec) }
-{
-    let mut sink = SureSink::new(alloc);
-    match write_report(alloc, admitted, ProofBounds::usual(), &mut sink) {
-        Ok(_) => Ok(sink),
-        Err(Stop::OutOfMemory) => Err(OutOfMemory),
-        Err(_) => unreachable!(),
     }
 }
 

@@ -1,9 +1,10 @@
 //! `prove` and `refute`: a report, claim by claim.
 
-ghost use Rattle.std.specs.Prelude.{◌≡◌, ◌≤◌, ◌++◌, Some, OnOk, slice_get};
+ghost use Rattle.std.specs.Prelude.{◌≡◌, ◌≤◌, ◌++◌, Some, IfOk, OnOk, slice_get};
 ghost use Rattle.spec_order.specs.Orders.{order_of};
 ghost use Rattle.spike_cli.specs.Claims.{number_proved};
 ghost use Rattle.spike_cli.specs.Lemmas.{AreLemmas};
+ghost use Rattle.spike_cli.specs.Loads.{SomeReport};
 ghost use Rattle.spike_cli.specs.Reports.{BeginsReport, IsReport, search_alone as search_alone_of};
 ghost use Rattle.file_replies.specs.Stops.{Finishes};
 ghost use Rattle.spike_cli.specs.Stops.{WritesHeader, WritesClaim, joined};
@@ -14,7 +15,7 @@ use crate::claims::{NumberedGoal, claim_on};
 use clause_core::{Claim, Outcome};
 use command_line::{ProofBounds, SearchBounds};
 use file_replies::{Status, Stop};
-use io_core::{Sink, write_all};
+use io_core::{Sink, SureSink, write_all};
 use plain_search::plain_blocks_stand;
 use proof_script::{print_claim, print_header};
 use routine_proof::{proves_behind_claims, routine_blocks_stand};
@@ -33,6 +34,20 @@ pub fn search_alone(search: SearchBounds) -> ProofBounds
         search,
         plain: 0,
         nodes: 0,
+    }
+}
+
+/// The report of the goals with the usual bounds, in memory.
+pub fn usual_report(alloc: Global, admitted: &Admitted<AnyOrder>) -> Result<SureSink, OutOfMemory>
+    requires ordered { admitted.now.order ≡ order_of admitted.now.spec }
+    requires reported { HasReports admitted.now.spec }
+    ensures { IfOk result (SomeReport admitted.now.spec) }
+{
+    let mut sink = SureSink::new(alloc);
+    match write_report(alloc, admitted, ProofBounds::usual(), &mut sink) {
+        Ok(_) => Ok(sink),
+        Err(Stop::OutOfMemory) => Err(OutOfMemory),
+        Err(_) => unreachable!(),
     }
 }
 
