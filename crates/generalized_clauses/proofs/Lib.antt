@@ -1,0 +1,2 @@
+-- Equations whose sides have one sort.
+mod Equations

@@ -1,0 +1,2 @@
+-- What only this crate's own contracts speak of.
+pub mod Sorting

@@ -1,0 +1,2 @@
+-- Numbers that increase.
+mod Increasing
