@@ -1,0 +1,2 @@
+-- What is said of a proof that was found.
+pub mod ProvedClaims
