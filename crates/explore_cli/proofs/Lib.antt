@@ -1,0 +1,4 @@
+mod BaseReports
+mod Checkings
+mod Endings
+mod Askings
