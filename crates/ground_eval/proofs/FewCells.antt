@@ -65,8 +65,8 @@ module _ (p : Program) (budget : ℕ) where
   few_both old mid new m n h k = omega (arith, h, k, compared_both m n)
 
 -- the goal is evaluated if its pairs of sides are compared
-module _ (old : Spec) (goal : Goal) (p : Program) (shifted : Goal) (constants : Constants)
-    (premises conclusions : List SidePair) (inside : IsPartial old goal p shifted constants premises conclusions) where
+module _ {old : Spec} {goal : Goal} {p : Program} {shifted : Goal} {constants : Constants}
+    {premises conclusions : List SidePair} (inside : IsPartial old goal p shifted constants premises conclusions) where
   code_short : length p.code ≤ rules_length old.rules + goal_length goal
   code_short =
       let c = old.sig.constructors in

@@ -1,11 +1,14 @@
 -- Equations with constants, and their code.
 use Rattle.std.proofs.Common.{◌≡◌, ℕ, zero, suc, ◌<◌, List, [], ◌∷◌, Some, refl, arith, length}
+use Rattle.std.proofs.Common.{get_or}
 use Rattle.std.specs.Prelude.{slice_get}
+use Rattle.std.proofs.lemmas.Option.{slice_get-get_or}
 use Rattle.spec_core.specs.declared.records.Equation.{Equation}
 use Rattle.value_bank.specs.Cells.{Cell, AddsCells}
 use Rattle.value_bank.specs.declared.bank.ValueId.{ValueId}
 use Rattle.rule_code.specs.Programs.{Program}
 use Rattle.ground_eval.specs.declared.comparing.SidePair.{SidePair}
+use Rattle.ground_eval.specs.Prepared.{pair_of}
 use Rattle.ground_eval.specs.OpenSides.{Setting, CanOpen, CanOpenAll, with_constants}
 use Rattle.ground_eval.proofs.SharedSides.{stand_kept}
 
@@ -35,8 +38,8 @@ can_open_all_still s p old new pairs ids es adds
           (h.each k e pair a b);
     }
 
-module _ (s : Setting) (p : Program) (cells : List Cell) (pairs : List SidePair) (ids : List ValueId)
-    (es : List Equation) (c : CanOpenAll s p cells pairs ids es) where
+module _ {s : Setting} {p : Program} {cells : List Cell} {pairs : List SidePair} {ids : List ValueId}
+    {es : List Equation} (c : CanOpenAll s p cells pairs ids es) where
   -- an equation with its code
   pub record OpenedPair (i : ℕ) (pair : SidePair) (new : List Cell) : Type 0 where
     pub equation : Equation
@@ -48,10 +51,12 @@ module _ (s : Setting) (p : Program) (cells : List Cell) (pairs : List SidePair)
   some_item (x ∷ xs) zero lt = (x, refl)
   some_item (x ∷ xs) (suc i) lt = some_item xs i (omega (arith, lt))
 
-  pub opened_pair : (i : ℕ) (pair : SidePair) → slice_get pairs i ≡ Some pair → i < length pairs →
-      (new : List Cell) → AddsCells cells new → OpenedPair i pair new
-  opened_pair i pair at lt new adds =
+  pub opened_pair : (i : ℕ) → i < length pairs → (new : List Cell) → AddsCells cells new →
+      OpenedPair i (get_or pairs i (pair_of 0 0)) new
+  opened_pair i lt new adds =
       let e = some_item es i (omega (arith, lt, c.count)) in
+      let pair = get_or pairs i (pair_of 0 0) in
+      let at = slice_get-get_or pairs i (pair_of 0 0) lt in
       record {
         equation = e.0;
         at = e.1;

@@ -82,8 +82,8 @@ module _ (spec : Spec) (values : List Tree) (budget : ℕ) where
   decided_by goal Fails h = (h, fails_all goal.premises goal.conclusions h)
   decided_by goal Spent h = λ apart whole. h
 
-module _ (old : Spec) (goal : Goal) (p : Program) (shifted : Goal) (constants : Constants)
-    (premises conclusions : List SidePair) (inside : IsPartial old goal p shifted constants premises
+module _ {old : Spec} {goal : Goal} {p : Program} {shifted : Goal} {constants : Constants}
+    {premises conclusions : List SidePair} (inside : IsPartial old goal p shifted constants premises
     conclusions) (fine : IsWellSorted old) (sorted : GoalIsSorted old.sig goal) where
   abbrev sorts : List SortId
   sorts = inside.opened.sorts
@@ -109,10 +109,10 @@ module _ (old : Spec) (goal : Goal) (p : Program) (shifted : Goal) (constants : 
   module _ (terms : List Tree) where
     -- the goal's sides can be compared under values of all variables
     pub whole_ready : (cells : List Cell) (ids : List ValueId) → StandAt cells ids terms →
-        AreValuesOf p.spec ctx terms → CanCompareAll p cells premises ids there.premises terms
-        × CanCompareAll p cells conclusions ids there.conclusions terms
-    whole_ready cells ids stand are = goal_ready p there sorted_there premises conclusions prepared cells ids
-        terms stand are
+        AreValuesOf p.spec ctx terms → {ps qs : List SidePair} → ps ≡ premises → qs ≡ conclusions →
+        CanCompareAll p cells ps ids there.premises terms × CanCompareAll p cells qs ids there.conclusions terms
+    whole_ready cells ids stand are {ps} {qs} e d = goal_ready p there sorted_there ps qs
+        (rw (e, d) prepared) cells ids terms stand are
 
     module _ (first : AreFirstValues old goal terms) where
       pub no_more_than : length terms ≤ n
@@ -158,17 +158,19 @@ module _ (old : Spec) (goal : Goal) (p : Program) (shifted : Goal) (constants : 
     }
 
     pub open_ready : (cells : List Cell) (ids : List ValueId) → StandAt cells ids (with_constants here) →
-        CanOpenAll here p cells premises ids goal.premises × CanOpenAll here p cells conclusions ids goal.conclusions
-    open_ready cells ids stand =
+        {ps qs : List SidePair} → ps ≡ premises → qs ≡ conclusions →
+        CanOpenAll here p cells ps ids goal.premises × CanOpenAll here p cells qs ids goal.conclusions
+    open_ready cells ids stand {ps} {qs} e d =
+        let code : IsPrepared p there ps qs = rw (e, d) prepared in
         let are = are_values old p.spec sorts fine inside.opened.extends goal inside.opened.constants zs fit count in (
           can_open old p.spec sorts fine inside.opened.extends goal inside.opened.constants zs fit count p
-              goal.premises refl sorted.premises cells premises ids
-              (can_compare p there there.premises sorted_there.premises cells premises ids (with_constants here)
-              prepared.of_premises stand are),
+              goal.premises refl sorted.premises cells ps ids
+              (can_compare p there there.premises sorted_there.premises cells ps ids (with_constants here)
+              code.of_premises stand are),
           can_open old p.spec sorts fine inside.opened.extends goal inside.opened.constants zs fit count p
-              goal.conclusions refl sorted.conclusions cells conclusions ids
-              (can_compare p there there.conclusions sorted_there.conclusions cells conclusions ids
-              (with_constants here) prepared.of_conclusions stand are),
+              goal.conclusions refl sorted.conclusions cells qs ids
+              (can_compare p there there.conclusions sorted_there.conclusions cells qs ids
+              (with_constants here) code.of_conclusions stand are),
         )
 
     none_both : (apart : NoOverlap old) (whole : GroupsAreWhole old) (budget : ℕ) (cells : List Cell)
@@ -209,7 +211,7 @@ module _ (old : Spec) (goal : Goal) (p : Program) (shifted : Goal) (constants : 
         (r : Option Verdict) → GoalOpens here budget goal r → SayOfAll old goal budget zs r
     said budget cells ids stand None h = λ r apart whole o. h r apart whole o
     said budget cells ids stand (Some v) h =
-        let o = open_ready cells ids stand in (
+        let o = open_ready cells ids stand refl refl in (
           under budget v h,
           (λ r apart whole x. one_open_verdict here budget apart whole goal.premises goal.conclusions r v
               (none_both apart whole budget cells premises ids goal.premises o.0)

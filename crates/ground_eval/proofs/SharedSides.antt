@@ -1,9 +1,9 @@
 -- What runs of the machine say of the sides of equations.
 use Rattle.std.proofs.Common.{◌≡◌, ◌⊎◌, ◌↔◌, ℕ, zero, suc, ◌+◌, ◌<◌, List, [], ◌∷◌, ◌++◌, Some, None, Bool, true}
-use Rattle.std.proofs.Common.{false, inl, inr, refl, ap, sym, ◌∙◌, subst, arith, length, length-append, map, take}
+use Rattle.std.proofs.Common.{false, inl, inr, refl, ap, sym, ◌∙◌, subst, arith, length, length-append, map, take, get_or}
 use Rattle.std.specs.Prelude.{slice_get, IsTrue}
 use Rattle.std.proofs.lemmas.List.{length-map, map-append}
-use Rattle.std.proofs.lemmas.Option.{slice_get_within}
+use Rattle.std.proofs.lemmas.Option.{slice_get_within, slice_get-get_or}
 use Rattle.term_core.proofs.Items.{all_at}
 use Rattle.term_core.specs.Tree.{Tree, instance, trees_of}
 use Rattle.term_core.specs.declared.ids.SortId.{SortId}
@@ -21,11 +21,12 @@ use Rattle.rule_code.specs.Blocks.{AddsCode}
 use Rattle.rule_code.specs.Programs.{Program, IsSide, first_numbers}
 use Rattle.rule_code.specs.Compiled.{IsBody}
 use Rattle.rule_code.proofs.Placed.{code_kept}
+use Rattle.bank_machine.specs.declared.answers.BankEval.{BankEval}
 use Rattle.bank_machine.specs.declared.answers.BankEval.TheVariants.{Value, Spent}
 use Rattle.bank_machine.specs.Runs.{StandAt, CanRun, IsBankEval}
 use Rattle.ground_eval.specs.declared.answers.Sides.TheVariants.{Same, Differ, Spent as SidesAreSpent}
 use Rattle.ground_eval.specs.declared.comparing.SidePair.{SidePair}
-use Rattle.ground_eval.specs.Prepared.{HasCode, HaveCode, IsPrepared, CanCompare, CanCompareAll}
+use Rattle.ground_eval.specs.Prepared.{pair_of, HasCode, HaveCode, IsPrepared, CanCompare, CanCompareAll}
 use Rattle.ground_eval.specs.Sides.{HasOneSort, SidesAre}
 use Rattle.ground_eval.proofs.GoalSides.{values_built, have_one_sort}
 use Rattle.rule_code.proofs.Testing.{terms_count}
@@ -38,8 +39,9 @@ pub stand_kept : (old new : List Cell) (ids : List ValueId) (values : List Tree)
     StandAt old ids values → StandAt new ids values
 stand_kept old new ids values adds h = terms_kept old new (map (λ (id : ValueId). id.0) ids) (trees_of values) adds h
 
-module _ (p : Program) (cells : List Cell) (pair : SidePair) (ids : List ValueId) (e : Equation)
-    (values : List Tree) (c : CanCompare p cells pair ids e values) where
+-- what the runs of both sides find
+module _ {p : Program} {cells : List Cell} {pair : SidePair} {ids : List ValueId} {e : Equation}
+    {values : List Tree} (c : CanCompare p cells pair ids e values) where
   pub left_runs : CanRun p cells pair.left ids e.left values c.sorted.0
   left_runs = record { code = c.code.left; stand = c.stand; built = c.built; sorted = c.sorted.1 }
 
@@ -50,6 +52,20 @@ module _ (p : Program) (cells : List Cell) (pair : SidePair) (ids : List ValueId
     built = c.built;
     sorted = c.sorted.2;
   }
+
+  module _ (mid : List Cell) (budget : ℕ) {found given : BankEval} (is : found ≡ given) where
+    pub left_found : ((t : Tree) (vs : List Tree) (s : SortId) → CanRun p cells pair.left ids t vs s →
+        IsBankEval p.spec mid (instance vs t) budget found) →
+        IsBankEval p.spec mid (instance values e.left) budget given
+    left_found ran = subst (λ r. IsBankEval p.spec mid (instance values e.left) budget r) is
+        (ran e.left values c.sorted.0 left_runs)
+
+    pub right_found : {old : List Cell} → AddsCells cells old →
+        ((t : Tree) (vs : List Tree) (s : SortId) → CanRun p old pair.right ids t vs s →
+        IsBankEval p.spec mid (instance vs t) budget found) →
+        IsBankEval p.spec mid (instance values e.right) budget given
+    right_found {old} adds ran = subst (λ r. IsBankEval p.spec mid (instance values e.right) budget r) is
+        (ran e.right values c.sorted.0 (right_runs old adds))
 
 module _ (spec : Spec) (values : List Tree) (budget : ℕ) (e : Equation) where
   pub left_spent : (cells : List Cell) → IsBankEval spec cells (instance values e.left) budget Spent →
@@ -82,8 +98,8 @@ module _ (spec : Spec) (values : List Tree) (budget : ℕ) (e : Equation) where
         (m, r.2, r.3),
       )
 
-module _ (p : Program) (cells : List Cell) (pairs : List SidePair) (ids : List ValueId) (es : List Equation)
-    (values : List Tree) (c : CanCompareAll p cells pairs ids es values) where
+module _ {p : Program} {cells : List Cell} {pairs : List SidePair} {ids : List ValueId} {es : List Equation}
+    {values : List Tree} (c : CanCompareAll p cells pairs ids es values) where
   -- an equation with its code
   pub record Paired (i : ℕ) (pair : SidePair) (new : List Cell) : Type 0 where
     pub equation : Equation
@@ -95,15 +111,16 @@ module _ (p : Program) (cells : List Cell) (pairs : List SidePair) (ids : List V
   some_item (x ∷ xs) zero lt = (x, refl)
   some_item (x ∷ xs) (suc i) lt = some_item xs i (omega (arith, lt))
 
-  pub paired : (i : ℕ) (pair : SidePair) → slice_get pairs i ≡ Some pair → i < length pairs →
-      (new : List Cell) → AddsCells cells new → Paired i pair new
-  paired i pair at lt new adds =
+  pub paired : (i : ℕ) → i < length pairs → (new : List Cell) → AddsCells cells new →
+      Paired i (get_or pairs i (pair_of 0 0)) new
+  paired i lt new adds =
       let e = some_item es i (omega (arith, lt, c.code.count)) in
       record {
         equation = e.0;
         at = e.1;
         ready = record {
-          code = c.code.each i e.0 pair e.1 at;
+          code = c.code.each i e.0 (get_or pairs i (pair_of 0 0)) e.1
+              (slice_get-get_or pairs i (pair_of 0 0) lt);
           stand = stand_kept cells new ids values adds
               c.stand;
           built = c.built;

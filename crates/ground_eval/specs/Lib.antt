@@ -2,6 +2,7 @@
 pub mod Evals
 pub mod Sides
 pub mod Prepared
+pub mod Trials
 pub mod Laws
 pub mod Opened
 pub mod Looked

@@ -13,6 +13,7 @@ ghost use Rattle.bank_machine.specs.Runs.{StandAt, IsBankEval};
 ghost use Rattle.ground_eval.specs.Evals.{CanEvaluate, IsOnlyAt};
 ghost use Rattle.ground_eval.specs.Opened.{AreFirstValues, IsPart};
 
+use crate::comparing::Trial;
 use crate::marks::ConstantMarks;
 use crate::open_spec::OpenSpec;
 use crate::parts::{Part, PartialGoal};
@@ -101,16 +102,13 @@ pub fn verdict_in(
     let machine = Machine::new(alloc, spec)?;
     let (machine, premises, conclusions) = compile_goal(alloc, machine, goal)?;
     let mut kept = KeptCalls::new(alloc);
-    whole_verdict(
+    let trial = Trial {
         alloc,
-        &machine,
-        bank,
-        &mut kept,
-        &premises,
-        &conclusions,
+        machine: &machine,
         values,
         budget,
-    )
+    };
+    whole_verdict(&trial, bank, &mut kept, &premises, &conclusions)
 }
 
 /// The verdict if the goal's first variables have the values at these places, as

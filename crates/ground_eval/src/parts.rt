@@ -12,10 +12,11 @@ ghost use Rattle.ground_eval.specs.Constants.{AreMarks};
 ghost use Rattle.ground_eval.specs.Entries.{AreEntriesAt, SayOfAll};
 ghost use Rattle.ground_eval.specs.Looked.{most_compared, most_evaluated, most_over, most_looked};
 ghost use Rattle.ground_eval.specs.Opened.{partial, IsOpened, AreFirstValues, AreMarksOf, IsPart};
-ghost use Rattle.ground_eval.specs.OpenSides.{Setting, IsSet, CanOpenAll, GoalOpens};
+ghost use Rattle.ground_eval.specs.OpenSides.{Setting, IsSet, GoalOpens};
+ghost use Rattle.ground_eval.specs.Trials.{CanTryOpen};
 
 use crate::answers::OpenSides;
-use crate::comparing::SidePair;
+use crate::comparing::{SidePair, Trial};
 use crate::marks::{ConstantMarks, Constants};
 use crate::open_sides::{compare_open_conclusions, compare_open_premises};
 use crate::open_spec::OpenSpec;
@@ -126,20 +127,16 @@ impl<'a> PartialGoal<'a> {
             ≤ length bank.old + most_looked self.now budget) }
     {
         let count = self.goal.vars.len();
-        let machine = &self.machine;
+        let trial = Trial {
+            alloc,
+            machine: &self.machine,
+            values: fixed,
+            budget,
+        };
         let premises = self.premises.as_slice();
         let conclusions = self.conclusions.as_slice();
         if fixed.len() == count {
-            let verdict = whole_verdict(
-                alloc,
-                machine,
-                bank,
-                kept,
-                premises,
-                conclusions,
-                fixed,
-                budget,
-            )?;
+            let verdict = whole_verdict(&trial, bank, kept, premises, conclusions)?;
             return Ok(Part::All(verdict));
         }
         match self.verdict_over(alloc, bank, kept, marks, fixed, budget)? {
@@ -222,17 +219,20 @@ impl<'a> PartialGoal<'a> {
         ensures few { IfOk result (λ _. length bank.new
             ≤ length bank.old + most_evaluated self.now budget) }
     {
-        open_verdict(
+        let trial = Trial {
             alloc,
-            &self.machine,
+            machine: &self.machine,
+            values: entries,
+            budget,
+        };
+        open_verdict(
+            &trial,
             self.constants,
             bank,
             kept,
             marks,
             self.premises.as_slice(),
             self.conclusions.as_slice(),
-            entries,
-            budget,
         )
     }
 }
@@ -265,50 +265,36 @@ fn add_symbol(
 
 /// The verdict when some variables have no value, if there is one whatever they are.
 fn open_verdict(
-    alloc: Global,
-    machine: &Machine,
+    trial: &Trial,
     constants: Constants,
     bank: &mut Bank,
     kept: &mut KeptCalls,
     marks: &mut ConstantMarks,
     premises: &[SidePair],
     conclusions: &[SidePair],
-    values: &[ValueId],
-    budget: u32,
 ) -> Result<Option<Verdict>, OutOfMemory>
-    requires fine { IsWellSorted machine.now.spec }
-    requires kept { AreRight machine.now.spec bank.old kept.old }
+    requires fine { IsWellSorted trial.now.machine.now.spec }
+    requires kept { AreRight trial.now.machine.now.spec bank.old kept.old }
     requires marks { AreMarks constants.from constants.to bank.old marks.old.marks.items }
-    requires ready { (s : Setting) × (goal : Goal) × IsSet s machine.now constants
-        × CanOpenAll s machine.now bank.old premises.now values.now goal.premises
-        × CanOpenAll s machine.now bank.old conclusions.now values.now goal.conclusions }
-    ensures opens { IfOk result (λ r. (s : Setting) (goal : Goal) → IsSet s machine.now constants
-        → CanOpenAll s machine.now bank.old premises.now values.now goal.premises
-        → CanOpenAll s machine.now bank.old conclusions.now values.now goal.conclusions
-        → GoalOpens s budget goal r) }
+    requires ready { (s : Setting) × (goal : Goal) × IsSet s trial.now.machine.now constants
+        × CanTryOpen trial.now bank.old premises.now goal.premises s
+        × CanTryOpen trial.now bank.old conclusions.now goal.conclusions s }
+    ensures opens { IfOk result (λ r. (s : Setting) (goal : Goal)
+        → IsSet s trial.now.machine.now constants
+        → CanTryOpen trial.now bank.old premises.now goal.premises s
+        → CanTryOpen trial.now bank.old conclusions.now goal.conclusions s
+        → GoalOpens s trial.now.budget goal r) }
     ensures adds { AddsCells bank.old bank.new }
-    ensures kept { AreRight machine.now.spec bank.new kept.new }
+    ensures kept { AreRight trial.now.machine.now.spec bank.new kept.new }
     ensures marks { AreMarks constants.from constants.to bank.new marks.new.marks.items }
-    ensures few { IfOk result (λ _. length bank.new ≤ length bank.old
-        + most_compared machine.now (length premises.now + length conclusions.now) budget) }
+    ensures few { IfOk result (λ _. length bank.new ≤ length bank.old + most_compared
+        trial.now.machine.now (length premises.now + length conclusions.now) trial.now.budget) }
 {
-    match compare_open_premises(
-        alloc, machine, constants, bank, kept, marks, premises, values, budget,
-    )? {
+    match compare_open_premises(trial, constants, bank, kept, marks, premises)? {
         OpenSides::Unknown => Ok(None),
         OpenSides::Differ => Ok(Some(Verdict::Holds)),
         OpenSides::Same => {
-            compare_open_conclusions(
-                alloc,
-                machine,
-                constants,
-                bank,
-                kept,
-                marks,
-                conclusions,
-                values,
-                budget,
-            )
+            compare_open_conclusions(trial, constants, bank, kept, marks, conclusions)
         }
     }
 }

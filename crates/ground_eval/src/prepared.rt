@@ -12,12 +12,13 @@ ghost use Rattle.rule_code.specs.Blocks.{AddsCode};
 ghost use Rattle.bank_machine.specs.KeptCalls.{AreRight};
 ghost use Rattle.bank_machine.specs.Runs.{StandAt};
 ghost use Rattle.ground_eval.specs.Looked.{most_compared};
-ghost use Rattle.ground_eval.specs.Prepared.{HaveCode, IsPrepared, CanCompareAll, sides_length};
+ghost use Rattle.ground_eval.specs.Prepared.{HaveCode, IsPrepared, sides_length};
 ghost use Rattle.ground_eval.specs.Prepared.{goal_length};
 ghost use Rattle.ground_eval.specs.Sides.{IsDecided};
+ghost use Rattle.ground_eval.specs.Trials.{CanTry};
 
 use crate::answers::Sides;
-use crate::comparing::{SidePair, compare_conclusions, compare_premises};
+use crate::comparing::{SidePair, Trial, compare_conclusions, compare_premises};
 use bank_machine::{KeptCalls, Machine};
 use spec_core::{Equation, Goal, Verdict};
 use std::alloc::Global;
@@ -93,34 +94,29 @@ pub fn place_values(
 
 /// The verdict if all variables have values.
 pub(crate) fn whole_verdict(
-    alloc: Global,
-    machine: &Machine,
+    trial: &Trial,
     bank: &mut Bank,
     kept: &mut KeptCalls,
     premises: &[SidePair],
     conclusions: &[SidePair],
-    values: &[ValueId],
-    budget: u32,
 ) -> Result<Verdict, OutOfMemory>
-    requires fine { IsWellSorted machine.now.spec }
-    requires kept { AreRight machine.now.spec bank.old kept.old }
+    requires fine { IsWellSorted trial.now.machine.now.spec }
+    requires kept { AreRight trial.now.machine.now.spec bank.old kept.old }
     requires ready { (goal : Goal) × (terms : List Tree)
-        × CanCompareAll machine.now bank.old premises.now values.now goal.premises terms
-        × CanCompareAll machine.now bank.old conclusions.now values.now goal.conclusions terms }
+        × CanTry trial.now bank.old premises.now goal.premises terms
+        × CanTry trial.now bank.old conclusions.now goal.conclusions terms }
     ensures decided { IfOk result (λ verdict. (goal : Goal) (terms : List Tree)
-        → CanCompareAll machine.now bank.old premises.now values.now goal.premises terms
-        → CanCompareAll machine.now bank.old conclusions.now values.now goal.conclusions terms
-        → IsDecided machine.now.spec terms budget goal verdict) }
+        → CanTry trial.now bank.old premises.now goal.premises terms
+        → CanTry trial.now bank.old conclusions.now goal.conclusions terms
+        → IsDecided trial.now.machine.now.spec terms trial.now.budget goal verdict) }
     ensures adds { AddsCells bank.old bank.new }
-    ensures kept { AreRight machine.now.spec bank.new kept.new }
-    ensures few { IfOk result (λ _. length bank.new ≤ length bank.old
-        + most_compared machine.now (length premises.now + length conclusions.now) budget) }
+    ensures kept { AreRight trial.now.machine.now.spec bank.new kept.new }
+    ensures few { IfOk result (λ _. length bank.new ≤ length bank.old + most_compared
+        trial.now.machine.now (length premises.now + length conclusions.now) trial.now.budget) }
 {
-    match compare_premises(alloc, machine, bank, kept, premises, values, budget)? {
+    match compare_premises(trial, bank, kept, premises)? {
         Sides::Spent => Ok(Verdict::Spent),
         Sides::Differ => Ok(Verdict::Holds),
-        Sides::Same => {
-            compare_conclusions(alloc, machine, bank, kept, conclusions, values, budget)
-        }
+        Sides::Same => { compare_conclusions(trial, bank, kept, conclusions) }
     }
 }

@@ -101,6 +101,13 @@ pub(crate) fn with_relation(
     })
 }
 
+/// A term of a clause, and its place.
+#[derive(Clone, Copy)]
+pub(crate) struct Spot<'a> {
+    pub(crate) place: &'a Place,
+    pub(crate) term: &'a Term,
+}
+
 /// The child whose place holds the new term instead of the old one, tidied, with these references.
 /// It is compared with the node's clause as it is before that, by the two terms alone. A child that
 /// passes the limits isn't built.
@@ -108,24 +115,23 @@ pub(crate) fn child_holding<O: TermOrder>(
     alloc: Global,
     order: &O,
     here: &Clause,
-    place: &Place,
-    old: &Term,
+    old: &Spot,
     new: Term,
     refs: Seq<Reference>,
 ) -> Result<Children, StepError>
     requires here { IsWithin here.now }
-    requires there { (at : TermAt here.now place.now) × (at.term ≡ old.now) }
+    requires there { (at : TermAt here.now old.now.place.now) × (at.term ≡ old.now.term.now) }
     requires new { IsTestable new }
-    ensures { (at : TermAt here.now place.now) (referred : List (ℕ × ClauseOf)) →
+    ensures { (at : TermAt here.now old.now.place.now) (referred : List (ℕ × ClauseOf)) →
         AllZip (IsReference (O.above order.now) here.now) referred refs →
         Answered (O.above order.now) here.now []
         (makes (compared_child (holding at new) ∷ []) referred) result }
 {
-    let relation = relation_at(order, old, &new);
-    if !within_at(here, place, old, &new) {
+    let relation = relation_at(order, old.term, &new);
+    if !within_at(here, old.place, old.term, &new) {
         return Err(StepError::Why(Why::Limit));
     }
-    let child = here.holding(alloc, place, new)?;
+    let child = here.holding(alloc, old.place, new)?;
     let clause = into_tidied(alloc, child)?;
     let mut clauses = Seq::new(alloc);
     clauses.push(Child { clause, relation })?;

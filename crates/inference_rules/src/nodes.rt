@@ -5,14 +5,28 @@ ghost use Rattle.inference_rules.specs.Reasons.{error_of_rewriting, error_of_cov
 ghost use Rattle.inference_rules.specs.declared.nodes.StepError.TheVariants.{OutOfMemory as out_of_memory};
 
 use clause_core::{Clause, RewriteError, Why};
+use spec_core::Spec;
+use std::alloc::Global;
 use std::fmt;
 use term_core::OutOfMemory;
+use term_order::TermOrder;
 use test_sets::CoverError;
 
 /// A node of a block that is made. Its clause is tidied and within the limits of clauses.
 #[derive(Drop)]
 pub struct Node {
     pub clause: Clause,
+}
+
+/// What a step may use: the specification, its order, the nodes of the block, and as lemmas the
+/// goals of the numbers `proved`.
+#[derive(Drop)]
+pub(crate) struct Scope<'a, O: TermOrder> {
+    pub(crate) alloc: Global,
+    pub(crate) spec: &'a Spec,
+    pub(crate) order: &'a O,
+    pub(crate) proved: &'a [u32],
+    pub(crate) nodes: &'a [Node],
 }
 
 /// Why a step makes nothing: the first condition of its row that isn't met, or want of memory.

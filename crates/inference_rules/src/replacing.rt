@@ -12,8 +12,8 @@ ghost use Rattle.clause_core.specs.Says.{IsReference};
 ghost use Rattle.inference_rules.specs.Answers.{Answered, clauses_of};
 ghost use Rattle.inference_rules.specs.Nodes.{referred_to};
 
-use crate::making::{child_holding, reference};
-use crate::nodes::{Node, StepError};
+use crate::making::{Spot, child_holding, reference};
+use crate::nodes::{Scope, StepError};
 use crate::referring::{entries_here, instances_are_there, node_at, usable_goal};
 use clause_core::{Children, Clause, Place, Reference, Why, instance, of_goal, side};
 use cond_rewrite::is_instance;
@@ -26,10 +26,10 @@ use term_order::TermOrder;
 /// How an equation that is referred to rewrites: by the instance with these terms for its
 /// variables, the term at this place, from left to right if `left` is true.
 #[derive(Drop)]
-pub(crate) struct Rewriting<'a> {
-    pub(crate) terms: &'a [Term],
-    pub(crate) place: &'a Place,
-    pub(crate) left: bool,
+struct Rewriting<'a> {
+    terms: &'a [Term],
+    place: &'a Place,
+    left: bool,
 }
 
 /// `context`: the term at the place is a side of the premise and becomes the other side. The
@@ -53,79 +53,83 @@ pub(crate) fn context<O: TermOrder>(
         return Err(StepError::Why(Why::DoesNotFit));
     }
     let other = side(premise, !left).copy(alloc)?;
-    child_holding(alloc, order, here, place, term, other, Seq::new(alloc))
+    let old = Spot { place, term };
+    child_holding(alloc, order, here, &old, other, Seq::new(alloc))
 }
 
 /// `hyp`: the term at the place is a side of the one conclusion of an instance of the node with
 /// this number and becomes the other side.
 pub(crate) fn hyp<O: TermOrder>(
-    alloc: Global,
-    spec: &Spec,
-    order: &O,
-    nodes: &[Node],
+    scope: &Scope<O>,
     here: &Clause,
     number: u32,
-    how: &Rewriting,
+    terms: &[Term],
+    place: &Place,
+    left: bool,
 ) -> Result<Children, StepError>
     requires { IsWithin here.now }
-    ensures { Answered (O.above order.now) here.now []
-        (hyp_row spec.now here.now (clauses_of nodes.now) number
-        how.now.terms.now how.now.place.now how.now.left) result }
+    ensures { Answered (O.above scope.now.order.now) here.now []
+        (hyp_row scope.now.spec.now here.now (clauses_of scope.now.nodes.now) number
+        terms.now place.now left) result }
 {
-    let Some(node) = node_at(nodes, number) else {
+    let Some(node) = node_at(scope.nodes, number) else {
         return Err(StepError::Why(Why::NoSuchNode));
     };
-    rewrite(alloc, spec, order, here, &node.clause, Some(number), how)
+    let how = Rewriting { terms, place, left };
+    rewrite(scope, here, &node.clause, Some(number), &how)
 }
 
 /// `lemma`: the same with an instance of the goal of this name, of those that may be used.
 pub(crate) fn lemma<O: TermOrder>(
-    alloc: Global,
-    spec: &Spec,
-    order: &O,
-    proved: &[u32],
+    scope: &Scope<O>,
     here: &Clause,
     name: &Name,
-    how: &Rewriting,
+    terms: &[Term],
+    place: &Place,
+    left: bool,
 ) -> Result<Children, StepError>
     requires { IsWithin here.now }
-    ensures { Answered (O.above order.now) here.now []
-        (lemma_row spec.now here.now (Contains proved.now) name.now
-        how.now.terms.now how.now.place.now how.now.left) result }
+    ensures { Answered (O.above scope.now.order.now) here.now []
+        (lemma_row scope.now.spec.now here.now (Contains scope.now.proved.now) name.now
+        terms.now place.now left) result }
 {
-    let Some(goal) = usable_goal(spec, proved, name) else {
+    let Some(goal) = usable_goal(scope.spec, scope.proved, name) else {
         return Err(StepError::Why(Why::NotProvedBefore));
     };
-    let lemma = of_goal(alloc, goal)?;
-    rewrite(alloc, spec, order, here, &lemma, None, how)
+    let lemma = of_goal(scope.alloc, goal)?;
+    let how = Rewriting { terms, place, left };
+    rewrite(scope, here, &lemma, None, &how)
 }
 
 /// The clause here with the other side of an instance's conclusion at the place, and a reference
 /// to the instance if it is one of a node.
 fn rewrite<O: TermOrder>(
-    alloc: Global,
-    spec: &Spec,
-    order: &O,
+    scope: &Scope<O>,
     here: &Clause,
     clause: &Clause,
     node: Option<u32>,
     how: &Rewriting,
 ) -> Result<Children, StepError>
     requires { IsWithin here.now }
-    ensures { Answered (O.above order.now) here.now []
-        (rewritten_by spec.now here.now clause.now
+    ensures { Answered (O.above scope.now.order.now) here.now []
+        (rewritten_by scope.now.spec.now here.now clause.now
         how.now.terms.now how.now.place.now how.now.left (referred_to node)) result }
 {
-    let theta = entries_here(alloc, spec, here, clause, how.terms)?;
+    let alloc = scope.alloc;
+    let theta = entries_here(alloc, scope.spec, here, clause, how.terms)?;
     let Some(term) = here.term_at(how.place) else {
         return Err(StepError::Why(Why::NoSuchPlace));
     };
     let Some(equation) = usable_conclusion(alloc, here, clause, &theta, term, how.left)? else {
         return Err(StepError::Why(Why::DoesNotFit));
     };
-    let refs = references(alloc, order, here, node, clause, &theta)?;
+    let refs = references(alloc, scope.order, here, node, clause, &theta)?;
     let other = theta.apply(alloc, side(equation, !how.left))?;
-    child_holding(alloc, order, here, how.place, term, other, refs)
+    let old = Spot {
+        place: how.place,
+        term,
+    };
+    child_holding(alloc, scope.order, here, &old, other, refs)
 }
 
 /// A reference to the node with this number, if there is one, with the instance of its clause.

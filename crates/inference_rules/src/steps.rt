@@ -16,8 +16,8 @@ use crate::closing::{absurd_premise, match_premise, trivial};
 use crate::covering::cover_variable;
 use crate::generalizing::generalize;
 use crate::making::counted;
-use crate::nodes::{Node, StepError};
-use crate::replacing::{Rewriting, context, hyp, lemma};
+use crate::nodes::{Node, Scope, StepError};
+use crate::replacing::{context, hyp, lemma};
 use crate::rewriting::{rewrite, rewrite_by_cases};
 use crate::simplifying::{clash, decompose, drop_equation};
 use crate::solving::solve;
@@ -60,40 +60,37 @@ pub fn children<O: TermOrder>(
     children_are_sorted(order);
     steps_descend(order);
     let here = &nodes[node as usize].clause;
-    counted(
-        nodes.len(),
-        taken(alloc, spec, order, proved, nodes, here, step),
-    )
+    let scope = Scope {
+        alloc,
+        spec,
+        order,
+        proved,
+        nodes,
+    };
+    counted(nodes.len(), taken(&scope, here, step))
 }
 
 /// What the step makes of the clause here, where no other nodes are counted.
-fn taken<O: TermOrder>(
-    alloc: Global,
-    spec: &Spec,
-    order: &O,
-    proved: &[u32],
-    nodes: &[Node],
-    here: &Clause,
-    step: &Step,
-) -> Result<Children, StepError>
-    requires fine { IsWellSorted spec.now }
-    requires here { IsNode spec.now.sig here.now }
-    ensures { Answered (O.above order.now) here.now []
-        (row_of spec.now (Contains proved.now) (clauses_of nodes.now) here.now step.now) result }
+fn taken<O: TermOrder>(scope: &Scope<O>, here: &Clause, step: &Step) -> Result<Children, StepError>
+    requires fine { IsWellSorted scope.now.spec.now }
+    requires here { IsNode scope.now.spec.now.sig here.now }
+    ensures { Answered (O.above scope.now.order.now) here.now []
+        (row_of scope.now.spec.now (Contains scope.now.proved.now)
+        (clauses_of scope.now.nodes.now) here.now step.now) result }
 {
+    let alloc = scope.alloc;
+    let spec = scope.spec;
     match step {
         Step::Trivial(conclusion) => trivial(alloc, here, *conclusion),
         Step::Match(conclusion, premise) => match_premise(alloc, here, *conclusion, *premise),
         Step::Absurd(premise) => absurd_premise(alloc, spec, here, *premise),
-        Step::Subsume(number, terms) => {
-            subsume(alloc, spec, order, nodes, here, *number, terms.as_slice())
+        Step::Subsume(number, terms) => subsume(scope, here, *number, terms.as_slice()),
+        Step::ByLemma(name, terms) => {
+            by_lemma(alloc, spec, scope.proved, here, name, terms.as_slice())
         }
-        Step::ByLemma(name, terms) => by_lemma(alloc, spec, proved, here, name, terms.as_slice()),
         Step::Rule(place, rule) => rewrite(alloc, spec, here, place, *rule),
         Step::Case(place, rule) => rewrite_by_cases(alloc, spec, here, place, *rule),
-        Step::Decompose(conclusion, number) => {
-            decompose(alloc, spec, here, *conclusion, *number)
-        }
+        Step::Decompose(conclusion, number) => decompose(alloc, spec, here, *conclusion, *number),
         Step::Clash(conclusion) => clash(alloc, spec, here, *conclusion),
         Step::Drop(conclusion, number) => drop_equation(alloc, here, *conclusion, *number),
         Step::Solve(premise) => solve(alloc, spec, here, *premise),
@@ -102,23 +99,13 @@ fn taken<O: TermOrder>(
         }
         Step::Generalize(term) => generalize(alloc, spec, here, term),
         Step::Context(place, premise, left) => {
-            context(alloc, order, here, place, *premise, *left)
+            context(alloc, scope.order, here, place, *premise, *left)
         }
         Step::Hyp(number, terms, place, left) => {
-            let how = Rewriting {
-                terms: terms.as_slice(),
-                place,
-                left: *left,
-            };
-            hyp(alloc, spec, order, nodes, here, *number, &how)
+            hyp(scope, here, *number, terms.as_slice(), place, *left)
         }
         Step::Lemma(name, terms, place, left) => {
-            let how = Rewriting {
-                terms: terms.as_slice(),
-                place,
-                left: *left,
-            };
-            lemma(alloc, spec, order, proved, here, name, &how)
+            lemma(scope, here, name, terms.as_slice(), place, *left)
         }
     }
 }

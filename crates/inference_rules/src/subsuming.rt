@@ -11,7 +11,7 @@ ghost use Rattle.inference_rules.specs.Answers.{Answered, AnsweredAlone, clauses
 ghost use Rattle.inference_rules.specs.Conditions.{Makes, RefusesWith};
 
 use crate::making::{closed, limited, reference};
-use crate::nodes::{Node, StepError};
+use crate::nodes::{Scope, StepError};
 use crate::referring::{instance_here, node_at, premises_are_there, usable_goal};
 use clause_core::{Children, Clause, Why, among, of_goal};
 use spec_core::{Equation, Spec};
@@ -21,24 +21,23 @@ use term_order::TermOrder;
 
 /// `subsume`: an instance of the node with this number says no less than the clause here.
 pub(crate) fn subsume<O: TermOrder>(
-    alloc: Global,
-    spec: &Spec,
-    order: &O,
-    nodes: &[Node],
+    scope: &Scope<O>,
     here: &Clause,
     number: u32,
     terms: &[Term],
 ) -> Result<Children, StepError>
     requires { IsWithin here.now }
-    ensures { Answered (O.above order.now) here.now []
-        (subsume_row spec.now here.now (clauses_of nodes.now) number terms.now) result }
+    ensures { Answered (O.above scope.now.order.now) here.now []
+        (subsume_row scope.now.spec.now here.now (clauses_of scope.now.nodes.now) number
+        terms.now) result }
 {
-    let Some(node) = node_at(nodes, number) else {
+    let Some(node) = node_at(scope.nodes, number) else {
         return Err(StepError::Why(Why::NoSuchNode));
     };
-    let instance = subsuming(alloc, spec, here, &node.clause, terms)?;
+    let alloc = scope.alloc;
+    let instance = subsuming(alloc, scope.spec, here, &node.clause, terms)?;
     let mut refs = Seq::new(alloc);
-    refs.push(reference(alloc, order, here, number, &instance)?)?;
+    refs.push(reference(alloc, scope.order, here, number, &instance)?)?;
     limited(Seq::new(alloc), refs)
 }
 

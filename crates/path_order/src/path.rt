@@ -168,6 +168,16 @@ enum Standing {
 }
 
 impl Standing {
+    fn same_or_neither(is_same: bool) -> Standing
+        ensures { result ≡ if is_same then Standing.Same else Standing.Neither }
+    {
+        if is_same {
+            Standing::Same
+        } else {
+            Standing::Neither
+        }
+    }
+
     fn greater_or_neither(is_greater: bool) -> Standing
         ensures { result ≡ if is_greater then Standing.Greater else Standing.Neither }
     {
@@ -221,21 +231,11 @@ fn compare<'a>(order: &'a Lpo, list: &'a [&'a Term], t: Operand<'a>, s: Operand<
     let s = s.resolved(list);
     let (term, other) = (t.term, s.term);
     match (&term.node, &other.node) {
-        (TermNode::Var(x), TermNode::Var(y)) => {
-            if x == y {
-                Standing::Same
-            } else {
-                Standing::Neither
-            }
-        }
+        (TermNode::Var(x), TermNode::Var(y)) => Standing::same_or_neither(x == y),
         (TermNode::Var(_), TermNode::App(_, _)) => Standing::Neither,
         (TermNode::App(_, ts), TermNode::Var(_)) => {
-            Standing::greater_or_neither(some_reaches(
-                order,
-                list,
-                Operands::with(t, ts.as_slice()),
-                s,
-            ))
+            let ts = Operands::with(t, ts.as_slice());
+            Standing::greater_or_neither(some_reaches(order, list, ts, s))
         }
         (TermNode::App(f, ts), TermNode::App(g, ss)) => {
             let (ts, ss) = (ts.as_slice(), ss.as_slice());

@@ -17,30 +17,37 @@ use spec_core::{Equation, Spec};
 use std::alloc::Global;
 use term_core::{OutOfMemory, SortId, SymId, VarId};
 
+/// An equation that is split on a variable: the sorts of its variables, and the specification whose
+/// rules rewrite its cases.
+#[derive(Drop)]
+pub(crate) struct Split<'a> {
+    pub(crate) spec: &'a Spec,
+    pub(crate) rewriter: &'a Rewriter<'a>,
+    pub(crate) ctx: &'a [SortId],
+    pub(crate) equation: &'a Equation,
+    pub(crate) var: VarId,
+}
+
 /// Whether the cases of the variable close, by lengths that sum up to at most `most`. It stops at
 /// the first case that passes what is left.
 pub(crate) fn has_cases(
     alloc: Global,
-    spec: &Spec,
-    rewriter: &Rewriter,
-    ctx: &[SortId],
-    equation: &Equation,
-    var: VarId,
+    split: &Split,
     sort: SortId,
     most: u32,
 ) -> Result<bool, OutOfMemory>
-    requires fine { IsWellSorted spec.now }
-    requires its { rewriter.now ≡ spec.now }
-    requires few { length_of ctx.now ≤ 16 }
-    requires sorted { HasSort spec.now ctx.now equation.now }
+    requires fine { IsWellSorted split.now.spec.now }
+    requires its { split.now.rewriter.now ≡ split.now.spec.now }
+    requires few { length_of split.now.ctx.now ≤ 16 }
+    requires sorted { HasSort split.now.spec.now split.now.ctx.now split.now.equation.now }
     requires short { most ≤ 1000 }
-    ensures { IfOk result (λ has.
-        IsTrue has ↔ HasCases spec.now ctx.now equation.now most sort var.0) }
+    ensures { IfOk result (λ has. IsTrue has ↔ HasCases split.now.spec.now split.now.ctx.now
+        split.now.equation.now most sort split.now.var.0) }
 {
-    let constructors = spec.sig.constructors_of(alloc, sort)?;
+    let constructors = split.spec.sig.constructors_of(alloc, sort)?;
     let mut left = most;
     for sym in constructors.as_slice() {
-        match case_length(alloc, spec, rewriter, ctx, equation, var, *sym, left)? {
+        match case_length(alloc, split, *sym, left)? {
             Some(length) => left -= length,
             None => return Ok(false),
         }
@@ -51,25 +58,23 @@ pub(crate) fn has_cases(
 /// The length of the variable's case with this constructor, if it closes by at most `budget`.
 fn case_length(
     alloc: Global,
-    spec: &Spec,
-    rewriter: &Rewriter,
-    ctx: &[SortId],
-    equation: &Equation,
-    var: VarId,
+    split: &Split,
     sym: SymId,
     budget: u32,
 ) -> Result<Option<u32>, OutOfMemory>
-    requires fine { IsWellSorted spec.now }
-    requires its { rewriter.now ≡ spec.now }
-    requires few { length_of ctx.now ≤ 16 }
-    requires sorted { HasSort spec.now ctx.now equation.now }
+    requires fine { IsWellSorted split.now.spec.now }
+    requires its { split.now.rewriter.now ≡ split.now.spec.now }
+    requires few { length_of split.now.ctx.now ≤ 16 }
+    requires sorted { HasSort split.now.spec.now split.now.ctx.now split.now.equation.now }
     requires short { budget ≤ 1000 }
-    requires known { sym.0 < length_of spec.now.sig.table }
-    ensures { IfOk result (λ found. (i : Info) → info_of spec.now.sig sym.0 ≡ Some i →
-        IsCase spec.now ctx.now equation.now var.0 (sym.0, i.args) budget found) }
+    requires known { sym.0 < length_of split.now.spec.now.sig.table }
+    ensures { IfOk result (λ found. (i : Info) → info_of split.now.spec.now.sig sym.0 ≡ Some i →
+        IsCase split.now.spec.now split.now.ctx.now split.now.equation.now split.now.var.0
+        (sym.0, i.args) budget found) }
 {
+    let (spec, rewriter, ctx) = (split.spec, split.rewriter, split.ctx);
     let args = spec.sig.info(sym).args.as_slice();
-    let Equation { left, right } = sides_in(alloc, ctx, equation, var, sym, args)?;
+    let Equation { left, right } = sides_in(alloc, ctx, split.equation, split.var, sym, args)?;
     if !are_within(alloc, &left, &right)? {
         return Ok(None);
     }
@@ -84,7 +89,7 @@ fn case_length(
         return Ok(None);
     }
     let over = sorts_in(alloc, ctx, args)?;
-    let closing = close(alloc, &spec.sig, ctx, equation, &over, &left, &right)?;
+    let closing = close(alloc, &spec.sig, ctx, split.equation, &over, &left, &right)?;
     if !closing.suffices(uses + more) {
         return Ok(None);
     }

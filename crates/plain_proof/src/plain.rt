@@ -7,7 +7,7 @@ ghost use Rattle.plain_proof.specs.CaseAnswers.{HasSort, IsFirstCovered};
 ghost use Rattle.plain_proof.specs.FirstPlain.{IsFirstPlain};
 
 use crate::limits::are_within;
-use crate::measuring::has_cases;
+use crate::measuring::{Split, has_cases};
 use crate::occurring::occurs_in;
 use normalization::Rewriter;
 use spec_core::{Equation, Goal, Spec, VarInfo};
@@ -61,7 +61,14 @@ fn first_covered(
         if !occurs_in(var, equation) {
             continue;
         }
-        if has_cases(alloc, spec, &rewriter, ctx, equation, var, *sort, length)? {
+        let split = Split {
+            spec,
+            rewriter: &rewriter,
+            ctx,
+            equation,
+            var,
+        };
+        if has_cases(alloc, &split, *sort, length)? {
             return Ok(Some(var));
         }
     }

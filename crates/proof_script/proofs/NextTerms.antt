@@ -1,11 +1,11 @@
 -- The next word of a line, if it is a term or a list of them.
-use Rattle.std.proofs.Common.{◌≡◌, ◌≤◌, ℕ, List, [], ◌∷◌, ◌++◌, ap, sym, ◌∙◌, subst, codes, map, length, append_assoc}
+use Rattle.std.proofs.Common.{◌≡◌, ◌≤◌, ℕ, List, [], ◌∷◌, ◌++◌, ap, sym, ◌∙◌, subst, codes, length}
 use Rattle.std.specs.List.{AllByRecursion}
 use Rattle.term_core.specs.Tree.{Tree}
 use Rattle.spec_core.specs.Sig.{Sig}
 use Rattle.spec_core.specs.TermText.{term_text}
 use Rattle.proof_script.specs.Delimiters.{Ends}
-use Rattle.proof_script.specs.Words.{term, terms, patterns, pattern_text, in_brackets, with_commas}
+use Rattle.proof_script.specs.Words.{term, terms, patterns, pattern_text}
 use Rattle.proof_script.specs.Standing.{TermStands, PatternStands}
 use Rattle.proof_script.specs.Reading.{IsReadable, IsTermAt, IsListAt}
 use Rattle.proof_script.specs.LineWords.{IsWordAt}

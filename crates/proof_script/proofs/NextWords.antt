@@ -1,11 +1,10 @@
 -- The next word of a line, if no byte in it ends a word.
-use Rattle.std.proofs.Common.{◌≡◌, ◌≢◌, ℕ, List, [], ◌∷◌, ◌++◌, Bool, true, false, refl, ap, sym, ◌∙◌, subst, codes}
-use Rattle.std.proofs.Common.{append_assoc, append-nil, arith}
-use Rattle.std.specs.Fmt.{decimal}
+use Rattle.std.proofs.Common.{◌≡◌, ℕ, List, ◌++◌, true, false, refl, ap, sym, ◌∙◌, subst, codes}
+use Rattle.std.proofs.Common.{arith}
 use Rattle.std.specs.Str.{bytes_eq}
 use Rattle.std.proofs.lemmas.Slice.Eq.{bytes_eq-Decides}
 use Rattle.spec_core.specs.Sig.{Sig}
-use Rattle.proof_script.specs.Delimiters.{Run, AllRun, Ends, Stops}
+use Rattle.proof_script.specs.Delimiters.{Run, AllRun, Ends}
 use Rattle.proof_script.specs.Words.{Word, fixed, name, number, variable, equation, place, side, term, terms, patterns}
 use Rattle.proof_script.specs.Words.{word_text}
 use Rattle.proof_script.specs.Standing.{WordStands}

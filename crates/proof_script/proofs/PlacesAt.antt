@@ -1,13 +1,12 @@
 -- The place that a word is.
-use Rattle.std.proofs.Common.{◌≡◌, ◌≢◌, ℕ, ◌<◌, List, [], ◌∷◌, ◌++◌, Bool, true, false, refl, ap, sym, ◌∙◌, subst}
+use Rattle.std.proofs.Common.{◌≡◌, ◌≢◌, ℕ, List, [], ◌∷◌, ◌++◌, Bool, true, false, refl, ap, sym, ◌∙◌}
 use Rattle.std.proofs.Common.{codes, arith}
 use Rattle.std.specs.List.{AllByRecursion}
 use Rattle.std.specs.Fmt.{decimal}
-use Rattle.std.specs.Char.{digit_value}
 use Rattle.std.specs.Str.Parse.{AllDigits}
 use Rattle.std.proofs.lemmas.Str.Parse.{digit_from_value}
 use Rattle.clause_core.specs.declared.steps.Place.{Place}
-use Rattle.proof_script.specs.Words.{equation_text, side_text, place_text}
+use Rattle.proof_script.specs.Words.{equation_text, side_text}
 use Rattle.proof_script.specs.Standing.{Between}
 use Rattle.proof_script.specs.Reading.{IsEquation}
 use Rattle.proof_script.specs.PathText.{IsPath, IsPlace, StandsBeforeDot}

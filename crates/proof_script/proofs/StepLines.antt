@@ -1,10 +1,9 @@
 -- The line of a step as its name and its words.
-use Rattle.std.proofs.Common.{◌≡◌, ℕ, List, [], ◌∷◌, ◌++◌, ap, sym, ◌∙◌, codes, append_assoc}
+use Rattle.std.proofs.Common.{◌≡◌, ℕ, List, ◌++◌, ap, sym, ◌∙◌, codes, append_assoc}
 use Rattle.std.proofs.lemmas.List.{append_cancel_right}
 use Rattle.spec_core.specs.Sig.{Sig}
 use Rattle.clause_core.specs.declared.steps.Step.{Step}
 use Rattle.proof_script.specs.Delimiters.{Run}
-use Rattle.proof_script.specs.Words.{Line}
 use Rattle.proof_script.specs.Steps.{step_line}
 use Rattle.proof_script.specs.Reading.{IsFirstWord}
 use Rattle.proof_script.specs.LineWords.{IsStepBehind, IsStepLine}

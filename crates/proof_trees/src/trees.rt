@@ -1,6 +1,6 @@
 //! The tree of a block, drawn depth first without recursion.
 
-ghost use Rattle.std.specs.Prelude.{◌≡◌, ◌++◌, ◌∷◌, [], OnOk, length};
+ghost use Rattle.std.specs.Prelude.{◌≡◌, ◌≢◌, ◌+◌, ◌++◌, ◌∷◌, [], OnOk, length};
 ghost use Rattle.page_core.specs.Pages.{after};
 ghost use Rattle.proof_trees.specs.Blocks.{IsWhole, block_of};
 ghost use Rattle.proof_trees.specs.Nodes.{block_events, outline};
@@ -46,44 +46,70 @@ fn draw_next(
         next pending.old.items pending.new.items page.old page.new) }
 {
     match next {
-        Pending::Tree(node) => {
-            block.draw_node(page, node)?;
-            let left = block.child_count(node);
-            if block.has_cases(node) {
-                return push(
-                    pending,
-                    Pending::Cases {
-                        parent: node,
-                        index: 0,
-                        left,
-                    },
-                );
-            }
-            if left == 0 {
-                return Ok(());
-            }
-            push(pending, Pending::Tree(block.child(node, 0)))
-        }
+        Pending::Tree(node) => begin_node(page, block, node, pending),
         Pending::Cases { left: 0, .. } => Ok(()),
         Pending::Cases {
             parent,
             index,
             left,
-        } => {
-            let child = block.child(parent, index);
-            page.begin(Part::Case)?;
-            block.draw_heading(page, parent, index, child)?;
-            let others = Pending::Cases {
-                parent,
-                index: index + 1,
-                left: left - 1,
-            };
-            push(pending, others)?;
-            push(pending, Pending::EndCase)?;
-            push(pending, Pending::Tree(child))
-        }
+        } => begin_case(page, block, parent, index, left, pending),
         Pending::EndCase => page.end(Part::Case),
     }
+}
+
+/// Draws a node, and puts back what is below it.
+fn begin_node(
+    page: &mut Page,
+    block: &NamedBlock<'_>,
+    node: u32,
+    pending: &mut Vec<Pending>,
+) -> Result<(), OutOfMemory>
+    requires { IsWhole block.now }
+    ensures { OnOk result (DrawsNext (outline (block_of block.now)) (length block.now.nodes.now)
+        (Pending.Tree node) pending.old.items pending.new.items page.old page.new) }
+{
+    block.draw_node(page, node)?;
+    let left = block.child_count(node);
+    if block.has_cases(node) {
+        let cases = Pending::Cases {
+            parent: node,
+            index: 0,
+            left,
+        };
+        return push(pending, cases);
+    }
+    if left == 0 {
+        return Ok(());
+    }
+    push(pending, Pending::Tree(block.child(node, 0)))
+}
+
+/// Draws the heading of a case, and puts back its tree, its end and the cases after it.
+fn begin_case(
+    page: &mut Page,
+    block: &NamedBlock<'_>,
+    parent: u32,
+    index: u32,
+    left: u32,
+    pending: &mut Vec<Pending>,
+) -> Result<(), OutOfMemory>
+    requires whole { IsWhole block.now }
+    requires some { left ≢ 0 }
+    requires all { index + left ≡ (outline (block_of block.now)).count parent }
+    ensures { OnOk result (DrawsNext (outline (block_of block.now)) (length block.now.nodes.now)
+        (Pending.Cases parent index left) pending.old.items pending.new.items page.old page.new) }
+{
+    let child = block.child(parent, index);
+    page.begin(Part::Case)?;
+    block.draw_heading(page, parent, index, child)?;
+    let others = Pending::Cases {
+        parent,
+        index: index + 1,
+        left: left - 1,
+    };
+    push(pending, others)?;
+    push(pending, Pending::EndCase)?;
+    push(pending, Pending::Tree(child))
 }
 
 fn push(pending: &mut Vec<Pending>, item: Pending) -> Result<(), OutOfMemory>

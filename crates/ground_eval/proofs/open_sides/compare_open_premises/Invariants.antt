@@ -5,17 +5,18 @@ use Rattle.value_bank.specs.Cells.{AddsCells}
 use Rattle.bank_machine.specs.KeptCalls.{AreRight}
 use Rattle.ground_eval.specs.Constants.{AreMarks}
 use Rattle.ground_eval.specs.Looked.{most_compared}
-use Rattle.ground_eval.specs.OpenSides.{Setting, IsSet, CanOpenAll}
+use Rattle.ground_eval.specs.OpenSides.{Setting, IsSet}
+use Rattle.ground_eval.specs.Trials.{CanTryOpen}
 use Rattle.ground_eval.proofs.OpenWalking.{IsSo}
 use Rattle.ground_eval.proofs.open_sides.compare_open_premises.Given as goal
 
 abbrev pub invariant-loop-premise : goal.invariant-loop-premise
 invariant-loop-premise l = record {
-  same : (s : Setting) (es : List Equation) → IsSet s l.machine l.constants →
-      CanOpenAll s l.machine l.fn.bank l.premises l.values es →
-      AllByRecursion (IsSo s l.budget) (take l.premise-index es);
+  same : (s : Setting) (es : List Equation) → IsSet s l.trial.machine.now l.constants →
+      CanTryOpen l.trial l.fn.bank l.premises es s →
+      AllByRecursion (IsSo s l.trial.budget) (take l.premise-index es);
   adds : AddsCells l.fn.bank l.bank;
-  kept : AreRight l.machine.spec l.bank l.kept;
+  kept : AreRight l.trial.machine.now.spec l.bank l.kept;
   marks : AreMarks l.constants.from l.constants.to l.bank l.marks.marks.items;
-  few : length l.bank ≤ length l.fn.bank + most_compared l.machine l.premise-index l.budget;
+  few : length l.bank ≤ length l.fn.bank + most_compared l.trial.machine.now l.premise-index l.trial.budget;
 }

@@ -1,4 +1,4 @@
-use Rattle.std.proofs.Common.{◌+◌, arith, subst, length}
+use Rattle.std.proofs.Common.{arith, subst}
 use Rattle.term_core.proofs.Items.{if_ok_map}
 use Rattle.ground_eval.specs.OpenSides.{PremisesOpen}
 use Rattle.ground_eval.proofs.FewCells.{few_all, few_both}
@@ -17,19 +17,18 @@ compare_open_conclusions-requires-clause-ready c =
       q.0,
       q.1.conclusions,
       q.2,
-      can_open_all_still q.0 c.args.machine.now c.args.bank.now c.compare_open_premises.new.bank
-          c.args.conclusions.now c.args.values.now q.1.conclusions c.in_ok-compare_open_premises.ensures.adds q.4,
+      can_open_all_still _ _ _ _ _ _ _ c.in_ok-compare_open_premises.ensures.adds q.4,
     )
 
 pub returns-in-Unknown-clause-opens : goal.returns-in-Unknown-clause-opens
 returns-in-Unknown-clause-opens c s g set p q =
-    let h = subst (λ r. PremisesOpen s c.args.budget g.premises r) c.in-Unknown.is
+    let h = subst (λ r. PremisesOpen s c.args.trial.now.budget g.premises r) c.in-Unknown.is
     (c.in_ok-compare_open_premises.ensures.sides s g.premises set p) in
     (λ r. h g.conclusions r)
 
 pub returns-in-Differ-clause-opens : goal.returns-in-Differ-clause-opens
 returns-in-Differ-clause-opens c s g set p q =
-    let h = subst (λ r. PremisesOpen s c.args.budget g.premises r) c.in-Differ.is
+    let h = subst (λ r. PremisesOpen s c.args.trial.now.budget g.premises r) c.in-Differ.is
     (c.in_ok-compare_open_premises.ensures.sides s g.premises set p) in
     h g.conclusions
 
@@ -37,27 +36,19 @@ pub returns-in-Same-clause-opens : goal.returns-in-Same-clause-opens
 returns-in-Same-clause-opens c =
     if_ok_map c.compare_open_conclusions.result _ _
     (λ r h s g set p q.
-    let k = subst (λ r. PremisesOpen s c.args.budget g.premises r) c.in-Same.is
+    let k = subst (λ r. PremisesOpen s c.args.trial.now.budget g.premises r) c.in-Same.is
     (c.in_ok-compare_open_premises.ensures.sides s g.premises set p) in
-    goal_opens s c.args.budget g r k
-    (h s g.conclusions set (can_open_all_still s c.args.machine.now c.args.bank.now
-    c.compare_open_premises.new.bank c.args.conclusions.now c.args.values.now g.conclusions
-    c.in_ok-compare_open_premises.ensures.adds q)))
+    goal_opens s c.args.trial.now.budget g r k
+    (h s g.conclusions set (can_open_all_still _ _ _ _ _ _ _ c.in_ok-compare_open_premises.ensures.adds q)))
     c.compare_open_conclusions.ensures.verdict
 
 pub returns-in-Unknown-clause-few : goal.returns-in-Unknown-clause-few
-returns-in-Unknown-clause-few c = few_all c.args.machine.now c.args.budget (length c.args.bank.now)
-    (length c.compare_open_premises.new.bank) (length c.args.premises.now)
-    (length c.args.premises.now + length c.args.conclusions.now) (omega arith) c.in_ok-compare_open_premises.ensures.few
+returns-in-Unknown-clause-few c = few_all _ _ _ _ _ _ (omega arith) c.in_ok-compare_open_premises.ensures.few
 
 pub returns-in-Differ-clause-few : goal.returns-in-Differ-clause-few
-returns-in-Differ-clause-few c = few_all c.args.machine.now c.args.budget (length c.args.bank.now)
-    (length c.compare_open_premises.new.bank) (length c.args.premises.now)
-    (length c.args.premises.now + length c.args.conclusions.now) (omega arith) c.in_ok-compare_open_premises.ensures.few
+returns-in-Differ-clause-few c = few_all _ _ _ _ _ _ (omega arith) c.in_ok-compare_open_premises.ensures.few
 
 pub returns-in-Same-clause-few : goal.returns-in-Same-clause-few
 returns-in-Same-clause-few c = if_ok_map c.compare_open_conclusions.result _ _
-    (λ r h. few_both c.args.machine.now c.args.budget (length c.args.bank.now)
-    (length c.compare_open_premises.new.bank) (length c.compare_open_conclusions.new.bank)
-    (length c.args.premises.now) (length c.args.conclusions.now) c.in_ok-compare_open_premises.ensures.few h)
+    (λ r h. few_both _ _ _ _ _ _ _ c.in_ok-compare_open_premises.ensures.few h)
     c.compare_open_conclusions.ensures.few

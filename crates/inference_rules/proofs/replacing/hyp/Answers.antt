@@ -8,7 +8,7 @@ use Rattle.inference_rules.proofs.replacing.hyp.Goals as goal
 pub returns : goal.returns
 returns g c =
     let at = c.in-Some.ensures in
-    node_answered (λ d. rewritten_by c.args.spec.now c.args.here.now d c.args.how.now.terms.now
-    c.args.how.now.place.now c.args.how.now.left (referred_to (Some c.args.number)))
-    (clauses_of c.args.nodes.now) c.args.number at.0 c.in-Some.node.now.clause at.1
-    (g.O.TermOrder.above c.args.order.now) c.args.here.now c.rewrite.result c.rewrite.ensures
+    node_answered (λ d. rewritten_by c.args.scope.now.spec.now c.args.here.now d c.args.terms.now
+    c.args.place.now c.args.left (referred_to (Some c.args.number)))
+    (clauses_of c.args.scope.now.nodes.now) c.args.number at.0 c.in-Some.node.now.clause at.1
+    (g.O.TermOrder.above c.args.scope.now.order.now) c.args.here.now c.rewrite.result c.rewrite.ensures

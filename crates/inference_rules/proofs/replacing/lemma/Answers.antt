@@ -8,8 +8,8 @@ use Rattle.inference_rules.proofs.replacing.lemma.Goals as goal
 pub returns : goal.returns
 returns g c =
     let at = c.in-Some.ensures in
-    goal_answered (λ d. rewritten_by c.args.spec.now c.args.here.now d c.args.how.now.terms.now
-    c.args.how.now.place.now c.args.how.now.left (referred_to None))
-    c.args.spec.now (Contains c.args.proved.now) c.args.name.now at.0 c.in-Some.goal.now at.1
+    goal_answered (λ d. rewritten_by c.args.scope.now.spec.now c.args.here.now d c.args.terms.now
+    c.args.place.now c.args.left (referred_to None))
+    c.args.scope.now.spec.now (Contains c.args.scope.now.proved.now) c.args.name.now at.0 c.in-Some.goal.now at.1
     c.in_ok-lemma.lemma c.in_ok-lemma.ensures
-    (g.O.TermOrder.above c.args.order.now) c.args.here.now c.rewrite.result c.rewrite.ensures
+    (g.O.TermOrder.above c.args.scope.now.order.now) c.args.here.now c.rewrite.result c.rewrite.ensures

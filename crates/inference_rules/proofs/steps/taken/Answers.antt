@@ -1,5 +1,5 @@
 use Rattle.std.proofs.Common.{ℕ, List, [], ap, sym, ◌∙◌, subst}
-use Rattle.std.specs.Prelude.{◌≡◌, Contains, Result}
+use Rattle.std.specs.Prelude.{◌≡◌, Result}
 use Rattle.term_core.specs.Tree.{Tree}
 use Rattle.spec_core.specs.declared.records.Spec.{Spec}
 use Rattle.clause_core.specs.declared.clauses.Clause.{Clause}
@@ -8,7 +8,7 @@ use Rattle.clause_core.specs.declared.steps.Step.{Step}
 use Rattle.clause_core.specs.declared.steps.Step.TheVariants.{Subsume, ByLemma, Cover, Hyp, Lemma}
 use Rattle.clause_core.specs.Steps.{row_of}
 use Rattle.inference_rules.specs.declared.nodes.StepError.{StepError}
-use Rattle.inference_rules.specs.Answers.{Answered, AnsweredAlone, clauses_of}
+use Rattle.inference_rules.specs.Answers.{Answered, AnsweredAlone}
 use Rattle.inference_rules.proofs.Alone.{ComparesNothing, by_any_order}
 use Rattle.inference_rules.proofs.AloneRows.{trivial_alone, match_alone, absurd_alone, by_lemma_alone, rule_alone}
 use Rattle.inference_rules.proofs.AloneRows.{case_alone, decompose_alone, clash_alone, drop_alone, solve_alone}
@@ -33,110 +33,86 @@ module _ (above : Tree → Tree → Type 0) (spec : Spec) (usable : ℕ → Type
 
 pub returns-in-Trivial : goal.returns-in-Trivial
 returns-in-Trivial g c =
-    alone (g.O.TermOrder.above c.args.order.now) c.args.spec.now (Contains c.args.proved.now)
-    (clauses_of c.args.nodes.now) c.args.here.now c.args.step.now _ c.trivial.result c.in-Trivial.is
-    (trivial_alone c.args.spec.now c.args.here.now c.in-Trivial.conclusion) (c.trivial.ensures c.args.spec.now)
+    alone _ _ _ _ _ _ _ _ c.in-Trivial.is
+    (trivial_alone c.args.scope.now.spec.now c.args.here.now c.in-Trivial.conclusion) (c.trivial.ensures c.args.scope.now.spec.now)
 
 pub returns-in-Match : goal.returns-in-Match
 returns-in-Match g c =
-    alone (g.O.TermOrder.above c.args.order.now) c.args.spec.now (Contains c.args.proved.now)
-    (clauses_of c.args.nodes.now) c.args.here.now c.args.step.now _ c.match_premise.result c.in-Match.is
-    (match_alone c.args.spec.now c.args.here.now c.in-Match.conclusion c.in-Match.premise)
-    (c.match_premise.ensures c.args.spec.now)
+    alone _ _ _ _ _ _ _ _ c.in-Match.is
+    (match_alone c.args.scope.now.spec.now c.args.here.now c.in-Match.conclusion c.in-Match.premise)
+    (c.match_premise.ensures c.args.scope.now.spec.now)
 
 pub returns-in-Subsume : goal.returns-in-Subsume
 returns-in-Subsume g c =
-    this_step (g.O.TermOrder.above c.args.order.now) c.args.spec.now (Contains c.args.proved.now)
-    (clauses_of c.args.nodes.now) c.args.here.now c.args.step.now
-    (Subsume c.in-Subsume.number c.as_slice.result.now) c.subsume.result (c.in-Subsume.is
+    this_step _ _ _ _ _ _ _ _ (c.in-Subsume.is
     ∙ ap (λ ts. Subsume c.in-Subsume.number ts) (sym c.as_slice.ensures)) c.subsume.ensures
 
 pub returns-in-ByLemma : goal.returns-in-ByLemma
 returns-in-ByLemma g c =
-    alone (g.O.TermOrder.above c.args.order.now) c.args.spec.now (Contains c.args.proved.now)
-    (clauses_of c.args.nodes.now) c.args.here.now c.args.step.now
-    (ByLemma c.in-ByLemma.name c.as_slice-in-ByLemma.result.now) c.by_lemma.result (c.in-ByLemma.is
+    alone _ _ _ _ _ _ _ _ (c.in-ByLemma.is
     ∙ ap (λ ts. ByLemma c.in-ByLemma.name ts) (sym c.as_slice-in-ByLemma.ensures))
-    (by_lemma_alone c.args.spec.now c.args.here.now (Contains c.args.proved.now) c.in-ByLemma.name
-    c.as_slice-in-ByLemma.result.now) c.by_lemma.ensures
+    (by_lemma_alone _ _ _ _ _) c.by_lemma.ensures
 
 pub returns-in-Decompose : goal.returns-in-Decompose
 returns-in-Decompose g c =
-    alone (g.O.TermOrder.above c.args.order.now) c.args.spec.now (Contains c.args.proved.now)
-    (clauses_of c.args.nodes.now) c.args.here.now c.args.step.now _ c.decompose.result c.in-Decompose.is
-    (decompose_alone c.args.spec.now c.args.here.now c.in-Decompose.conclusion c.in-Decompose.number)
+    alone _ _ _ _ _ _ _ _ c.in-Decompose.is
+    (decompose_alone c.args.scope.now.spec.now c.args.here.now c.in-Decompose.conclusion c.in-Decompose.number)
     c.decompose.ensures
 
 pub returns-in-Drop : goal.returns-in-Drop
 returns-in-Drop g c =
-    alone (g.O.TermOrder.above c.args.order.now) c.args.spec.now (Contains c.args.proved.now)
-    (clauses_of c.args.nodes.now) c.args.here.now c.args.step.now _ c.drop_equation.result c.in-Drop.is
-    (drop_alone c.args.spec.now c.args.here.now c.in-Drop.conclusion c.in-Drop.number)
-    (c.drop_equation.ensures c.args.spec.now)
+    alone _ _ _ _ _ _ _ _ c.in-Drop.is
+    (drop_alone c.args.scope.now.spec.now c.args.here.now c.in-Drop.conclusion c.in-Drop.number)
+    (c.drop_equation.ensures c.args.scope.now.spec.now)
 
 pub returns-in-Rule : goal.returns-in-Rule
 returns-in-Rule g c =
-    alone (g.O.TermOrder.above c.args.order.now) c.args.spec.now (Contains c.args.proved.now)
-    (clauses_of c.args.nodes.now) c.args.here.now c.args.step.now _ c.rewrite.result c.in-Rule.is
-    (rule_alone c.args.spec.now c.args.here.now c.in-Rule.place c.in-Rule.rule) c.rewrite.ensures
+    alone _ _ _ _ _ _ _ _ c.in-Rule.is
+    (rule_alone _ _ _ _) c.rewrite.ensures
 
 pub returns-in-Case : goal.returns-in-Case
 returns-in-Case g c =
-    alone (g.O.TermOrder.above c.args.order.now) c.args.spec.now (Contains c.args.proved.now)
-    (clauses_of c.args.nodes.now) c.args.here.now c.args.step.now _ c.rewrite_by_cases.result c.in-Case.is
-    (case_alone c.args.spec.now c.args.here.now c.in-Case.place c.in-Case.rule) c.rewrite_by_cases.ensures
+    alone _ _ _ _ _ _ _ _ c.in-Case.is
+    (case_alone _ _ _ _) c.rewrite_by_cases.ensures
 
 pub returns-in-Context : goal.returns-in-Context
 returns-in-Context g c =
-    this_step (g.O.TermOrder.above c.args.order.now) c.args.spec.now (Contains c.args.proved.now)
-    (clauses_of c.args.nodes.now) c.args.here.now c.args.step.now _ c.context.result c.in-Context.is
-    (c.context.ensures c.args.spec.now)
+    this_step _ _ _ _ _ _ _ _ c.in-Context.is
+    (c.context.ensures c.args.scope.now.spec.now)
 
 pub returns-in-Hyp : goal.returns-in-Hyp
 returns-in-Hyp g c =
-    this_step (g.O.TermOrder.above c.args.order.now) c.args.spec.now (Contains c.args.proved.now)
-    (clauses_of c.args.nodes.now) c.args.here.now c.args.step.now
-    (Hyp c.in-Hyp.number c.as_slice-in-Hyp.result.now c.in-Hyp.place c.in-Hyp.left) c.hyp.result
-    (c.in-Hyp.is ∙ ap (λ ts. Hyp c.in-Hyp.number ts c.in-Hyp.place c.in-Hyp.left)
+    this_step _ _ _ _ _ _ _ _ (c.in-Hyp.is ∙ ap (λ ts. Hyp c.in-Hyp.number ts c.in-Hyp.place c.in-Hyp.left)
     (sym c.as_slice-in-Hyp.ensures)) c.hyp.ensures
 
 pub returns-in-Lemma : goal.returns-in-Lemma
 returns-in-Lemma g c =
-    this_step (g.O.TermOrder.above c.args.order.now) c.args.spec.now (Contains c.args.proved.now)
-    (clauses_of c.args.nodes.now) c.args.here.now c.args.step.now
-    (Lemma c.in-Lemma.name c.as_slice-in-Lemma.result.now c.in-Lemma.place c.in-Lemma.left) c.lemma.result
-    (c.in-Lemma.is ∙ ap (λ ts. Lemma c.in-Lemma.name ts c.in-Lemma.place c.in-Lemma.left)
+    this_step _ _ _ _ _ _ _ _ (c.in-Lemma.is ∙ ap (λ ts. Lemma c.in-Lemma.name ts c.in-Lemma.place c.in-Lemma.left)
     (sym c.as_slice-in-Lemma.ensures)) c.lemma.ensures
 
 pub returns-in-Generalize : goal.returns-in-Generalize
 returns-in-Generalize g c =
-    alone (g.O.TermOrder.above c.args.order.now) c.args.spec.now (Contains c.args.proved.now)
-    (clauses_of c.args.nodes.now) c.args.here.now c.args.step.now _ c.generalize.result c.in-Generalize.is
-    (generalize_alone c.args.spec.now c.args.here.now c.in-Generalize.term) c.generalize.ensures
+    alone _ _ _ _ _ _ _ _ c.in-Generalize.is
+    (generalize_alone c.args.scope.now.spec.now c.args.here.now c.in-Generalize.term) c.generalize.ensures
 
 pub returns-in-Cover : goal.returns-in-Cover
 returns-in-Cover g c =
-    alone (g.O.TermOrder.above c.args.order.now) c.args.spec.now (Contains c.args.proved.now)
-    (clauses_of c.args.nodes.now) c.args.here.now c.args.step.now
-    (Cover c.in-Cover.variable c.as_slice-in-Cover.result.now) c.cover_variable.result (c.in-Cover.is
+    alone _ _ _ _ _ _ _ _ (c.in-Cover.is
     ∙ ap (λ ts. Cover c.in-Cover.variable ts) (sym c.as_slice-in-Cover.ensures))
-    (cover_alone c.args.spec.now c.args.here.now c.in-Cover.variable.0 c.as_slice-in-Cover.result.now)
+    (cover_alone c.args.scope.now.spec.now c.args.here.now c.in-Cover.variable.0 c.as_slice-in-Cover.result.now)
     c.cover_variable.ensures
 
 pub returns-in-Absurd : goal.returns-in-Absurd
 returns-in-Absurd g c =
-    alone (g.O.TermOrder.above c.args.order.now) c.args.spec.now (Contains c.args.proved.now)
-    (clauses_of c.args.nodes.now) c.args.here.now c.args.step.now _ c.absurd_premise.result c.in-Absurd.is
-    (absurd_alone c.args.spec.now c.args.here.now c.in-Absurd.premise) c.absurd_premise.ensures
+    alone _ _ _ _ _ _ _ _ c.in-Absurd.is
+    (absurd_alone c.args.scope.now.spec.now c.args.here.now c.in-Absurd.premise) c.absurd_premise.ensures
 
 pub returns-in-Clash : goal.returns-in-Clash
 returns-in-Clash g c =
-    alone (g.O.TermOrder.above c.args.order.now) c.args.spec.now (Contains c.args.proved.now)
-    (clauses_of c.args.nodes.now) c.args.here.now c.args.step.now _ c.clash.result c.in-Clash.is
-    (clash_alone c.args.spec.now c.args.here.now c.in-Clash.conclusion) c.clash.ensures
+    alone _ _ _ _ _ _ _ _ c.in-Clash.is
+    (clash_alone c.args.scope.now.spec.now c.args.here.now c.in-Clash.conclusion) c.clash.ensures
 
 pub returns-in-Solve : goal.returns-in-Solve
 returns-in-Solve g c =
-    alone (g.O.TermOrder.above c.args.order.now) c.args.spec.now (Contains c.args.proved.now)
-    (clauses_of c.args.nodes.now) c.args.here.now c.args.step.now _ c.solve.result c.in-Solve.is
-    (solve_alone c.args.spec.now c.args.here.now c.in-Solve.premise) c.solve.ensures
+    alone _ _ _ _ _ _ _ _ c.in-Solve.is
+    (solve_alone c.args.scope.now.spec.now c.args.here.now c.in-Solve.premise) c.solve.ensures

@@ -15,10 +15,11 @@ returns-in_err-instance g c =
     let at = c.in-Some.ensures in
     let error = c.in_err-instance.field-0.0 in
     rw (p.1, p.2)
-    (refused (g.O.TermOrder.above c.args.order.now) c.args.here.now []
-    (subsume_row c.args.spec.now c.args.here.now (clauses_of c.args.nodes.now) c.args.number c.args.terms.now) error
-    (node_refused (λ d. subsumed_by c.args.spec.now c.args.here.now d c.args.terms.now
-    (λ x. (c.args.number, x) ∷ [])) (clauses_of c.args.nodes.now) c.args.number at.0
+    (refused (g.O.TermOrder.above c.args.scope.now.order.now) c.args.here.now []
+    (subsume_row c.args.scope.now.spec.now c.args.here.now (clauses_of c.args.scope.now.nodes.now) c.args.number
+    c.args.terms.now) error
+    (node_refused (λ d. subsumed_by c.args.scope.now.spec.now c.args.here.now d c.args.terms.now
+    (λ x. (c.args.number, x) ∷ [])) (clauses_of c.args.scope.now.nodes.now) c.args.number at.0
     c.in-Some.node.now.clause at.1 error
     (c.in_err-instance.ensures.row (λ x. (c.args.number, x) ∷ []))))
 
@@ -30,14 +31,14 @@ reference-requires-clause-instance g c = within_testable c.in_ok-instance.instan
 
 pub returns : goal.returns
 returns g c =
-    let above = g.O.TermOrder.above c.args.order.now in
+    let above = g.O.TermOrder.above c.args.scope.now.order.now in
     let at = c.in-Some.ensures in
     let x = c.in_ok-instance.instance in
     let h = c.push.ensures in
-    made above c.args.here.now [] (subsume_row c.args.spec.now c.args.here.now (clauses_of c.args.nodes.now)
+    made above c.args.here.now [] (subsume_row c.args.scope.now.spec.now c.args.here.now (clauses_of c.args.scope.now.nodes.now)
     c.args.number c.args.terms.now) [] ((c.args.number, x) ∷ []) c.limited.result
-    (node_made (λ d. subsumed_by c.args.spec.now c.args.here.now d c.args.terms.now
-    (λ z. (c.args.number, z) ∷ [])) (clauses_of c.args.nodes.now) c.args.number at.0
+    (node_made (λ d. subsumed_by c.args.scope.now.spec.now c.args.here.now d c.args.terms.now
+    (λ z. (c.args.number, z) ∷ [])) (clauses_of c.args.scope.now.nodes.now) c.args.number at.0
     c.in-Some.node.now.clause at.1 [] ((c.args.number, x) ∷ [])
     (c.in_ok-instance.ensures.row (λ z. (c.args.number, z) ∷ [])))
     (made_answered above c.args.here.now [] ((c.args.number, x) ∷ [])

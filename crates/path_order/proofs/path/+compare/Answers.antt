@@ -76,7 +76,7 @@ compare-some_reaches-requires t c =
       omega (
         arith,
         app_weight _ _ _ left,
-        ap list_weight (c.with.ensures values),
+        ap list_weight (c.with-ts.ensures values),
         same_weight
             c.resolved-t.ensures.same,
         same_weight c.resolved-s.ensures.same,
@@ -92,7 +92,7 @@ compare-above_all-requires t c =
       omega (
         arith,
         app_weight _ _ _ right,
-        ap list_weight (c.with-then-other_level-level.ensures values),
+        ap list_weight (c.with.ensures values),
         same_weight
             c.resolved-t.ensures.same,
         same_weight c.resolved-s.ensures.same,
@@ -157,8 +157,8 @@ compare-returns-in-App-Var t c =
     (sym (ap tree_of (sym c.in-App-Var.is-1) ∙ c.other.view_is)) in
     stands-as c.args.order.now c.greater_or_neither.result c.resolved-t.ensures.same c.resolved-s.ensures.same
     (variable c.args.order.now (meaning values c.resolved-t.result) (meaning values c.resolved-s.result)
-    c.in-App-Var.field-0-0.0 c.in-App-Var.field-0-1.0 (meanings values c.with.result) c.some_reaches.result _
-    (sym (left ∙ ap (λ us. app c.in-App-Var.field-0-0.0 (trees_of us)) (sym (c.with.ensures values)))) (sym right)
+    c.in-App-Var.field-0-0.0 c.in-App-Var.field-0-1.0 (meanings values c.with-ts.result) c.some_reaches.result _
+    (sym (left ∙ ap (λ us. app c.in-App-Var.field-0-0.0 (trees_of us)) (sym (c.with-ts.ensures values)))) (sym right)
     c.some_reaches.ensures c.greater_or_neither.ensures)
 
 pub compare-returns-then-other_level-level : goal.compare-returns-then-other_level-level
@@ -172,9 +172,9 @@ compare-returns-then-other_level-level t c =
     c.resolved-s.ensures.same
     (smaller-head c.args.order.now (meaning values c.resolved-t.result) (meaning values c.resolved-s.result)
     c.in-App-App.f.0 c.in-App-App.g.0 (map (read values c.resolved-t.result.is_pattern) c.as_slice-ts.result.now)
-    (meanings values c.with-then-other_level-level.result) c.above_all.result _
+    (meanings values c.with.result) c.above_all.result _
     (sym left) (sym (right ∙ ap (λ us. app c.in-App-App.g.0 (trees_of us))
-    (sym (c.with-then-other_level-level.ensures values))))
+    (sym (c.with.ensures values))))
     (omega (arith, c.if-other_level-level.true, c.level-level.ensures, c.level-other_level.ensures))
     c.above_all.ensures c.greater_or_neither-then-other_level-level.ensures)
 

@@ -20,10 +20,10 @@ longer (x ∷ xs) ys (suc n) s at = longer xs ys n s at
 
 pub returns-then-not-branch : goal.returns-then-not-branch
 returns-then-not-branch c =
-    let spec = c.args.spec.now in
-    let ctx = c.args.ctx.now in
-    let e = c.args.equation.now in
-    let x = c.args.var.0 in
+    let spec = c.args.split.now.spec.now in
+    let ctx = c.args.split.now.ctx.now in
+    let e = c.args.split.now.equation.now in
+    let x = c.args.split.now.var.0 in
     let f = c.args.sym.0 in
     let b = c.args.budget in
     let i = c.info.result.now in
@@ -40,10 +40,10 @@ returns-then-not-branch c =
 
 pub normal_side-requires-clause-narrow : goal.normal_side-requires-clause-narrow
 normal_side-requires-clause-narrow c =
-    let spec = c.args.spec.now in
-    let ctx = c.args.ctx.now in
-    let e = c.args.equation.now in
-    let x = c.args.var.0 in
+    let spec = c.args.split.now.spec.now in
+    let ctx = c.args.split.now.ctx.now in
+    let e = c.args.split.now.equation.now in
+    let x = c.args.split.now.var.0 in
     let f = c.args.sym.0 in
     let b = c.args.budget in
     let i = c.info.result.now in
@@ -57,10 +57,10 @@ normal_side-requires-clause-narrow c =
 
 pub returns-in_default : goal.returns-in_default
 returns-in_default c =
-    let spec = c.args.spec.now in
-    let ctx = c.args.ctx.now in
-    let e = c.args.equation.now in
-    let x = c.args.var.0 in
+    let spec = c.args.split.now.spec.now in
+    let ctx = c.args.split.now.ctx.now in
+    let e = c.args.split.now.equation.now in
+    let x = c.args.split.now.var.0 in
     let f = c.args.sym.0 in
     let b = c.args.budget in
     let i = c.info.result.now in
@@ -75,10 +75,10 @@ returns-in_default c =
 
 pub normal_side-requires-2-clause-narrow : goal.normal_side-requires-2-clause-narrow
 normal_side-requires-2-clause-narrow c =
-    let spec = c.args.spec.now in
-    let ctx = c.args.ctx.now in
-    let e = c.args.equation.now in
-    let x = c.args.var.0 in
+    let spec = c.args.split.now.spec.now in
+    let ctx = c.args.split.now.ctx.now in
+    let e = c.args.split.now.equation.now in
+    let x = c.args.split.now.var.0 in
     let f = c.args.sym.0 in
     let b = c.args.budget in
     let i = c.info.result.now in
@@ -92,10 +92,10 @@ normal_side-requires-2-clause-narrow c =
 
 pub returns-in_default-2 : goal.returns-in_default-2
 returns-in_default-2 c =
-    let spec = c.args.spec.now in
-    let ctx = c.args.ctx.now in
-    let e = c.args.equation.now in
-    let x = c.args.var.0 in
+    let spec = c.args.split.now.spec.now in
+    let ctx = c.args.split.now.ctx.now in
+    let e = c.args.split.now.equation.now in
+    let x = c.args.split.now.var.0 in
     let f = c.args.sym.0 in
     let b = c.args.budget in
     let i = c.info.result.now in
@@ -114,10 +114,10 @@ returns-in_default-2 c =
 
 pub returns-then-length-budget : goal.returns-then-length-budget
 returns-then-length-budget c =
-    let spec = c.args.spec.now in
-    let ctx = c.args.ctx.now in
-    let e = c.args.equation.now in
-    let x = c.args.var.0 in
+    let spec = c.args.split.now.spec.now in
+    let ctx = c.args.split.now.ctx.now in
+    let e = c.args.split.now.equation.now in
+    let x = c.args.split.now.var.0 in
     let f = c.args.sym.0 in
     let b = c.args.budget in
     let i = c.info.result.now in
@@ -141,10 +141,10 @@ returns-then-length-budget c =
 
 pub close-requires-clause-extends : goal.close-requires-clause-extends
 close-requires-clause-extends c n s at =
-    let spec = c.args.spec.now in
-    let ctx = c.args.ctx.now in
-    let e = c.args.equation.now in
-    let x = c.args.var.0 in
+    let spec = c.args.split.now.spec.now in
+    let ctx = c.args.split.now.ctx.now in
+    let e = c.args.split.now.equation.now in
+    let x = c.args.split.now.var.0 in
     let f = c.args.sym.0 in
     let b = c.args.budget in
     let i = c.info.result.now in
@@ -160,10 +160,10 @@ close-requires-clause-extends c n s at =
 
 pub returns-then-not-suffices : goal.returns-then-not-suffices
 returns-then-not-suffices c =
-    let spec = c.args.spec.now in
-    let ctx = c.args.ctx.now in
-    let e = c.args.equation.now in
-    let x = c.args.var.0 in
+    let spec = c.args.split.now.spec.now in
+    let ctx = c.args.split.now.ctx.now in
+    let e = c.args.split.now.equation.now in
+    let x = c.args.split.now.var.0 in
     let f = c.args.sym.0 in
     let b = c.args.budget in
     let i = c.info.result.now in
@@ -189,10 +189,10 @@ returns-then-not-suffices c =
 
 pub returns : goal.returns
 returns c =
-    let spec = c.args.spec.now in
-    let ctx = c.args.ctx.now in
-    let e = c.args.equation.now in
-    let x = c.args.var.0 in
+    let spec = c.args.split.now.spec.now in
+    let ctx = c.args.split.now.ctx.now in
+    let e = c.args.split.now.equation.now in
+    let x = c.args.split.now.var.0 in
     let f = c.args.sym.0 in
     let b = c.args.budget in
     let i = c.info.result.now in

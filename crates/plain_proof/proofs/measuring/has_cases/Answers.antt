@@ -10,7 +10,7 @@ use Rattle.plain_proof.proofs.measuring.has_cases.Goals as goal
 
 pub case_length-requires-clause-known : goal.case_length-requires-clause-known
 case_length-requires-clause-known c =
-    let sig = c.args.spec.now.sig in
+    let sig = c.args.split.now.spec.now.sig in
     let syms = c.as_slice-sym-items.result.now in
     let k = c.loop-sym.sym-index in
     let numbers : map symbol_number syms ≡ constructor_numbers sig c.args.sort = ap
@@ -21,11 +21,11 @@ case_length-requires-clause-known c =
 
 pub overflow_sub-left : goal.overflow_sub-left
 overflow_sub-left c =
-    let spec = c.args.spec.now in
+    let spec = c.args.split.now.spec.now in
     let sig = spec.sig in
-    let ctx = c.args.ctx.now in
-    let e = c.args.equation.now in
-    let x = c.args.var.0 in
+    let ctx = c.args.split.now.ctx.now in
+    let e = c.args.split.now.equation.now in
+    let x = c.args.split.now.var.0 in
     let syms = c.as_slice-sym-items.result.now in
     let k = c.loop-sym.sym-index in
     let left = c.loop-sym.left in
@@ -41,11 +41,11 @@ overflow_sub-left c =
 
 pub returns-in-None : goal.returns-in-None
 returns-in-None c =
-    let spec = c.args.spec.now in
+    let spec = c.args.split.now.spec.now in
     let sig = spec.sig in
-    let ctx = c.args.ctx.now in
-    let e = c.args.equation.now in
-    let x = c.args.var.0 in
+    let ctx = c.args.split.now.ctx.now in
+    let e = c.args.split.now.equation.now in
+    let x = c.args.split.now.var.0 in
     let syms = c.as_slice-sym-items.result.now in
     let k = c.loop-sym.sym-index in
     let left = c.loop-sym.left in
@@ -64,11 +64,11 @@ returns-in-None c =
 
 pub loop-sym-preserved : goal.loop-sym-preserved
 loop-sym-preserved c =
-    let spec = c.args.spec.now in
+    let spec = c.args.split.now.spec.now in
     let sig = spec.sig in
-    let ctx = c.args.ctx.now in
-    let e = c.args.equation.now in
-    let x = c.args.var.0 in
+    let ctx = c.args.split.now.ctx.now in
+    let e = c.args.split.now.equation.now in
+    let x = c.args.split.now.var.0 in
     let syms = c.as_slice-sym-items.result.now in
     let k = c.loop-sym.sym-index in
     let left = c.loop-sym.left in
@@ -87,11 +87,11 @@ loop-sym-preserved c =
 
 pub returns : goal.returns
 returns c =
-    let spec = c.args.spec.now in
+    let spec = c.args.split.now.spec.now in
     let sig = spec.sig in
-    let ctx = c.args.ctx.now in
-    let e = c.args.equation.now in
-    let x = c.args.var.0 in
+    let ctx = c.args.split.now.ctx.now in
+    let e = c.args.split.now.equation.now in
+    let x = c.args.split.now.var.0 in
     let syms = c.as_slice-sym-items.result.now in
     let k = c.loop-sym.sym-index in
     let left = c.loop-sym.left in

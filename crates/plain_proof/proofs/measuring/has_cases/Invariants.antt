@@ -6,5 +6,5 @@ use Rattle.plain_proof.proofs.measuring.has_cases.Given as goal
 abbrev pub invariant-loop-sym : goal.invariant-loop-sym
 invariant-loop-sym l =
     (l.left ≤ l.fn.most)
-    × CasesClose l.spec l.ctx l.equation l.var.0 (take l.sym-index (constructors_of l.spec.sig l.fn.sort))
+    × CasesClose l.split.spec.now l.split.ctx.now l.split.equation.now l.split.var.0 (take l.sym-index (constructors_of l.split.spec.now.sig l.fn.sort))
     (l.fn.most - l.left)

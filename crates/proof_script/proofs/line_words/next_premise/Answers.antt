@@ -1,4 +1,4 @@
-use Rattle.std.proofs.Common.{Bool, true, false, subst}
+use Rattle.std.proofs.Common.{Bool, false, subst}
 use Rattle.proof_script.specs.Words.{equation}
 use Rattle.proof_script.specs.LineWords.{IsWordAt}
 use Rattle.proof_script.proofs.NextWords.{other_kind}

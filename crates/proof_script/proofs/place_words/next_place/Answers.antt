@@ -1,4 +1,3 @@
-use Rattle.std.proofs.Common.{sym}
 use Rattle.proof_script.specs.Words.{place, place_text}
 use Rattle.proof_script.proofs.NextWords.{as_plain, same_plain, found_plain}
 use Rattle.proof_script.proofs.place_words.next_place.Goals as goal

@@ -1,4 +1,4 @@
-use Rattle.std.proofs.Common.{◌≡◌, ◌∷◌, [], refl}
+use Rattle.std.proofs.Common.{[], refl}
 use Rattle.proof_script.specs.Words.{equation}
 use Rattle.proof_script.proofs.SameTerms.{names_differ}
 use Rattle.proof_script.proofs.LineParts.{front, behind, joined, no_more, empty_is, not_empty}

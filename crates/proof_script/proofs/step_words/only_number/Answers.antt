@@ -1,4 +1,4 @@
-use Rattle.std.proofs.Common.{◌≡◌, ◌∷◌, [], Bool, true, false, ap, refl, sym, ◌∙◌, subst}
+use Rattle.std.proofs.Common.{◌∷◌, [], Bool, ap, refl, sym, ◌∙◌, subst}
 use Rattle.std.specs.Cmp.{booleans_Decides}
 use Rattle.proof_script.specs.Words.{equation}
 use Rattle.proof_script.specs.LineWords.{AreWords}

@@ -1,4 +1,4 @@
-use Rattle.std.proofs.Common.{◌≡◌, ◌∷◌, [], refl}
+use Rattle.std.proofs.Common.{◌∷◌, [], refl}
 use Rattle.proof_script.specs.Words.{name, terms}
 use Rattle.proof_script.proofs.SameTerms.{names_differ}
 use Rattle.proof_script.proofs.WordReads.{words_text}

@@ -90,7 +90,7 @@ of-symbol-requires t c =
     c.as_slice-vars.result.now c.as_slice-vars.result.now (length ids) x refl lt c.index-vars-number.is in
     let other : x.sort.0 ≢ 0 = λ q. c.if-vars-number-ne0.true
     (ap (λ (y : VarInfo). y.sort.0) (sym c.index-vars-number.is) ∙ q) in
-    room i.spec.now i.goal.now i.machine i.opened.now.goal i.constants i.premises.items i.conclusions.items I
+    room I
     fine q (length ids) x.sort (subst (λ vs. slice_get (sorts_of vs) (length ids) ≡ Some x.sort)
     c.as_slice-vars.ensures (sort_of_item c.as_slice-vars.result.now (length ids) x item)) other
 

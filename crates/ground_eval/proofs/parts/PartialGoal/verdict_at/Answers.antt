@@ -4,7 +4,6 @@ use Rattle.spec_core.specs.WellSorted.{GoalIsSorted, IsWellSorted}
 use Rattle.ground_eval.specs.Entries.{AreEntriesAt, SayOfAll}
 use Rattle.ground_eval.specs.Looked.{most_evaluated}
 use Rattle.ground_eval.specs.Opened.{Partial, partial}
-use Rattle.ground_eval.specs.OpenSides.{CanOpenAll}
 use Rattle.ground_eval.proofs.FewCells.{few_evaluated}
 use Rattle.ground_eval.proofs.PartGoals.{here, is_set, open_ready, said, stand_for_all}
 use Rattle.ground_eval.proofs.parts.PartialGoal.verdict_at.Goals as goal
@@ -25,19 +24,12 @@ open_verdict-requires-clause-ready c =
     let e0 = c.requires.entries.1 in
     let e : AreEntriesAt (partial i.spec.now i.goal.now i.machine.spec) cells ids terms = subst
     (λ (z : Partial). AreEntriesAt z cells ids terms) (sym c.self.view_is) e0 in
-    let f = stand_for_all i.spec.now i.goal.now i.machine i.opened.now.goal i.constants i.premises.items
-    i.conclusions.items I fine q cells ids terms e count in
-    let s = here i.spec.now i.goal.now i.machine i.opened.now.goal i.constants i.premises.items
-    i.conclusions.items I fine q terms f.fit f.all in
-    let o = open_ready i.spec.now i.goal.now i.machine i.opened.now.goal i.constants i.premises.items
-    i.conclusions.items I fine q terms f.fit f.all cells ids f.stand in
-    let left : CanOpenAll s i.machine cells c.as_slice.result.now ids i.goal.now.premises = subst
-    (λ ps. CanOpenAll s i.machine cells ps ids i.goal.now.premises) (sym c.as_slice.ensures.value) o.0 in
-    let right : CanOpenAll s i.machine cells c.as_slice-2.result.now ids i.goal.now.conclusions = subst
-    (λ ps. CanOpenAll s i.machine cells ps ids i.goal.now.conclusions) (sym c.as_slice-2.ensures.value) o.1 in
-    let set = is_set i.spec.now i.goal.now i.machine i.opened.now.goal i.constants i.premises.items
-    i.conclusions.items I fine q terms f.fit f.all in
-    (s, i.goal.now, set, left, right)
+    let f = stand_for_all I fine q cells ids terms e count in
+    let s = here I fine q terms f.fit f.all in
+    let o = open_ready I fine q terms f.fit f.all cells ids f.stand c.as_slice.ensures.value
+    c.as_slice-2.ensures.value in
+    let set = is_set I fine q terms f.fit f.all in
+    (s, i.goal.now, set, o.0, o.1)
 
 pub returns-clause-says : goal.returns-clause-says
 returns-clause-says c =
@@ -55,21 +47,13 @@ returns-clause-says c =
     (λ r h terms e0.
     let e : AreEntriesAt (partial i.spec.now i.goal.now i.machine.spec) cells ids terms = subst
     (λ (z : Partial). AreEntriesAt z cells ids terms) (sym c.self.view_is) e0 in
-    let f = stand_for_all i.spec.now i.goal.now i.machine i.opened.now.goal i.constants i.premises.items
-    i.conclusions.items I fine q cells ids terms e count in
-    let s = here i.spec.now i.goal.now i.machine i.opened.now.goal i.constants i.premises.items
-    i.conclusions.items I fine q terms f.fit f.all in
-    let o = open_ready i.spec.now i.goal.now i.machine i.opened.now.goal i.constants i.premises.items
-    i.conclusions.items I fine q terms f.fit f.all cells ids f.stand in
-    let left : CanOpenAll s i.machine cells c.as_slice.result.now ids i.goal.now.premises = subst
-    (λ ps. CanOpenAll s i.machine cells ps ids i.goal.now.premises) (sym c.as_slice.ensures.value) o.0 in
-    let right : CanOpenAll s i.machine cells c.as_slice-2.result.now ids i.goal.now.conclusions = subst
-    (λ ps. CanOpenAll s i.machine cells ps ids i.goal.now.conclusions) (sym c.as_slice-2.ensures.value) o.1 in
-    let set = is_set i.spec.now i.goal.now i.machine i.opened.now.goal i.constants i.premises.items
-    i.conclusions.items I fine q terms f.fit f.all in
+    let f = stand_for_all I fine q cells ids terms e count in
+    let s = here I fine q terms f.fit f.all in
+    let o = open_ready I fine q terms f.fit f.all cells ids f.stand c.as_slice.ensures.value
+    c.as_slice-2.ensures.value in
+    let set = is_set I fine q terms f.fit f.all in
     subst (λ (z : Partial). SayOfAll z.spec z.goal c.args.budget terms r) c.self.view_is
-    (said i.spec.now i.goal.now i.machine i.opened.now.goal i.constants i.premises.items i.conclusions.items
-    I fine q terms f.fit f.all c.args.budget cells ids f.stand r (h s i.goal.now set left right)))
+    (said I fine q terms f.fit f.all c.args.budget cells ids f.stand r (h s i.goal.now set o.0 o.1)))
     c.open_verdict.ensures.opens
 
 pub returns-clause-few : goal.returns-clause-few
@@ -77,7 +61,6 @@ returns-clause-few c =
     let i = c.self.inside in
     if_ok_map c.open_verdict.result _ _
     (λ r h. subst (λ (z : Partial). length c.open_verdict.new.bank ≤ length c.args.bank.now + most_evaluated
-    z c.args.budget) c.self.view_is (few_evaluated i.spec.now i.goal.now i.machine i.opened.now.goal
-    i.constants i.premises.items i.conclusions.items c.self.invariant c.args.budget (length c.args.bank.now)
+    z c.args.budget) c.self.view_is (few_evaluated c.self.invariant c.args.budget (length c.args.bank.now)
     (length c.open_verdict.new.bank) c.as_slice.result.now c.as_slice-2.result.now c.as_slice.ensures.value
     c.as_slice-2.ensures.value h)) c.open_verdict.ensures.few

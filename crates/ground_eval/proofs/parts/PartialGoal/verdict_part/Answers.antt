@@ -3,7 +3,6 @@ use Rattle.spec_core.specs.WellSorted.{GoalIsSorted, IsWellSorted}
 use Rattle.ground_eval.specs.Entries.{SayOfAll}
 use Rattle.ground_eval.specs.Looked.{most_evaluated}
 use Rattle.ground_eval.specs.Opened.{Partial, AreFirstValues, AllHaveVerdict}
-use Rattle.ground_eval.specs.Prepared.{CanCompareAll}
 use Rattle.bank_machine.specs.KeptCalls.{AreRight}
 use Rattle.ground_eval.proofs.EntryPlaces.{first_entries, no_more_entries}
 use Rattle.ground_eval.proofs.EntrySteps.{all_have, open_yet}
@@ -31,19 +30,11 @@ whole_verdict-requires-clause-ready c =
     (λ (z : Partial). AreFirstValues z.spec z.goal terms) (sym c.self.view_is) first0 in
     let long : length c.args.fixed.now ≡ length terms = places_count c.args.bank.now c.args.fixed.now terms stand in
     let all : length terms ≡ length i.goal.now.vars = omega (arith, long, c.if-fixed-count.true, c.len-count.ensures) in
-    let w = whole_ready i.spec.now i.goal.now i.machine i.opened.now.goal i.constants i.premises.items
-    i.conclusions.items I fine q terms c.args.bank.now c.args.fixed.now stand
-    (values_of_all i.spec.now i.goal.now i.machine i.opened.now.goal i.constants i.premises.items
-    i.conclusions.items I fine q terms first all) in
-    let g = there i.spec.now i.goal.now i.machine i.opened.now.goal i.constants i.premises.items
-    i.conclusions.items I fine q in
-    let left : CanCompareAll i.machine c.args.bank.now c.as_slice-premises.result.now c.args.fixed.now
-    g.premises terms = subst (λ ps. CanCompareAll i.machine c.args.bank.now ps c.args.fixed.now g.premises
-    terms) (sym c.as_slice-premises.ensures.value) w.0 in
-    let right : CanCompareAll i.machine c.args.bank.now c.as_slice-conclusions.result.now c.args.fixed.now
-    g.conclusions terms = subst (λ ps. CanCompareAll i.machine c.args.bank.now ps c.args.fixed.now
-    g.conclusions terms) (sym c.as_slice-conclusions.ensures.value) w.1 in
-    (g, terms, left, right)
+    let w = whole_ready I fine q terms c.args.bank.now c.args.fixed.now stand
+    (values_of_all I fine q terms first all) c.as_slice-premises.ensures.value
+    c.as_slice-conclusions.ensures.value in
+    let g = there I fine q in
+    (g, terms, w.0, w.1)
 
 pub returns-then-fixed-count-clause-part : goal.returns-then-fixed-count-clause-part
 returns-then-fixed-count-clause-part c terms stand first0 =
@@ -57,22 +48,13 @@ returns-then-fixed-count-clause-part c terms stand first0 =
     (λ (z : Partial). AreFirstValues z.spec z.goal terms) (sym c.self.view_is) first0 in
     let long : length c.args.fixed.now ≡ length terms = places_count c.args.bank.now c.args.fixed.now terms stand in
     let all : length terms ≡ length i.goal.now.vars = omega (arith, long, c.if-fixed-count.true, c.len-count.ensures) in
-    let w = whole_ready i.spec.now i.goal.now i.machine i.opened.now.goal i.constants i.premises.items
-    i.conclusions.items I fine q terms c.args.bank.now c.args.fixed.now stand
-    (values_of_all i.spec.now i.goal.now i.machine i.opened.now.goal i.constants i.premises.items
-    i.conclusions.items I fine q terms first all) in
-    let g = there i.spec.now i.goal.now i.machine i.opened.now.goal i.constants i.premises.items
-    i.conclusions.items I fine q in
-    let left : CanCompareAll i.machine c.args.bank.now c.as_slice-premises.result.now c.args.fixed.now
-    g.premises terms = subst (λ ps. CanCompareAll i.machine c.args.bank.now ps c.args.fixed.now g.premises
-    terms) (sym c.as_slice-premises.ensures.value) w.0 in
-    let right : CanCompareAll i.machine c.args.bank.now c.as_slice-conclusions.result.now c.args.fixed.now
-    g.conclusions terms = subst (λ ps. CanCompareAll i.machine c.args.bank.now ps c.args.fixed.now
-    g.conclusions terms) (sym c.as_slice-conclusions.ensures.value) w.1 in
+    let w = whole_ready I fine q terms c.args.bank.now c.args.fixed.now stand
+    (values_of_all I fine q terms first all) c.as_slice-premises.ensures.value
+    c.as_slice-conclusions.ensures.value in
+    let g = there I fine q in
     subst (λ (z : Partial). AllHaveVerdict z.spec z.goal terms c.args.budget c.in_ok-verdict.verdict)
-    c.self.view_is (whole_part i.spec.now i.goal.now i.machine i.opened.now.goal i.constants
-    i.premises.items i.conclusions.items I fine q terms first all c.args.budget c.in_ok-verdict.verdict
-    (c.in_ok-verdict.ensures.decided g terms left right))
+    c.self.view_is (whole_part I fine q terms first all c.args.budget c.in_ok-verdict.verdict
+    (c.in_ok-verdict.ensures.decided g terms w.0 w.1))
 
 pub returns-then-fixed-count-clause-marks : goal.returns-then-fixed-count-clause-marks
 returns-then-fixed-count-clause-marks c =
@@ -128,8 +110,7 @@ returns-in-None-clause-part c terms stand first =
 pub returns-then-fixed-count-clause-few : goal.returns-then-fixed-count-clause-few
 returns-then-fixed-count-clause-few c =
     let i = c.self.inside in
-    let once = few_evaluated i.spec.now i.goal.now i.machine i.opened.now.goal i.constants i.premises.items
-    i.conclusions.items c.self.invariant c.args.budget (length c.args.bank.now)
+    let once = few_evaluated c.self.invariant c.args.budget (length c.args.bank.now)
     (length c.whole_verdict.new.bank) c.as_slice-premises.result.now c.as_slice-conclusions.result.now
     c.as_slice-premises.ensures.value c.as_slice-conclusions.ensures.value c.in_ok-verdict.ensures.few in
     few_looked c.args.self.now c.args.budget (length c.args.bank.now) (length c.whole_verdict.new.bank)
