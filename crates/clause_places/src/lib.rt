@@ -8,8 +8,11 @@
 //! with its term. `asked`: the first variable that the first place asks for, or that none does.
 //! Both are exact. Each place of the list is there (`places_are_there`), and what is asked for is
 //! a variable of the clause (`asked_is_variable`). `worked_examples`.
+//!
+//! Neither: Which call `call_around` answers.
 #![tactic(auto)]
 
+mod calls;
 mod demand;
 mod laws;
 mod patterns;
@@ -17,6 +20,7 @@ mod spots;
 mod terms;
 mod walk;
 
+pub use calls::{Call, call_around};
 pub use demand::asked;
 pub use laws::{asked_is_variable, places_are_there, worked_examples};
 pub use spots::Spots;

@@ -34,7 +34,7 @@ module _ (spec : Spec) (goal : Goal) where
   unfolding stems_of
   stem_other = (0, omega arith, refl)
 
-  stem_goal : (name : List ℕ) → Contains (variable_names goal.vars) name
+  pub stem_goal : (name : List ℕ) → Contains (variable_names goal.vars) name
       → Contains (stems_of spec goal) name
   unfolding stems_of
   stem_goal name there =
@@ -59,7 +59,7 @@ module _ (spec : Spec) (goal : Goal) where
   stems_rule k rule at = λ i d lt. stem_rule k rule _ at (Contains-get_or (rule_names rule) i d lt)
 
   -- a stem is derived
-  stem_derived : (name : List ℕ) → Contains (stems_of spec goal) name → IsDerived spec goal name
+  pub stem_derived : (name : List ℕ) → Contains (stems_of spec goal) name → IsDerived spec goal name
   stem_derived name there = (name, there, ([], sym (append-nil name), All-nil IsMark))
 
   entry : (names : List (List ℕ)) (n : ℕ)

@@ -80,7 +80,7 @@ fn same_sort(names: &[Name], split: Option<(u32, SortId)>, sort: SortId) -> Opti
 }
 
 /// The stem of the sort.
-fn stem_of<'a>(setting: &'a Setting, sort: SortId) -> &'a [u8]
+pub(crate) fn stem_of<'a>(setting: &'a Setting, sort: SortId) -> &'a [u8]
     requires { HasStems setting.now }
     ensures { Contains (stems_of setting.now.spec.now setting.now.goal.now) result.now }
 {

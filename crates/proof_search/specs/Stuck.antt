@@ -1,7 +1,9 @@
 -- The nodes at which the routine strategy stops on the way to a proof.
-use Rattle.std.specs.Prelude.{◌≡◌, ℕ, suc, ◌<◌, true, List, [], ◌∷◌, ◌++◌, Some, length, slice_get, remove}
+use Rattle.std.specs.Prelude.{◌≡◌, ℕ, suc, ◌<◌, true, List, [], ◌∷◌, ◌++◌, Option, Some, None, length, slice_get}
+use Rattle.std.specs.Prelude.{remove}
 use Rattle.std.specs.List.{AllByRecursion}
 use Rattle.term_core.specs.Tree.{Tree}
+use Rattle.term_core.specs.declared.ids.VarId.{VarId}
 use Rattle.spec_core.specs.declared.records.Goal.{Goal}
 use Rattle.spec_core.specs.declared.records.Spec.{Spec}
 use Rattle.clause_core.specs.declared.clauses.Clause.{Clause}
@@ -12,12 +14,18 @@ use Rattle.routine_proof.specs.Blocks.{clauses, IsChosen, root}
 use Rattle.routine_proof.specs.Candidates.{Gives}
 use Rattle.routine_proof.specs.Entries.{entries, lemma_goals}
 use Rattle.routine_proof.specs.First.{FirstIs, NoneIs}
-use Rattle.routine_proof.specs.Routine.{Start, candidates, makes}
+use Rattle.routine_proof.specs.Routine.{Start, no_split, split, candidates, makes}
 use Rattle.routine_proof.specs.Ways.{Node, born, is_cover}
 use Rattle.proof_search.specs.declared.stuck.Cause.{Cause}
 use Rattle.proof_search.specs.declared.stuck.Cause.TheVariants.{NoStep, Covers}
+use Rattle.proof_search.specs.declared.stopping.StuckStart.{StuckStart}
 use Rattle.proof_search.specs.declared.stuck.Stuck.{Stuck}
 use Rattle.proof_search.specs.Bounding.{IsStart}
+
+-- the start that splits this variable first, or none
+abbrev pub start_at : Option VarId → Start
+start_at None = no_split
+start_at (Some v) = split v.0
 
 module _ (above : Tree → Tree → Type 0) (spec : Spec) (lemmas : List ℕ) where
   -- no step of the list is defined at this node over these nodes, or the first one that is is a cover
@@ -67,6 +75,15 @@ module _ (above : Tree → Tree → Type 0) (spec : Spec) (lemmas : List ℕ) wh
 
   abbrev pub AreStuck : Goal → List Stuck → Type 0
   AreStuck goal stuck = AllByRecursion (IsStuck goal) stuck
+
+  -- the nodes of a start are such nodes from it
+  abbrev pub IsStuckStart : Goal → StuckStart → Type 0
+  IsStuckStart goal s =
+      IsStart (goal_clause goal) (start_at s.split)
+      × AllByRecursion (IsStuckFrom (start_at s.split) (goal_clause goal)) s.stuck.items
+
+  abbrev pub AreStuckStarts : Goal → List StuckStart → Type 0
+  AreStuckStarts goal starts = AllByRecursion (IsStuckStart goal) starts
 
   -- each clause is that of such a node
   abbrev pub AreStuckClauses : Goal → List Clause → Type 0

@@ -27,19 +27,20 @@
 //! `stuck_nodes`: each of them is a node, other than the goal's, that chosen moves reach from the
 //! goal's clause while other nodes are passed over. At the node no entry of the list gives a
 //! step, or the first one that does covers a variable, as its cause tells. `stuck_clauses`: the
-//! clauses of such nodes.
+//! clauses of such nodes. `stuck_starts`: such nodes of each start of the goal, with its start.
 //!
 //! Tested: Goals by hand, and goals at random beside a plain program in Python (`tests/compare`),
 //! through the program.
 //!
 //! Neither: That `proof_within` finds a proof where the limits allow one, and which of the nodes
-//! `stuck_nodes` meets.
+//! `stuck_nodes` and `stuck_starts` meet.
 #![tactic(auto)]
 
 mod answers;
 mod at;
 mod bounding;
 mod building;
+mod calls;
 mod choosing;
 mod covering;
 mod falling_sides;
@@ -56,11 +57,13 @@ mod ruling;
 mod setting;
 mod side_spines;
 mod starting;
+mod stopping;
 mod stuck;
 mod trying;
 
 pub use answers::Guided;
 pub use guiding::guided;
 pub use limits::Limits;
+pub use stopping::{StuckStart, stuck_starts};
 pub use stuck::{Cause, Stuck, stuck_clauses, stuck_nodes};
 pub use trying::proof_within;

@@ -14,13 +14,14 @@ ghost use Rattle.proof_search.specs.Stuck.{IsStuckFrom};
 ghost use Rattle.proof_search.specs.Walks.{IsTurn, IsNextClause};
 
 use crate::building::{Building, is_cover};
+use crate::calls::is_repeated;
 use crate::limits::Limits;
 use crate::setting::Setting;
 use crate::starting::{Start, next_move};
 use crate::stuck::{Cause, Stuck};
 use clause_core::{Clause, Step, copy_equations, of_goal};
 use routine_proof::Move;
-use spec_core::Goal;
+use spec_core::{Goal, Signature};
 use std::alloc::Global;
 use term_core::{OutOfMemory, Seq};
 use term_order::TermOrder;
@@ -30,7 +31,19 @@ use term_order::TermOrder;
 pub(crate) struct Met {
     /// The step with which the block begins, if it has one.
     pub first: Option<Step>,
+    /// How many nodes were built and not passed over.
+    pub built: usize,
+    /// Whether some of them weren't looked at.
+    pub cut: bool,
     pub stuck: Vec<Stuck>,
+}
+
+/// What a walk does at covers.
+#[derive(Clone, Copy)]
+pub(crate) struct Passing {
+    pub limits: Limits,
+    /// Passes over covers that others repeat, and lists no others.
+    pub repeated_alone: bool,
 }
 
 /// What happens at the next node.
@@ -53,7 +66,7 @@ pub(crate) fn walk_from<O: TermOrder>(
     setting: &Setting,
     goal: &Goal,
     start: Start,
-    limits: Limits,
+    passing: Passing,
 ) -> Result<Met, OutOfMemory>
     requires setting { IsSetting setting.now }
     requires sides { LemmasFall (O.above order.now) setting.now }
@@ -65,7 +78,7 @@ pub(crate) fn walk_from<O: TermOrder>(
 {
     clause_core::tidying_laws();
     let clause = of_goal(alloc, goal)?;
-    walk(alloc, order, setting, start, clause, limits)
+    walk(alloc, order, setting, start, clause, passing)
 }
 
 /// The same over the clause itself.
@@ -75,7 +88,7 @@ fn walk<O: TermOrder>(
     setting: &Setting,
     start: Start,
     clause: Clause,
-    limits: Limits,
+    passing: Passing,
 ) -> Result<Met, OutOfMemory>
     requires setting { IsSetting setting.now }
     requires sides { LemmasFall (O.above order.now) setting.now }
@@ -86,12 +99,13 @@ fn walk<O: TermOrder>(
     descent::children_are_sorted(order);
     let mut building = Building::new(alloc, order, clause)?;
     let mut stuck = Vec::new(alloc);
-    for turns in 0..limits.nodes {
-        if !goes_on(&building, limits.nodes - turns) {
+    let most = passing.limits.nodes;
+    for turns in 0..most {
+        if !goes_on(&building, most - turns) {
             return Ok(ending(building, stuck));
         }
         let next = next_move(alloc, order, setting, start, &building)?;
-        match turn_at(next, &building, limits) {
+        match turn_at(next, &setting.spec.sig, &building, passing) {
             Turn::End => return Ok(ending(building, stuck)),
             Turn::Pass(cause) => {
                 let clause = building.pass();
@@ -112,8 +126,15 @@ fn walk<O: TermOrder>(
 fn ending(building: Building, stuck: Vec<Stuck>) -> Met
     ensures { result.stuck ≡ stuck }
 {
+    let built = building.block.nodes.len();
+    let cut = building.steps.len() < built;
     let first = building.first_step();
-    Met { first, stuck }
+    Met {
+        first,
+        built,
+        cut,
+        stuck,
+    }
 }
 
 /// Whether some nodes have no step yet, but at most this many.
@@ -130,11 +151,15 @@ fn goes_on(building: &Building, most: u32) -> bool
 }
 
 /// What happens at the next node, where this move is chosen or none is.
-fn turn_at(next: Option<Move>, building: &Building, limits: Limits) -> Turn
+fn turn_at(next: Option<Move>, sig: &Signature, building: &Building, passing: Passing) -> Turn
     requires whole { IsWhole building.now }
     requires next { length building.now.steps.items < length building.now.block.nodes.items }
     ensures { IsTurn building.now next result }
 {
+    let Passing {
+        limits,
+        repeated_alone,
+    } = passing;
     let node = building.steps.len();
     let Some(next) = next else {
         if node == 0 {
@@ -148,10 +173,14 @@ fn turn_at(next: Option<Move>, building: &Building, limits: Limits) -> Turn
         }
         return Turn::End;
     }
-    if limits.may_cover(building, &next) && limits.has_room(&next) {
-        return Turn::Cover(next);
+    let repeats = repeated_alone && is_repeated(sig, building, &next);
+    if repeats || !limits.may_cover(building, &next) || !limits.has_room(&next) {
+        return Turn::Pass(Cause::Covers);
     }
-    Turn::Pass(Cause::Covers)
+    if repeated_alone {
+        return Turn::Take(next);
+    }
+    Turn::Cover(next)
 }
 
 /// A copy of the next node's clause.

@@ -8,7 +8,7 @@ ghost use Rattle.proof_search.specs.Stuck.{AreStuck, AreStuckClauses};
 
 use crate::guiding::same_split;
 use crate::limits::Limits;
-use crate::passing::walk_from;
+use crate::passing::{Passing, walk_from};
 use crate::setting::Setting;
 use crate::starting::Start;
 use clause_core::{Clause, of_goal, within};
@@ -101,7 +101,11 @@ fn stuck_of<O: TermOrder>(
         return Ok(Vec::new(alloc));
     }
     let setting = Setting::new(alloc, order, spec, lemmas)?;
-    let unsplit = walk_from(alloc, order, &setting, goal, Start::NoSplit, limits)?;
+    let passing = Passing {
+        limits,
+        repeated_alone: false,
+    };
+    let unsplit = walk_from(alloc, order, &setting, goal, Start::NoSplit, passing)?;
     let mut found = unsplit.stuck;
     let same = same_split(alloc, spec, &clause, unsplit.first)?;
     for number in 0..clause.ctx.len() as u32 {
@@ -110,7 +114,7 @@ fn stuck_of<O: TermOrder>(
             continue;
         }
         let start = Start::Split(variable);
-        let met = walk_from(alloc, order, &setting, goal, start, limits)?;
+        let met = walk_from(alloc, order, &setting, goal, start, passing)?;
         let mut more = met.stuck;
         found.append(&mut more)?;
     }

@@ -1,4 +1,4 @@
 -- What the proofs of this crate share.
-mod Joined
+pub mod Joined
 mod Arguments
-mod Items
+pub mod Items

@@ -28,7 +28,7 @@ pub use cases::{CaseAt, draw_case};
 pub use clauses::draw_clause;
 pub use goals::{draw_goal, goal_names};
 pub use laws::worked_examples;
-pub use naming::Naming;
+pub use naming::{Naming, draw_variable};
 pub use rules::draw_rule;
 pub use steps::{StepAt, draw_step, equation_name, marked_place};
 pub use terms::{draw_side, draw_term};

@@ -22,7 +22,7 @@ pub struct Naming<'a> {
 }
 
 /// Draws the variable's name, or `?n` if it has none.
-pub(crate) fn draw_variable(
+pub fn draw_variable(
     page: &mut Page,
     naming: &Naming<'_>,
     style: Style,

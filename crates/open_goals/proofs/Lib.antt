@@ -1,0 +1,4 @@
+-- What the proofs of this crate share.
+mod Taken
+mod Enclosed
+mod Listed
