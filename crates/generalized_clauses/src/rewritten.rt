@@ -151,7 +151,7 @@ impl<'a> Rewriting<'a> {
 
     /// Whether each premise becomes an identity, or a premise of the clause that is rewritten.
     fn premises_hold(&self, alloc: Global, theta: &Subst) -> Result<bool, OutOfMemory> {
-        for premise in self.lemma.premises.as_slice() {
+        for premise in &self.lemma.premises {
             let made = Equation {
                 left: theta.apply(alloc, &premise.left)?,
                 right: theta.apply(alloc, &premise.right)?,

@@ -50,7 +50,7 @@ pub(crate) fn missing_premise(
     clause: &Clause,
 ) -> Result<Option<Equation>, OutOfMemory> {
     let mut missing = None;
-    for premise in lemma.premises.as_slice() {
+    for premise in &lemma.premises {
         let (Some(left), Some(right)) = (
             small_instance(alloc, &premise.left, theta)?,
             small_instance(alloc, &premise.right, theta)?,

@@ -162,7 +162,7 @@ fn missing_for(
     if !has_all_variables(lemma, &whole) {
         return Ok(None);
     }
-    for own in clause.conclusions.as_slice() {
+    for own in &clause.conclusions {
         if let Some(theta) = equation_match(alloc, conclusion, own)? {
             let missing = missing_premise(alloc, lemma, &theta, clause)?;
             if missing.is_some() {

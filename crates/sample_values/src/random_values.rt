@@ -59,7 +59,7 @@ impl<'a> Samples<'a> {
         depth: u32,
     ) -> Result<Vec<Value>, OutOfMemory> {
         let mut args = Vec::new(alloc);
-        for sort in info.args.as_slice() {
+        for sort in &info.args {
             let left = self.room_of(info, *sort, room);
             let value = self.random_within(alloc, sig, *sort, left, depth)?;
             args.push(value)?;

@@ -57,7 +57,7 @@ impl<'a> Samples<'a> {
         depth: u32,
     ) -> Result<Vec<Vec<Value>>, OutOfMemory> {
         let mut lists = Vec::new(alloc);
-        for sort in info.args.as_slice() {
+        for sort in &info.args {
             let values = self.small_values(alloc, sig, *sort, depth)?;
             lists.push(values)?;
         }

@@ -1,7 +1,5 @@
 -- The bound of a term's variables: each is below it.
-use Rattle.std.proofs.Common.{◌≡◌, ◌⊎◌, ℕ, ◌<◌, [], ◌++◌, inl, inr, refl, ap, ◌∙◌, arith, true}
-use Rattle.std.specs.Prelude.{◌↔◌, IsTrue, IsFalse, nat_lt}
-use Rattle.std.proofs.lemmas.Bool.Decides.{nat_tests}
+use Rattle.std.proofs.Common.{◌≡◌, ℕ, ◌<◌, [], ◌++◌, inl, inr, refl, ap, ◌∙◌, arith}
 use Rattle.term_core.specs.Tree.{Tree, Trees, var, app, none, some}
 use Rattle.term_core.specs.Variables.{Occurs, OccursAny, occurrences, occurrences_all}
 use Rattle.term_core.specs.Measures.{tree_bound, bounds}

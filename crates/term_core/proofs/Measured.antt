@@ -7,7 +7,6 @@ use Rattle.term_core.specs.Tree.{Tree, Trees, var, app, none, some, trees_of, tr
 use Rattle.term_core.specs.Measures.{tree_bound, bounds, tree_need, needs, joint_need, narrow, measure_of, measures_of}
 use Rattle.term_core.specs.Measures.{followed}
 use Rattle.term_core.specs.Variables.{Numbered, NumberedAll}
-use Rattle.term_core.specs.declared.measures.Measure.{Measure}
 use Rattle.term_core.proofs.Trees.{sizes-append, depths-append}
 
 bounds-append : (xs : List Tree) (y : Tree) →

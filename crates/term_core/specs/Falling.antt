@@ -1,9 +1,8 @@
 -- The measure falls from shared terms to each of them.
-use Rattle.std.specs.Prelude.{ℕ, ◌≤◌, max, List, Option, Some, None, option_map}
+use Rattle.std.specs.Prelude.{ℕ, ◌≤◌, max, Option, Some, None, option_map}
 use Rattle.std.proofs.Common.{arith}
 use Rattle.std.specs.Global.{Global}
 use Rattle.std.specs.declared.rc.Rc.{Rc}
-use Rattle.term_core.specs.Tree.{Tree}
 use Rattle.term_core.specs.Measure.{list_weight}
 use Rattle.term_core.specs.Shared.{terms_in}
 use Rattle.term_core.specs.declared.tree.Measured.{Measured}

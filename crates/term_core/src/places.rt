@@ -4,7 +4,9 @@ ghost use Rattle.std.specs.Prelude.{◌≡◌, ◌<◌, ◌+◌, IfOk, MatchOpti
 ghost use Rattle.std.specs.Prelude.{slice_set};
 ghost use Rattle.term_core.specs.Tree.{Tree, trees_of};
 ghost use Rattle.term_core.specs.Places.{IsArgument, IsAt, HasNoPlace, IsReplaced};
-ghost use Rattle.term_core.specs.declared.places.ReplaceError.TheVariants.{OutOfMemory as out_of_memory};
+ghost use Rattle.term_core.specs.declared.places.ReplaceError.TheVariants.{
+  OutOfMemory as out_of_memory,
+};
 
 use crate::lists::front;
 use crate::memory::OutOfMemory;

@@ -1,7 +1,9 @@
 //! `Term` and `Terms`: making, sharing and comparing them.
 
-ghost use Rattle.std.specs.Prelude.{◌≡◌, ◌≤◌, ◌↔◌, ℕ, [], ◌∷◌, ◌++◌, Some, IfOk, OnOk, OnErr};
-ghost use Rattle.std.specs.Prelude.{IsTrue, MatchOption, length, min, slice_get};
+ghost use Rattle.std.specs.Prelude.{◌≡◌, ◌≤◌, ◌<◌, ◌^◌, ◌↔◌, ℕ, [], ◌∷◌, ◌++◌, Some, IfOk};
+ghost use Rattle.std.specs.Prelude.{OnOk, OnErr, IsTrue, MatchOption, length, min, slice_get};
+ghost use Rattle.std.specs.Slice.Iter.{iter_rest};
+ghost use Rattle.std.specs.Iterator.Adapters.{IterYieldsInOrder, IterYieldsInReverse};
 ghost use Rattle.term_core.specs.Tree.{var as variable, app as application, trees_of};
 ghost use Rattle.term_core.specs.Tree.{tree_size, tree_depth};
 ghost use Rattle.term_core.specs.Measures.{measure_of, measures_of, tree_bound};
@@ -12,8 +14,8 @@ use crate::measures::Measure;
 use crate::memory::OutOfMemory;
 use std::alloc::Global;
 use std::marker::Model;
-use std::mem;
 use std::rc::Rc;
+use std::{mem, slice};
 
 /// A variable, or a symbol applied to terms.
 #[cycle(term)]
@@ -181,6 +183,15 @@ impl Terms {
         }
     }
 
+    pub fn iter(&self) -> slice::Iter<'_, Term>
+        ensures rest { iter_rest result ≡ self.now }
+        ensures bound { length (iter_rest result) < 2 ^ 64 }
+        ensures runs { IterYieldsInOrder Term }
+        ensures runs_back { IterYieldsInReverse Term }
+    {
+        self.as_slice().iter()
+    }
+
     pub fn get(&self, index: usize) -> Option<&Term>
         ensures { MatchOption result (length self.now ≤ index)
             (λ t. slice_get self.now index ≡ Some t.now) }
@@ -241,6 +252,21 @@ impl Terms {
             alloc: self.alloc,
             shared,
         })
+    }
+}
+
+impl<'a> IntoIterator for &'a Terms {
+    type Item = &'a Term;
+
+    type IntoIter = slice::Iter<'a, Term>;
+
+    ghost use Rattle.term_core.specs.declared.tree.Term.{Term};
+
+    ghost into_iter_gives = { λ list it. (iter_rest it ≡ list.now)
+        × (length (iter_rest it) < 2 ^ 64) × IterYieldsInOrder Term };
+
+    fn into_iter(self) -> slice::Iter<'a, Term> {
+        self.as_slice().iter()
     }
 }
 

@@ -1,5 +1,4 @@
-use Rattle.std.proofs.Common.{◌≡◌, ◌<◌, ap, ◌∙◌, arith, max}
-use Rattle.term_core.specs.Measures.{tree_bound, tree_need}
+use Rattle.std.proofs.Common.{ap, arith}
 use Rattle.term_core.proofs.Measured.{numbered_needs, numbered_from}
 use Rattle.term_core.specs.declared.measures.Measure.{Measure}
 use Rattle.term_core.proofs.tree.Term.numbered_after.Goals as goal
