@@ -52,6 +52,19 @@ module _ (sig : Sig) where
       (sound sig w y l.stand.0) h.ends (text_ends ws) (same_tail (sym h.is ∙ l.is)) in
       (one.0, record { stand = l.stand.1; is = one.1 })
 
+  -- no words are there if the first one isn't
+  pub none_front :
+      (bytes : List ℕ) (w : Word) (ws : List Word) → ((rest : List ℕ) → IsWordAt sig bytes w rest → ⊥) →
+      AreWords sig bytes (w ∷ ws) → ⊥
+  none_front bytes w ws never l = never (words_text sig ws) (front bytes w ws l)
+
+  -- nor if the others don't follow the first one
+  pub none_behind :
+      NamesDiffer sig → (bytes : List ℕ) (v : Word) (rest : List ℕ) (w : Word) (ws : List Word) →
+      kind_of v ≡ kind_of w → Varies v → Varies w → IsWordAt sig bytes v rest → (AreWords sig rest ws → ⊥) →
+      AreWords sig bytes (w ∷ ws) → ⊥
+  none_behind d bytes v rest w ws k x y h never l = never (behind d bytes v rest w ws k x y h l).1
+
   sounds : (ws : List Word) → AllByRecursion Varies ws → AllByRecursion (WordStands sig) ws →
       AllByRecursion (Sound sig) ws
   sounds [] v h = tt

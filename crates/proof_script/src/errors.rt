@@ -30,7 +30,9 @@ impl Error for StepLineError {}
 
 impl From<OutOfMemory> for StepLineError {
     ghost use Rattle.std.specs.Prelude.{◌≡◌};
-    ghost use Rattle.proof_script.specs.declared.errors.StepLineError.TheVariants.{OutOfMemory as no_memory};
+    ghost use Rattle.proof_script.specs.declared.errors.StepLineError.TheVariants.{
+      OutOfMemory as no_memory,
+    };
 
     ghost from_gives = { λ _ e. e ≡ no_memory };
 

@@ -16,6 +16,7 @@
 
 mod equation_steps;
 mod errors;
+mod last_words;
 mod laws;
 mod limits;
 mod line_words;

@@ -1,9 +1,9 @@
 //! `read_step`: the step of a line.
 
-ghost use Rattle.std.specs.Prelude.{◌≡◌, Err, IfOk, MatchOption};
+ghost use Rattle.std.specs.Prelude.{◌≡◌, Err, IfOk};
 ghost use Rattle.spec_core.specs.Declarations.{IsDeclared};
 ghost use Rattle.clause_core.specs.declared.steps.Step.{Step as AnyStep};
-ghost use Rattle.proof_script.specs.LineWords.{IsStepBehind, IsStepLine};
+ghost use Rattle.proof_script.specs.LineWords.{IsStepLine, ReadsStep};
 ghost use Rattle.proof_script.specs.Verbs.{verb_text};
 ghost use Rattle.proof_script.specs.declared.errors.StepLineError.TheVariants.{NotAStep};
 
@@ -43,9 +43,7 @@ fn read_words(
     words: &[u8],
 ) -> Result<Option<Step>, OutOfMemory>
     requires { IsDeclared sig.now }
-    ensures { IfOk result (λ o. MatchOption o
-        ((step : AnyStep) → IsStepBehind sig.now (verb_text verb) words.now step → ⊥)
-        (λ step. IsStepBehind sig.now (verb_text verb) words.now step)) }
+    ensures { IfOk result (ReadsStep sig.now (verb_text verb) words.now) }
 {
     match verb {
         Verb::Trivial => Ok(trivial(words)),

@@ -1,12 +1,12 @@
 //! Steps with terms.
 
-ghost use Rattle.std.specs.Prelude.{IfOk, MatchOption, codes};
+ghost use Rattle.std.specs.Prelude.{IfOk, codes};
 ghost use Rattle.spec_core.specs.Declarations.{IsDeclared};
-ghost use Rattle.clause_core.specs.declared.steps.Step.{Step as AnyStep};
-ghost use Rattle.proof_script.specs.LineWords.{IsStepBehind};
+ghost use Rattle.proof_script.specs.LineWords.{ReadsStep};
 
+use crate::last_words::only_terms;
 use crate::line_words::{next_name, next_number, next_variable};
-use crate::term_words::{next_patterns, next_term, next_terms};
+use crate::term_words::{next_patterns, next_term};
 use clause_core::Step;
 use spec_core::Signature;
 use std::alloc::Global;
@@ -15,49 +15,35 @@ use term_core::OutOfMemory;
 /// The step `subsume` of these words.
 pub fn subsume(alloc: Global, sig: &Signature, words: &[u8]) -> Result<Option<Step>, OutOfMemory>
     requires { IsDeclared sig.now }
-    ensures { IfOk result (λ o. MatchOption o
-        ((step : AnyStep) → IsStepBehind sig.now (codes "subsume") words.now step → ⊥)
-        (λ step. IsStepBehind sig.now (codes "subsume") words.now step)) }
+    ensures { IfOk result (ReadsStep sig.now (codes "subsume") words.now) }
 {
     let Some((node, others)) = next_number(words) else {
         return Ok(None);
     };
-    let Some((terms, rest)) = next_terms(alloc, sig, others)? else {
-        return Ok(None);
-    };
-    if rest.is_empty() {
-        Ok(Some(Step::Subsume(node, terms)))
-    } else {
-        Ok(None)
+    match only_terms(alloc, sig, others)? {
+        Some(terms) => Ok(Some(Step::Subsume(node, terms))),
+        None => Ok(None),
     }
 }
 
 /// The step `by-lemma` of these words.
 pub fn by_lemma(alloc: Global, sig: &Signature, words: &[u8]) -> Result<Option<Step>, OutOfMemory>
     requires { IsDeclared sig.now }
-    ensures { IfOk result (λ o. MatchOption o
-        ((step : AnyStep) → IsStepBehind sig.now (codes "by-lemma") words.now step → ⊥)
-        (λ step. IsStepBehind sig.now (codes "by-lemma") words.now step)) }
+    ensures { IfOk result (ReadsStep sig.now (codes "by-lemma") words.now) }
 {
     let Some((goal, others)) = next_name(alloc, words)? else {
         return Ok(None);
     };
-    let Some((terms, rest)) = next_terms(alloc, sig, others)? else {
-        return Ok(None);
-    };
-    if rest.is_empty() {
-        Ok(Some(Step::ByLemma(goal, terms)))
-    } else {
-        Ok(None)
+    match only_terms(alloc, sig, others)? {
+        Some(terms) => Ok(Some(Step::ByLemma(goal, terms))),
+        None => Ok(None),
     }
 }
 
 /// The step `cover` of these words.
 pub fn cover(alloc: Global, sig: &Signature, words: &[u8]) -> Result<Option<Step>, OutOfMemory>
     requires { IsDeclared sig.now }
-    ensures { IfOk result (λ o. MatchOption o
-        ((step : AnyStep) → IsStepBehind sig.now (codes "cover") words.now step → ⊥)
-        (λ step. IsStepBehind sig.now (codes "cover") words.now step)) }
+    ensures { IfOk result (ReadsStep sig.now (codes "cover") words.now) }
 {
     let Some((var, others)) = next_variable(words) else {
         return Ok(None);
@@ -75,9 +61,7 @@ pub fn cover(alloc: Global, sig: &Signature, words: &[u8]) -> Result<Option<Step
 /// The step `generalize` of these words.
 pub fn generalize(alloc: Global, sig: &Signature, words: &[u8]) -> Result<Option<Step>, OutOfMemory>
     requires { IsDeclared sig.now }
-    ensures { IfOk result (λ o. MatchOption o
-        ((step : AnyStep) → IsStepBehind sig.now (codes "generalize") words.now step → ⊥)
-        (λ step. IsStepBehind sig.now (codes "generalize") words.now step)) }
+    ensures { IfOk result (ReadsStep sig.now (codes "generalize") words.now) }
 {
     let Some((term, rest)) = next_term(alloc, sig, words)? else {
         return Ok(None);

@@ -3,7 +3,7 @@ use Rattle.proof_script.specs.Words.{number, place}
 use Rattle.proof_script.proofs.SameTerms.{names_differ}
 use Rattle.proof_script.proofs.WordReads.{words_text}
 use Rattle.proof_script.proofs.LineParts.{front, behind, joined, no_more, empty_is, not_empty}
-use Rattle.proof_script.proofs.place_steps.place_and_rule.Goals as goal
+use Rattle.proof_script.proofs.last_words.place_and_rule.Goals as goal
 
 pub returns-in_default : goal.returns-in_default
 returns-in_default c =
