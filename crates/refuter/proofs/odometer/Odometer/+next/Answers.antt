@@ -21,6 +21,7 @@ use Rattle.refuter.proofs.Steps.{place_none, parted, application_at, goes_true, 
 use Rattle.refuter.proofs.Steps.{next_same, next_none, next_first, whole_taken, place_within, rest_listed}
 use Rattle.refuter.proofs.Steps.{first_listed, last_same, application_is, arguments_listed, value_goes, value_ends}
 use Rattle.refuter.proofs.Steps.{at_places, at_term, place_some, behind_row, made_at, cut_back, on_ok_map}
+use Rattle.refuter.proofs.Advances.{value_at, popped, extended}
 use Rattle.refuter.proofs.odometer.Odometer.+next.Goals as goal
 
 pub advance-returns-in_default-clause-goes : goal.advance-returns-in_default-clause-goes
@@ -50,13 +51,10 @@ advance-size-requires-clause-there t c =
     let row = c.args.row.now.items in
     let l = c.requires.listed in
     let ss = c.in-Some.others.now in
-    let within : c.args.place < length row = place_within sig c.args.bank.now c.args.depth c.args.sorts.now
-    c.in-Some.sort.now ss c.args.bound c.args.place row l.0 c.in-Some.ensures l.1 (in_contained _ _ l.2) in
     let p = c.index.result.now in
-    let at : slice_get row c.args.place ≡ Some p = slice_get_read row (length row) c.args.place p refl within
-    c.index.ensures in
-    let part = parted c.args.bank.now (drop c.args.place row) p (drop (c.args.place + 1) row) l.0
-    (drop_here row c.args.place p at) l.1 in
+    let value = value_at sig c.args.bank.now c.args.depth c.args.sorts.now c.in-Some.sort.now ss c.args.bound
+    c.args.place row p l.0 c.in-Some.ensures l.1 l.2 c.index.ensures in
+    let part = value.part in
     (part.first, part.here)
 
 pub advance-overflow_sub-bound : goal.advance-overflow_sub-bound
@@ -65,13 +63,10 @@ advance-overflow_sub-bound t c =
     let row = c.args.row.now.items in
     let l = c.requires.listed in
     let ss = c.in-Some.others.now in
-    let within : c.args.place < length row = place_within sig c.args.bank.now c.args.depth c.args.sorts.now
-    c.in-Some.sort.now ss c.args.bound c.args.place row l.0 c.in-Some.ensures l.1 (in_contained _ _ l.2) in
     let p = c.index.result.now in
-    let at : slice_get row c.args.place ≡ Some p = slice_get_read row (length row) c.args.place p refl within
-    c.index.ensures in
-    let part = parted c.args.bank.now (drop c.args.place row) p (drop (c.args.place + 1) row) l.0
-    (drop_here row c.args.place p at) l.1 in
+    let value = value_at sig c.args.bank.now c.args.depth c.args.sorts.now c.in-Some.sort.now ss c.args.bound
+    c.args.place row p l.0 c.in-Some.ensures l.1 l.2 c.index.ensures in
+    let part = value.part in
     let size = c.in_ok-size.size in
     let sized : size ≡ min (tree_size part.first) c.args.bound = c.in_ok-size.ensures.size part.first part.here in
     omega (arith, sized)
@@ -82,13 +77,10 @@ advance-advance-requires t c =
     let row = c.args.row.now.items in
     let l = c.requires.listed in
     let ss = c.in-Some.others.now in
-    let within : c.args.place < length row = place_within sig c.args.bank.now c.args.depth c.args.sorts.now
-    c.in-Some.sort.now ss c.args.bound c.args.place row l.0 c.in-Some.ensures l.1 (in_contained _ _ l.2) in
     let p = c.index.result.now in
-    let at : slice_get row c.args.place ≡ Some p = slice_get_read row (length row) c.args.place p refl within
-    c.index.ensures in
-    let part = parted c.args.bank.now (drop c.args.place row) p (drop (c.args.place + 1) row) l.0
-    (drop_here row c.args.place p at) l.1 in
+    let value = value_at sig c.args.bank.now c.args.depth c.args.sorts.now c.in-Some.sort.now ss c.args.bound
+    c.args.place row p l.0 c.in-Some.ensures l.1 l.2 c.index.ensures in
+    let part = value.part in
     let size = c.in_ok-size.size in
     let sized : size ≡ min (tree_size part.first) c.args.bound = c.in_ok-size.ensures.size part.first part.here in
     let stand : AreTerms c.size.new.self (drop (c.args.place + 1) row) (trees_of part.others) = subst
@@ -98,8 +90,10 @@ advance-advance-requires t c =
     let sorts : AllByRecursion (IsSort sig) (c.in-Some.sort.now ∷ ss) = subst
     (λ us. AllByRecursion (IsSort sig) us) c.in-Some.ensures c.requires.sorts in
     let listed = contained_in _ _ (rest_listed sig c.args.depth c.args.sorts.now c.in-Some.sort.now ss
-    c.args.bound size part.first part.others l.0 c.in-Some.ensures part.is sized (in_contained _ _ l.2)) in
-    (omega arith, (sorts.1, (omega (arith, c.requires.few), (omega arith, (part.others, stand, listed)))))
+    c.args.bound size part.first part.others l.0 c.in-Some.ensures part.is sized (in_contained _ _ l.2)) in (
+      omega (arith, value.within),
+      (sorts.1, (omega (arith, c.requires.few), (omega arith, (part.others, stand, listed)))),
+    )
 
 pub advance-returns-then-branch-clause-goes : goal.advance-returns-then-branch-clause-goes
 advance-returns-then-branch-clause-goes t c =
@@ -107,13 +101,10 @@ advance-returns-then-branch-clause-goes t c =
     let row = c.args.row.now.items in
     let l = c.requires.listed in
     let ss = c.in-Some.others.now in
-    let within : c.args.place < length row = place_within sig c.args.bank.now c.args.depth c.args.sorts.now
-    c.in-Some.sort.now ss c.args.bound c.args.place row l.0 c.in-Some.ensures l.1 (in_contained _ _ l.2) in
     let p = c.index.result.now in
-    let at : slice_get row c.args.place ≡ Some p = slice_get_read row (length row) c.args.place p refl within
-    c.index.ensures in
-    let part = parted c.args.bank.now (drop c.args.place row) p (drop (c.args.place + 1) row) l.0
-    (drop_here row c.args.place p at) l.1 in
+    let value = value_at sig c.args.bank.now c.args.depth c.args.sorts.now c.in-Some.sort.now ss c.args.bound
+    c.args.place row p l.0 c.in-Some.ensures l.1 l.2 c.index.ensures in
+    let part = value.part in
     let size = c.in_ok-size.size in
     let sized : size ≡ min (tree_size part.first) c.args.bound = c.in_ok-size.ensures.size part.first part.here in
     let stand : AreTerms c.size.new.self (drop (c.args.place + 1) row) (trees_of part.others) = subst
@@ -135,7 +126,7 @@ advance-returns-then-branch-clause-goes t c =
     true) l.0 l.1 (next_same sig c.advance.new.bank c.args.depth c.args.sorts.now c.in-Some.sort.now ss
     c.args.bound (c.args.bound - size) p part.first part.others l.0 (take c.args.place row)
     (take (c.args.place + 1) row) c.advance.new.row.items c.in-Some.ensures part.is here left
-    (take_here row c.args.place p at) goes)
+    value.taken goes)
 
 pub advance-returns-then-branch-clause-few : goal.advance-returns-then-branch-clause-few
 advance-returns-then-branch-clause-few t c =
@@ -143,13 +134,10 @@ advance-returns-then-branch-clause-few t c =
     let row = c.args.row.now.items in
     let l = c.requires.listed in
     let ss = c.in-Some.others.now in
-    let within : c.args.place < length row = place_within sig c.args.bank.now c.args.depth c.args.sorts.now
-    c.in-Some.sort.now ss c.args.bound c.args.place row l.0 c.in-Some.ensures l.1 (in_contained _ _ l.2) in
     let p = c.index.result.now in
-    let at : slice_get row c.args.place ≡ Some p = slice_get_read row (length row) c.args.place p refl within
-    c.index.ensures in
-    let part = parted c.args.bank.now (drop c.args.place row) p (drop (c.args.place + 1) row) l.0
-    (drop_here row c.args.place p at) l.1 in
+    let value = value_at sig c.args.bank.now c.args.depth c.args.sorts.now c.in-Some.sort.now ss c.args.bound
+    c.args.place row p l.0 c.in-Some.ensures l.1 l.2 c.index.ensures in
+    let part = value.part in
     let size = c.in_ok-size.size in
     let sized : size ≡ min (tree_size part.first) c.args.bound = c.in_ok-size.ensures.size part.first part.here in
     let stand : AreTerms c.size.new.self (drop (c.args.place + 1) row) (trees_of part.others) = subst
@@ -175,30 +163,18 @@ advance-unreachable-requires t c =
     let row = c.args.row.now.items in
     let l = c.requires.listed in
     let ss = c.in-Some.others.now in
-    let within : c.args.place < length row = place_within sig c.args.bank.now c.args.depth c.args.sorts.now
-    c.in-Some.sort.now ss c.args.bound c.args.place row l.0 c.in-Some.ensures l.1 (in_contained _ _ l.2) in
     let p = c.index.result.now in
-    let at : slice_get row c.args.place ≡ Some p = slice_get_read row (length row) c.args.place p refl within
-    c.index.ensures in
-    let part = parted c.args.bank.now (drop c.args.place row) p (drop (c.args.place + 1) row) l.0
-    (drop_here row c.args.place p at) l.1 in
-    let size = c.in_ok-size.size in
-    let sized : size ≡ min (tree_size part.first) c.args.bound = c.in_ok-size.ensures.size part.first part.here in
+    let value = value_at sig c.args.bank.now c.args.depth c.args.sorts.now c.in-Some.sort.now ss c.args.bound
+    c.args.place row p l.0 c.in-Some.ensures l.1 l.2 c.index.ensures in
+    let part = value.part in
     let stand : AreTerms c.size.new.self (drop (c.args.place + 1) row) (trees_of part.others) = subst
     (λ b. AreTerms b (drop (c.args.place + 1) row) (trees_of part.others)) (sym c.in_ok-size.ensures.same)
     part.behind in
-    let adds : AddsCells c.args.bank.now c.advance.new.bank = subst (λ b. AddsCells b c.advance.new.bank)
-    c.in_ok-size.ensures.same c.in_ok-advance.ensures.adds in
-    let left : c.args.bound - size ≡ c.args.bound - tree_size part.first = omega (arith, sized) in
-    let after = slice_get (rows_after sig c.args.depth ss (c.args.bound - size) (part.others)) 0 in
-    let moved = c.in_ok-advance.ensures.goes part.others stand in
-    let here : IsTerm c.advance.new.bank p part.first = term_kept c.args.bank.now c.advance.new.bank p
-    part.first adds part.here in
+    let after = slice_get (rows_after sig c.args.depth ss (c.args.bound - c.in_ok-size.size) (part.others)) 0 in
     let w = goes_false c.advance.new.bank (take (c.args.place + 1) row) after c.advance.new.row.items
-    c.in_ok-advance.field-0 moved c.if-branch.false in
-    let row_is : c.advance.new.row.items ≡ take c.args.place row ++ p ∷ [] = w.1 ∙ take_here row c.args.place p at in
-    let long : length c.advance.new.row.items ≡ length (take c.args.place row) + 1 = ap (λ xs. length xs) row_is
-    ∙ length_push (take c.args.place row) p in
+    c.in_ok-advance.field-0 (c.in_ok-advance.ensures.goes part.others stand) c.if-branch.false in
+    let long : length c.advance.new.row.items ≡ length (take c.args.place row) + 1 =
+    ap (λ xs. length xs) (w.1 ∙ value.taken) ∙ length_push (take c.args.place row) p in
     omega (arith, c.advance.new.row.ok.0, c.in_default-pop.ensures.cases.0)
 
 pub advance-next_value-requires : goal.advance-next_value-requires
@@ -207,37 +183,25 @@ advance-next_value-requires t c =
     let row = c.args.row.now.items in
     let l = c.requires.listed in
     let ss = c.in-Some.others.now in
-    let within : c.args.place < length row = place_within sig c.args.bank.now c.args.depth c.args.sorts.now
-    c.in-Some.sort.now ss c.args.bound c.args.place row l.0 c.in-Some.ensures l.1 (in_contained _ _ l.2) in
     let p = c.index.result.now in
-    let at : slice_get row c.args.place ≡ Some p = slice_get_read row (length row) c.args.place p refl within
-    c.index.ensures in
-    let part = parted c.args.bank.now (drop c.args.place row) p (drop (c.args.place + 1) row) l.0
-    (drop_here row c.args.place p at) l.1 in
+    let value = value_at sig c.args.bank.now c.args.depth c.args.sorts.now c.in-Some.sort.now ss c.args.bound
+    c.args.place row p l.0 c.in-Some.ensures l.1 l.2 c.index.ensures in
+    let part = value.part in
     let size = c.in_ok-size.size in
-    let sized : size ≡ min (tree_size part.first) c.args.bound = c.in_ok-size.ensures.size part.first part.here in
     let stand : AreTerms c.size.new.self (drop (c.args.place + 1) row) (trees_of part.others) = subst
     (λ b. AreTerms b (drop (c.args.place + 1) row) (trees_of part.others)) (sym c.in_ok-size.ensures.same)
     part.behind in
-    let adds : AddsCells c.args.bank.now c.advance.new.bank = subst (λ b. AddsCells b c.advance.new.bank)
-    c.in_ok-size.ensures.same c.in_ok-advance.ensures.adds in
-    let left : c.args.bound - size ≡ c.args.bound - tree_size part.first = omega (arith, sized) in
     let after = slice_get (rows_after sig c.args.depth ss (c.args.bound - size) (part.others)) 0 in
     let moved = c.in_ok-advance.ensures.goes part.others stand in
-    let here : IsTerm c.advance.new.bank p part.first = term_kept c.args.bank.now c.advance.new.bank p
-    part.first adds part.here in
-    let w = goes_false c.advance.new.bank (take (c.args.place + 1) row) after c.advance.new.row.items
-    c.in_ok-advance.field-0 moved c.if-branch.false in
-    let row_is : c.advance.new.row.items ≡ take c.args.place row ++ p ∷ [] = w.1 ∙ take_here row c.args.place p at in
-    let k = last_same (take c.args.place row) c.pop.new.self.items p c.in-Some-pop.value (sym row_is
-    ∙ c.in-Some-pop.ensures.items) in
-    let term : IsTerm c.advance.new.bank c.in-Some-pop.value part.first = subst
-    (λ n. IsTerm c.advance.new.bank n part.first) k.1 here in
+    let past = popped c.args.bank.now c.size.new.self c.advance.new.bank row c.advance.new.row.items
+    c.pop.new.self.items c.args.place p c.in-Some-pop.value part.first after c.in_ok-advance.field-0
+    c.in_ok-size.ensures.same c.in_ok-advance.ensures.adds part.here value.taken moved c.if-branch.false
+    c.in-Some-pop.ensures.items in
     let room = c.room_before-room.result in
     let long : length c.args.sorts.now ≡ suc (length ss) = ap (λ xs. length xs) c.in-Some.ensures in
     let listed = first_listed sig c.args.depth c.args.sorts.now c.in-Some.sort.now ss c.args.bound room
     part.first part.others l.0 c.in-Some.ensures part.is c.room_before-room.ensures (in_contained _ _ l.2) in
-    (omega arith, (part.first, term, contained_in _ _ listed))
+    (omega arith, (part.first, past.term, contained_in _ _ listed))
 
 pub advance-size-requires-in-Some-2-clause-there : goal.advance-size-requires-in-Some-2-clause-there
 advance-size-requires-in-Some-2-clause-there t c =
@@ -245,36 +209,24 @@ advance-size-requires-in-Some-2-clause-there t c =
     let row = c.args.row.now.items in
     let l = c.requires.listed in
     let ss = c.in-Some.others.now in
-    let within : c.args.place < length row = place_within sig c.args.bank.now c.args.depth c.args.sorts.now
-    c.in-Some.sort.now ss c.args.bound c.args.place row l.0 c.in-Some.ensures l.1 (in_contained _ _ l.2) in
     let p = c.index.result.now in
-    let at : slice_get row c.args.place ≡ Some p = slice_get_read row (length row) c.args.place p refl within
-    c.index.ensures in
-    let part = parted c.args.bank.now (drop c.args.place row) p (drop (c.args.place + 1) row) l.0
-    (drop_here row c.args.place p at) l.1 in
+    let value = value_at sig c.args.bank.now c.args.depth c.args.sorts.now c.in-Some.sort.now ss c.args.bound
+    c.args.place row p l.0 c.in-Some.ensures l.1 l.2 c.index.ensures in
+    let part = value.part in
     let size = c.in_ok-size.size in
-    let sized : size ≡ min (tree_size part.first) c.args.bound = c.in_ok-size.ensures.size part.first part.here in
     let stand : AreTerms c.size.new.self (drop (c.args.place + 1) row) (trees_of part.others) = subst
     (λ b. AreTerms b (drop (c.args.place + 1) row) (trees_of part.others)) (sym c.in_ok-size.ensures.same)
     part.behind in
-    let adds : AddsCells c.args.bank.now c.advance.new.bank = subst (λ b. AddsCells b c.advance.new.bank)
-    c.in_ok-size.ensures.same c.in_ok-advance.ensures.adds in
-    let left : c.args.bound - size ≡ c.args.bound - tree_size part.first = omega (arith, sized) in
     let after = slice_get (rows_after sig c.args.depth ss (c.args.bound - size) (part.others)) 0 in
     let moved = c.in_ok-advance.ensures.goes part.others stand in
-    let here : IsTerm c.advance.new.bank p part.first = term_kept c.args.bank.now c.advance.new.bank p
-    part.first adds part.here in
-    let w = goes_false c.advance.new.bank (take (c.args.place + 1) row) after c.advance.new.row.items
-    c.in_ok-advance.field-0 moved c.if-branch.false in
-    let row_is : c.advance.new.row.items ≡ take c.args.place row ++ p ∷ [] = w.1 ∙ take_here row c.args.place p at in
-    let k = last_same (take c.args.place row) c.pop.new.self.items p c.in-Some-pop.value (sym row_is
-    ∙ c.in-Some-pop.ensures.items) in
-    let term : IsTerm c.advance.new.bank c.in-Some-pop.value part.first = subst
-    (λ n. IsTerm c.advance.new.bank n part.first) k.1 here in
+    let past = popped c.args.bank.now c.size.new.self c.advance.new.bank row c.advance.new.row.items
+    c.pop.new.self.items c.args.place p c.in-Some-pop.value part.first after c.in_ok-advance.field-0
+    c.in_ok-size.ensures.same c.in_ok-advance.ensures.adds part.here value.taken moved c.if-branch.false
+    c.in-Some-pop.ensures.items in
     let room = c.room_before-room.result in
     let found : IsPlaceOf c.next_value.new.bank
     (slice_get (values_after sig c.args.depth c.in-Some.sort.now room part.first) 0)
-    c.in_ok-next_value.field-0 = c.in_ok-next_value.ensures.placed part.first term in
+    c.in_ok-next_value.field-0 = c.in_ok-next_value.ensures.placed part.first past.term in
     let v = place_some c.next_value.new.bank
     (slice_get (values_after sig c.args.depth c.in-Some.sort.now room part.first) 0)
     c.in_ok-next_value.field-0 c.in-Some-2.next c.in-Some-2.is found in
@@ -286,36 +238,24 @@ advance-overflow_sub-bound-in-Some-2 t c =
     let row = c.args.row.now.items in
     let l = c.requires.listed in
     let ss = c.in-Some.others.now in
-    let within : c.args.place < length row = place_within sig c.args.bank.now c.args.depth c.args.sorts.now
-    c.in-Some.sort.now ss c.args.bound c.args.place row l.0 c.in-Some.ensures l.1 (in_contained _ _ l.2) in
     let p = c.index.result.now in
-    let at : slice_get row c.args.place ≡ Some p = slice_get_read row (length row) c.args.place p refl within
-    c.index.ensures in
-    let part = parted c.args.bank.now (drop c.args.place row) p (drop (c.args.place + 1) row) l.0
-    (drop_here row c.args.place p at) l.1 in
+    let value = value_at sig c.args.bank.now c.args.depth c.args.sorts.now c.in-Some.sort.now ss c.args.bound
+    c.args.place row p l.0 c.in-Some.ensures l.1 l.2 c.index.ensures in
+    let part = value.part in
     let size = c.in_ok-size.size in
-    let sized : size ≡ min (tree_size part.first) c.args.bound = c.in_ok-size.ensures.size part.first part.here in
     let stand : AreTerms c.size.new.self (drop (c.args.place + 1) row) (trees_of part.others) = subst
     (λ b. AreTerms b (drop (c.args.place + 1) row) (trees_of part.others)) (sym c.in_ok-size.ensures.same)
     part.behind in
-    let adds : AddsCells c.args.bank.now c.advance.new.bank = subst (λ b. AddsCells b c.advance.new.bank)
-    c.in_ok-size.ensures.same c.in_ok-advance.ensures.adds in
-    let left : c.args.bound - size ≡ c.args.bound - tree_size part.first = omega (arith, sized) in
     let after = slice_get (rows_after sig c.args.depth ss (c.args.bound - size) (part.others)) 0 in
     let moved = c.in_ok-advance.ensures.goes part.others stand in
-    let here : IsTerm c.advance.new.bank p part.first = term_kept c.args.bank.now c.advance.new.bank p
-    part.first adds part.here in
-    let w = goes_false c.advance.new.bank (take (c.args.place + 1) row) after c.advance.new.row.items
-    c.in_ok-advance.field-0 moved c.if-branch.false in
-    let row_is : c.advance.new.row.items ≡ take c.args.place row ++ p ∷ [] = w.1 ∙ take_here row c.args.place p at in
-    let k = last_same (take c.args.place row) c.pop.new.self.items p c.in-Some-pop.value (sym row_is
-    ∙ c.in-Some-pop.ensures.items) in
-    let term : IsTerm c.advance.new.bank c.in-Some-pop.value part.first = subst
-    (λ n. IsTerm c.advance.new.bank n part.first) k.1 here in
+    let past = popped c.args.bank.now c.size.new.self c.advance.new.bank row c.advance.new.row.items
+    c.pop.new.self.items c.args.place p c.in-Some-pop.value part.first after c.in_ok-advance.field-0
+    c.in_ok-size.ensures.same c.in_ok-advance.ensures.adds part.here value.taken moved c.if-branch.false
+    c.in-Some-pop.ensures.items in
     let room = c.room_before-room.result in
     let found : IsPlaceOf c.next_value.new.bank
     (slice_get (values_after sig c.args.depth c.in-Some.sort.now room part.first) 0)
-    c.in_ok-next_value.field-0 = c.in_ok-next_value.ensures.placed part.first term in
+    c.in_ok-next_value.field-0 = c.in_ok-next_value.ensures.placed part.first past.term in
     let v = place_some c.next_value.new.bank
     (slice_get (values_after sig c.args.depth c.in-Some.sort.now room part.first) 0)
     c.in_ok-next_value.field-0 c.in-Some-2.next c.in-Some-2.is found in
@@ -327,43 +267,33 @@ advance-returns-in-None-clause-goes t c =
     let row = c.args.row.now.items in
     let l = c.requires.listed in
     let ss = c.in-Some.others.now in
-    let within : c.args.place < length row = place_within sig c.args.bank.now c.args.depth c.args.sorts.now
-    c.in-Some.sort.now ss c.args.bound c.args.place row l.0 c.in-Some.ensures l.1 (in_contained _ _ l.2) in
     let p = c.index.result.now in
-    let at : slice_get row c.args.place ≡ Some p = slice_get_read row (length row) c.args.place p refl within
-    c.index.ensures in
-    let part = parted c.args.bank.now (drop c.args.place row) p (drop (c.args.place + 1) row) l.0
-    (drop_here row c.args.place p at) l.1 in
+    let value = value_at sig c.args.bank.now c.args.depth c.args.sorts.now c.in-Some.sort.now ss c.args.bound
+    c.args.place row p l.0 c.in-Some.ensures l.1 l.2 c.index.ensures in
+    let part = value.part in
     let size = c.in_ok-size.size in
     let sized : size ≡ min (tree_size part.first) c.args.bound = c.in_ok-size.ensures.size part.first part.here in
     let stand : AreTerms c.size.new.self (drop (c.args.place + 1) row) (trees_of part.others) = subst
     (λ b. AreTerms b (drop (c.args.place + 1) row) (trees_of part.others)) (sym c.in_ok-size.ensures.same)
     part.behind in
-    let adds : AddsCells c.args.bank.now c.advance.new.bank = subst (λ b. AddsCells b c.advance.new.bank)
-    c.in_ok-size.ensures.same c.in_ok-advance.ensures.adds in
     let left : c.args.bound - size ≡ c.args.bound - tree_size part.first = omega (arith, sized) in
     let after = slice_get (rows_after sig c.args.depth ss (c.args.bound - size) (part.others)) 0 in
     let moved = c.in_ok-advance.ensures.goes part.others stand in
-    let here : IsTerm c.advance.new.bank p part.first = term_kept c.args.bank.now c.advance.new.bank p
-    part.first adds part.here in
-    let w = goes_false c.advance.new.bank (take (c.args.place + 1) row) after c.advance.new.row.items
-    c.in_ok-advance.field-0 moved c.if-branch.false in
-    let row_is : c.advance.new.row.items ≡ take c.args.place row ++ p ∷ [] = w.1 ∙ take_here row c.args.place p at in
-    let k = last_same (take c.args.place row) c.pop.new.self.items p c.in-Some-pop.value (sym row_is
-    ∙ c.in-Some-pop.ensures.items) in
-    let term : IsTerm c.advance.new.bank c.in-Some-pop.value part.first = subst
-    (λ n. IsTerm c.advance.new.bank n part.first) k.1 here in
+    let past = popped c.args.bank.now c.size.new.self c.advance.new.bank row c.advance.new.row.items
+    c.pop.new.self.items c.args.place p c.in-Some-pop.value part.first after c.in_ok-advance.field-0
+    c.in_ok-size.ensures.same c.in_ok-advance.ensures.adds part.here value.taken moved c.if-branch.false
+    c.in-Some-pop.ensures.items in
     let room = c.room_before-room.result in
     let found : IsPlaceOf c.next_value.new.bank
     (slice_get (values_after sig c.args.depth c.in-Some.sort.now room part.first) 0)
-    c.in_ok-next_value.field-0 = c.in_ok-next_value.ensures.placed part.first term in
+    c.in_ok-next_value.field-0 = c.in_ok-next_value.ensures.placed part.first past.term in
     at_places c.args.bank.now (drop c.args.place row)
     (λ values. GoesOn c.next_value.new.bank (take c.args.place row)
     (slice_get (rows_after sig c.args.depth c.args.sorts.now c.args.bound values) 0)
     c.next_value.new.row.items _) l.0 l.1 (next_none sig c.next_value.new.bank c.args.depth c.args.sorts.now
     c.in-Some.sort.now ss c.args.bound (c.args.bound - size) room part.first part.others l.0
     (take c.args.place row) c.next_value.new.row.items c.in_ok-next_value.field-0 c.in-Some.ensures part.is
-    left w.0 c.room_before-room.ensures c.in-None.is found (c.in_ok-next_value.ensures.same ∙ sym k.0))
+    left past.ends c.room_before-room.ensures c.in-None.is found (c.in_ok-next_value.ensures.same ∙ past.kept))
 
 pub advance-returns-in-None-clause-few : goal.advance-returns-in-None-clause-few
 advance-returns-in-None-clause-few t c =
@@ -371,46 +301,34 @@ advance-returns-in-None-clause-few t c =
     let row = c.args.row.now.items in
     let l = c.requires.listed in
     let ss = c.in-Some.others.now in
-    let within : c.args.place < length row = place_within sig c.args.bank.now c.args.depth c.args.sorts.now
-    c.in-Some.sort.now ss c.args.bound c.args.place row l.0 c.in-Some.ensures l.1 (in_contained _ _ l.2) in
     let p = c.index.result.now in
-    let at : slice_get row c.args.place ≡ Some p = slice_get_read row (length row) c.args.place p refl within
-    c.index.ensures in
-    let part = parted c.args.bank.now (drop c.args.place row) p (drop (c.args.place + 1) row) l.0
-    (drop_here row c.args.place p at) l.1 in
+    let value = value_at sig c.args.bank.now c.args.depth c.args.sorts.now c.in-Some.sort.now ss c.args.bound
+    c.args.place row p l.0 c.in-Some.ensures l.1 l.2 c.index.ensures in
+    let part = value.part in
     let size = c.in_ok-size.size in
-    let sized : size ≡ min (tree_size part.first) c.args.bound = c.in_ok-size.ensures.size part.first part.here in
     let stand : AreTerms c.size.new.self (drop (c.args.place + 1) row) (trees_of part.others) = subst
     (λ b. AreTerms b (drop (c.args.place + 1) row) (trees_of part.others)) (sym c.in_ok-size.ensures.same)
     part.behind in
-    let adds : AddsCells c.args.bank.now c.advance.new.bank = subst (λ b. AddsCells b c.advance.new.bank)
-    c.in_ok-size.ensures.same c.in_ok-advance.ensures.adds in
-    let left : c.args.bound - size ≡ c.args.bound - tree_size part.first = omega (arith, sized) in
     let after = slice_get (rows_after sig c.args.depth ss (c.args.bound - size) (part.others)) 0 in
     let moved = c.in_ok-advance.ensures.goes part.others stand in
-    let here : IsTerm c.advance.new.bank p part.first = term_kept c.args.bank.now c.advance.new.bank p
-    part.first adds part.here in
-    let w = goes_false c.advance.new.bank (take (c.args.place + 1) row) after c.advance.new.row.items
-    c.in_ok-advance.field-0 moved c.if-branch.false in
-    let row_is : c.advance.new.row.items ≡ take c.args.place row ++ p ∷ [] = w.1 ∙ take_here row c.args.place p at in
-    let k = last_same (take c.args.place row) c.pop.new.self.items p c.in-Some-pop.value (sym row_is
-    ∙ c.in-Some-pop.ensures.items) in
-    let term : IsTerm c.advance.new.bank c.in-Some-pop.value part.first = subst
-    (λ n. IsTerm c.advance.new.bank n part.first) k.1 here in
+    let past = popped c.args.bank.now c.size.new.self c.advance.new.bank row c.advance.new.row.items
+    c.pop.new.self.items c.args.place p c.in-Some-pop.value part.first after c.in_ok-advance.field-0
+    c.in_ok-size.ensures.same c.in_ok-advance.ensures.adds part.here value.taken moved c.if-branch.false
+    c.in-Some-pop.ensures.items in
     let room = c.room_before-room.result in
     let found : IsPlaceOf c.next_value.new.bank
     (slice_get (values_after sig c.args.depth c.in-Some.sort.now room part.first) 0)
-    c.in_ok-next_value.field-0 = c.in_ok-next_value.ensures.placed part.first term in
+    c.in_ok-next_value.field-0 = c.in_ok-next_value.ensures.placed part.first past.term in
     let none = place_none c.next_value.new.bank
     (slice_get (values_after sig c.args.depth c.in-Some.sort.now room part.first) 0)
     c.in_ok-next_value.field-0 c.in-None.is found in
     let same = ap (λ cells. length cells) c.in_ok-size.ensures.same in
     let few = c.in_ok-advance.ensures.few part.others stand in
-    let more = c.in_ok-next_value.ensures.few part.first term in
+    let more = c.in_ok-next_value.ensures.few part.first past.term in
     at_places c.args.bank.now (drop c.args.place row)
     (λ values. length c.next_value.new.bank ≤ length c.args.bank.now + row_symbols
     (slice_get (rows_after sig c.args.depth c.args.sorts.now c.args.bound values) 0)) l.0 l.1
-    (omega (arith, same, few, ap row_symbols w.0, more, ap value_symbols none))
+    (omega (arith, same, few, ap row_symbols past.ends, more, ap value_symbols none))
 
 pub advance-returns-in_ok-push-in-Some-2-clause-goes : goal.advance-returns-in_ok-push-in-Some-2-clause-goes
 advance-returns-in_ok-push-in-Some-2-clause-goes t c =
@@ -418,42 +336,32 @@ advance-returns-in_ok-push-in-Some-2-clause-goes t c =
     let row = c.args.row.now.items in
     let l = c.requires.listed in
     let ss = c.in-Some.others.now in
-    let within : c.args.place < length row = place_within sig c.args.bank.now c.args.depth c.args.sorts.now
-    c.in-Some.sort.now ss c.args.bound c.args.place row l.0 c.in-Some.ensures l.1 (in_contained _ _ l.2) in
     let p = c.index.result.now in
-    let at : slice_get row c.args.place ≡ Some p = slice_get_read row (length row) c.args.place p refl within
-    c.index.ensures in
-    let part = parted c.args.bank.now (drop c.args.place row) p (drop (c.args.place + 1) row) l.0
-    (drop_here row c.args.place p at) l.1 in
+    let value = value_at sig c.args.bank.now c.args.depth c.args.sorts.now c.in-Some.sort.now ss c.args.bound
+    c.args.place row p l.0 c.in-Some.ensures l.1 l.2 c.index.ensures in
+    let part = value.part in
     let size = c.in_ok-size.size in
     let sized : size ≡ min (tree_size part.first) c.args.bound = c.in_ok-size.ensures.size part.first part.here in
     let stand : AreTerms c.size.new.self (drop (c.args.place + 1) row) (trees_of part.others) = subst
     (λ b. AreTerms b (drop (c.args.place + 1) row) (trees_of part.others)) (sym c.in_ok-size.ensures.same)
     part.behind in
-    let adds : AddsCells c.args.bank.now c.advance.new.bank = subst (λ b. AddsCells b c.advance.new.bank)
-    c.in_ok-size.ensures.same c.in_ok-advance.ensures.adds in
     let left : c.args.bound - size ≡ c.args.bound - tree_size part.first = omega (arith, sized) in
     let after = slice_get (rows_after sig c.args.depth ss (c.args.bound - size) (part.others)) 0 in
     let moved = c.in_ok-advance.ensures.goes part.others stand in
-    let here : IsTerm c.advance.new.bank p part.first = term_kept c.args.bank.now c.advance.new.bank p
-    part.first adds part.here in
-    let w = goes_false c.advance.new.bank (take (c.args.place + 1) row) after c.advance.new.row.items
-    c.in_ok-advance.field-0 moved c.if-branch.false in
-    let row_is : c.advance.new.row.items ≡ take c.args.place row ++ p ∷ [] = w.1 ∙ take_here row c.args.place p at in
-    let k = last_same (take c.args.place row) c.pop.new.self.items p c.in-Some-pop.value (sym row_is
-    ∙ c.in-Some-pop.ensures.items) in
-    let term : IsTerm c.advance.new.bank c.in-Some-pop.value part.first = subst
-    (λ n. IsTerm c.advance.new.bank n part.first) k.1 here in
+    let past = popped c.args.bank.now c.size.new.self c.advance.new.bank row c.advance.new.row.items
+    c.pop.new.self.items c.args.place p c.in-Some-pop.value part.first after c.in_ok-advance.field-0
+    c.in_ok-size.ensures.same c.in_ok-advance.ensures.adds part.here value.taken moved c.if-branch.false
+    c.in-Some-pop.ensures.items in
     let room = c.room_before-room.result in
     let found : IsPlaceOf c.next_value.new.bank
     (slice_get (values_after sig c.args.depth c.in-Some.sort.now room part.first) 0)
-    c.in_ok-next_value.field-0 = c.in_ok-next_value.ensures.placed part.first term in
+    c.in_ok-next_value.field-0 = c.in_ok-next_value.ensures.placed part.first past.term in
     let z = c.in_ok-taken-in-Some-2 in
     let later : AddsCells c.next_value.new.bank c.push_first.new.bank = subst
     (λ b. AddsCells b c.push_first.new.bank) z.ensures.same c.push_first.ensures.adds in
     let mid : c.push.new.self.items ≡ take c.args.place row
     ++ c.in-Some-2.next ∷ [] = c.in_ok-push-in-Some-2.ensures.items
-    ∙ ap (λ xs. xs ++ c.in-Some-2.next ∷ []) (c.in_ok-next_value.ensures.same ∙ sym k.0) in
+    ∙ ap (λ xs. xs ++ c.in-Some-2.next ∷ []) (c.in_ok-next_value.ensures.same ∙ past.kept) in
     if_ok_map c.push_first.result _ _ (λ r g.
     at_places c.args.bank.now (drop c.args.place row)
     (λ values. GoesOn c.push_first.new.bank (take c.args.place row)
@@ -461,7 +369,7 @@ advance-returns-in_ok-push-in-Some-2-clause-goes t c =
     c.push_first.new.row.items r) l.0 l.1 (next_first sig c.next_value.new.bank c.push_first.new.bank
     c.args.depth c.args.sorts.now c.in-Some.sort.now ss c.args.bound (c.args.bound - size) room z.taken
     c.in-Some-2.next part.first part.others l.0 (take c.args.place row) c.push.new.self.items
-    c.push_first.new.row.items c.in_ok-next_value.field-0 c.in-Some.ensures part.is left w.0 c.requires.few
+    c.push_first.new.row.items c.in_ok-next_value.field-0 c.in-Some.ensures part.is left past.ends c.requires.few
     c.room_before-room.ensures (in_contained _ _ l.2) c.in-Some-2.is found z.ensures.size later mid r g))
     c.push_first.ensures.goes
 
@@ -471,50 +379,40 @@ advance-returns-in_ok-push-in-Some-2-clause-few t c =
     let row = c.args.row.now.items in
     let l = c.requires.listed in
     let ss = c.in-Some.others.now in
-    let within : c.args.place < length row = place_within sig c.args.bank.now c.args.depth c.args.sorts.now
-    c.in-Some.sort.now ss c.args.bound c.args.place row l.0 c.in-Some.ensures l.1 (in_contained _ _ l.2) in
     let p = c.index.result.now in
-    let at : slice_get row c.args.place ≡ Some p = slice_get_read row (length row) c.args.place p refl within
-    c.index.ensures in
-    let part = parted c.args.bank.now (drop c.args.place row) p (drop (c.args.place + 1) row) l.0
-    (drop_here row c.args.place p at) l.1 in
+    let value = value_at sig c.args.bank.now c.args.depth c.args.sorts.now c.in-Some.sort.now ss c.args.bound
+    c.args.place row p l.0 c.in-Some.ensures l.1 l.2 c.index.ensures in
+    let part = value.part in
     let size = c.in_ok-size.size in
     let sized : size ≡ min (tree_size part.first) c.args.bound = c.in_ok-size.ensures.size part.first part.here in
     let stand : AreTerms c.size.new.self (drop (c.args.place + 1) row) (trees_of part.others) = subst
     (λ b. AreTerms b (drop (c.args.place + 1) row) (trees_of part.others)) (sym c.in_ok-size.ensures.same)
     part.behind in
-    let adds : AddsCells c.args.bank.now c.advance.new.bank = subst (λ b. AddsCells b c.advance.new.bank)
-    c.in_ok-size.ensures.same c.in_ok-advance.ensures.adds in
     let left : c.args.bound - size ≡ c.args.bound - tree_size part.first = omega (arith, sized) in
     let after = slice_get (rows_after sig c.args.depth ss (c.args.bound - size) (part.others)) 0 in
     let moved = c.in_ok-advance.ensures.goes part.others stand in
-    let here : IsTerm c.advance.new.bank p part.first = term_kept c.args.bank.now c.advance.new.bank p
-    part.first adds part.here in
-    let w = goes_false c.advance.new.bank (take (c.args.place + 1) row) after c.advance.new.row.items
-    c.in_ok-advance.field-0 moved c.if-branch.false in
-    let row_is : c.advance.new.row.items ≡ take c.args.place row ++ p ∷ [] = w.1 ∙ take_here row c.args.place p at in
-    let k = last_same (take c.args.place row) c.pop.new.self.items p c.in-Some-pop.value (sym row_is
-    ∙ c.in-Some-pop.ensures.items) in
-    let term : IsTerm c.advance.new.bank c.in-Some-pop.value part.first = subst
-    (λ n. IsTerm c.advance.new.bank n part.first) k.1 here in
+    let past = popped c.args.bank.now c.size.new.self c.advance.new.bank row c.advance.new.row.items
+    c.pop.new.self.items c.args.place p c.in-Some-pop.value part.first after c.in_ok-advance.field-0
+    c.in_ok-size.ensures.same c.in_ok-advance.ensures.adds part.here value.taken moved c.if-branch.false
+    c.in-Some-pop.ensures.items in
     let room = c.room_before-room.result in
     let found : IsPlaceOf c.next_value.new.bank
     (slice_get (values_after sig c.args.depth c.in-Some.sort.now room part.first) 0)
-    c.in_ok-next_value.field-0 = c.in_ok-next_value.ensures.placed part.first term in
+    c.in_ok-next_value.field-0 = c.in_ok-next_value.ensures.placed part.first past.term in
     let z = c.in_ok-taken-in-Some-2 in
     let all = next_symbols sig c.args.depth c.next_value.new.bank c.args.sorts.now c.in-Some.sort.now ss
     c.args.bound (c.args.bound - size) room z.taken c.in-Some-2.next part.first part.others l.0
-    c.in_ok-next_value.field-0 c.in-Some.ensures part.is left w.0 c.requires.few c.room_before-room.ensures
+    c.in_ok-next_value.field-0 c.in-Some.ensures part.is left past.ends c.requires.few c.room_before-room.ensures
     (in_contained _ _ l.2) c.in-Some-2.is found z.ensures.size in
     let same = ap (λ cells. length cells) c.in_ok-size.ensures.same in
     let again = ap (λ cells. length cells) z.ensures.same in
     let few = c.in_ok-advance.ensures.few part.others stand in
-    let more = c.in_ok-next_value.ensures.few part.first term in
+    let more = c.in_ok-next_value.ensures.few part.first past.term in
     on_ok_map c.push_first.result _ _ (λ h.
     at_places c.args.bank.now (drop c.args.place row)
     (λ values. length c.push_first.new.bank ≤ length c.args.bank.now + row_symbols
     (slice_get (rows_after sig c.args.depth c.args.sorts.now c.args.bound values) 0)) l.0 l.1
-    (omega (arith, all, same, again, few, ap row_symbols w.0, more, h))) c.push_first.ensures.few
+    (omega (arith, all, same, again, few, ap row_symbols past.ends, more, h))) c.push_first.ensures.few
 
 pub next_value-cell-sym-requires : goal.next_value-cell-sym-requires
 next_value-cell-sym-requires t c =
@@ -560,13 +458,8 @@ next_value-advance-requires t c =
     let us = c.as_slice-sorts.result.now in
     let listed = arguments_listed sig c.args.depth c.args.sort c.args.bound c.cell-sym.result.0 a.0 l.0 i us
     c.saturating_sub-room.result (in_contained _ _ l.2) a.1 at c.as_slice-sorts.ensures room in
-    let behind : drop c.len-start.result c.extend_from_slice.new.self.items ≡ c.cell-sym.result.1.now = ap
-    (λ xs. drop c.len-start.result xs) long ∙ ap (λ n. drop n (row ++ c.cell-sym.result.1.now)) start_is
-    ∙ drop_whole row c.cell-sym.result.1.now in
-    let stand : AreTerms c.args.bank.now (drop c.len-start.result c.extend_from_slice.new.self.items)
-    (trees_of a.0) = subst (λ ps. AreTerms c.args.bank.now ps (trees_of a.0)) (sym behind) a.2 in
-    let kept : take c.len-start.result c.extend_from_slice.new.self.items ≡ row = cut_back row
-    c.extend_from_slice.new.self.items c.cell-sym.result.1.now c.len-start.result long start_is in
+    let put = extended c.args.bank.now row c.extend_from_slice.new.self.items c.cell-sym.result.1.now
+    c.len-start.result a.0 long start_is a.2 in
     let few = c.self.invariant.arities c.cell-sym.result.0 i c.info.ensures in
     let count : length us ≤ 8 = omega (arith, few, ap (λ xs. length xs) c.as_slice-sorts.ensures) in
     let in_range : AllByRecursion (IsSort sig) us = subst (λ ss. AllByRecursion (IsSort sig) ss)
@@ -579,7 +472,7 @@ next_value-advance-requires t c =
         in_range,
         (
           omega (arith, c.min.ensures, c.saturating_sub-room.ensures),
-          (omega (arith, more, start_is), (a.0, stand, contained_in _ _ listed)),
+          (omega (arith, more, start_is), (a.0, put.stand, contained_in _ _ listed)),
         ),
       ),
     )
@@ -590,31 +483,17 @@ next_value-offset_bounds-deref-start t c =
     let sig = c.args.self.now in
     let a = application_at c.args.bank.now c.args.value c.cell-sym.result.0 c.cell-sym.result.1.now l.0
     c.cell-sym.ensures l.1 in
-    let q = application_is sig c.args.depth c.args.sort c.args.bound c.cell-sym.result.0 a.0 l.0
-    (in_contained _ _ l.2) a.1 in
     let row = c.args.row.now.items in
     let start_is : c.len-start.result ≡ length row = omega (arith, c.len-start.ensures, c.args.row.now.ok.0) in
     let long = c.in_ok-extend_from_slice.ensures.items in
-    let i = c.info.result.now in
-    let at : info_of sig c.cell-sym.result.0 ≡ Some i = subst (λ g. info_of g c.cell-sym.result.0 ≡ Some i)
-    c.self.view_is c.info.ensures in
-    let room = room_is sig c.args.bound c.min.result c.saturating_sub-room.result c.min.ensures
-    c.saturating_sub-room.ensures in
     let us = c.as_slice-sorts.result.now in
-    let listed = arguments_listed sig c.args.depth c.args.sort c.args.bound c.cell-sym.result.0 a.0 l.0 i us
-    c.saturating_sub-room.result (in_contained _ _ l.2) a.1 at c.as_slice-sorts.ensures room in
-    let behind : drop c.len-start.result c.extend_from_slice.new.self.items ≡ c.cell-sym.result.1.now = ap
-    (λ xs. drop c.len-start.result xs) long ∙ ap (λ n. drop n (row ++ c.cell-sym.result.1.now)) start_is
-    ∙ drop_whole row c.cell-sym.result.1.now in
-    let stand : AreTerms c.args.bank.now (drop c.len-start.result c.extend_from_slice.new.self.items)
-    (trees_of a.0) = subst (λ ps. AreTerms c.args.bank.now ps (trees_of a.0)) (sym behind) a.2 in
-    let kept : take c.len-start.result c.extend_from_slice.new.self.items ≡ row = cut_back row
-    c.extend_from_slice.new.self.items c.cell-sym.result.1.now c.len-start.result long start_is in
+    let put = extended c.args.bank.now row c.extend_from_slice.new.self.items c.cell-sym.result.1.now
+    c.len-start.result a.0 long start_is a.2 in
     let after = slice_get (rows_after sig (c.args.depth - 1) us c.saturating_sub-room.result a.0) 0 in
-    let moved = c.in_ok-advance.ensures.goes a.0 stand in
+    let moved = c.in_ok-advance.ensures.goes a.0 put.stand in
     let w = goes_true c.advance.new.bank (take c.len-start.result c.extend_from_slice.new.self.items) after
     c.advance.new.row.items c.in_ok-advance.field-0 moved c.if-branch.true in
-    let row_is : c.advance.new.row.items ≡ row ++ w.places = w.row_is ∙ ap (λ xs. xs ++ w.places) kept in
+    let row_is : c.advance.new.row.items ≡ row ++ w.places = w.row_is ∙ ap (λ xs. xs ++ w.places) put.kept in
     let count : length c.advance.new.row.items ≡ length row + length w.places = ap (λ xs. length xs) row_is
     ∙ length-append row w.places in
     omega (arith, count, start_is, ap (λ xs. length xs) c.deref.ensures.value, c.advance.new.row.ok.0)
@@ -625,31 +504,17 @@ next_value-slice_bounds-add-count t c =
     let sig = c.args.self.now in
     let a = application_at c.args.bank.now c.args.value c.cell-sym.result.0 c.cell-sym.result.1.now l.0
     c.cell-sym.ensures l.1 in
-    let q = application_is sig c.args.depth c.args.sort c.args.bound c.cell-sym.result.0 a.0 l.0
-    (in_contained _ _ l.2) a.1 in
     let row = c.args.row.now.items in
     let start_is : c.len-start.result ≡ length row = omega (arith, c.len-start.ensures, c.args.row.now.ok.0) in
     let long = c.in_ok-extend_from_slice.ensures.items in
-    let i = c.info.result.now in
-    let at : info_of sig c.cell-sym.result.0 ≡ Some i = subst (λ g. info_of g c.cell-sym.result.0 ≡ Some i)
-    c.self.view_is c.info.ensures in
-    let room = room_is sig c.args.bound c.min.result c.saturating_sub-room.result c.min.ensures
-    c.saturating_sub-room.ensures in
     let us = c.as_slice-sorts.result.now in
-    let listed = arguments_listed sig c.args.depth c.args.sort c.args.bound c.cell-sym.result.0 a.0 l.0 i us
-    c.saturating_sub-room.result (in_contained _ _ l.2) a.1 at c.as_slice-sorts.ensures room in
-    let behind : drop c.len-start.result c.extend_from_slice.new.self.items ≡ c.cell-sym.result.1.now = ap
-    (λ xs. drop c.len-start.result xs) long ∙ ap (λ n. drop n (row ++ c.cell-sym.result.1.now)) start_is
-    ∙ drop_whole row c.cell-sym.result.1.now in
-    let stand : AreTerms c.args.bank.now (drop c.len-start.result c.extend_from_slice.new.self.items)
-    (trees_of a.0) = subst (λ ps. AreTerms c.args.bank.now ps (trees_of a.0)) (sym behind) a.2 in
-    let kept : take c.len-start.result c.extend_from_slice.new.self.items ≡ row = cut_back row
-    c.extend_from_slice.new.self.items c.cell-sym.result.1.now c.len-start.result long start_is in
+    let put = extended c.args.bank.now row c.extend_from_slice.new.self.items c.cell-sym.result.1.now
+    c.len-start.result a.0 long start_is a.2 in
     let after = slice_get (rows_after sig (c.args.depth - 1) us c.saturating_sub-room.result a.0) 0 in
-    let moved = c.in_ok-advance.ensures.goes a.0 stand in
+    let moved = c.in_ok-advance.ensures.goes a.0 put.stand in
     let w = goes_true c.advance.new.bank (take c.len-start.result c.extend_from_slice.new.self.items) after
     c.advance.new.row.items c.in_ok-advance.field-0 moved c.if-branch.true in
-    let row_is : c.advance.new.row.items ≡ row ++ w.places = w.row_is ∙ ap (λ xs. xs ++ w.places) kept in
+    let row_is : c.advance.new.row.items ≡ row ++ w.places = w.row_is ∙ ap (λ xs. xs ++ w.places) put.kept in
     let count : length c.advance.new.row.items ≡ length row + length w.places = ap (λ xs. length xs) row_is
     ∙ length-append row w.places in
     omega (arith, count, start_is, ap (λ xs. length xs) c.deref.ensures.value, c.advance.new.row.ok.0)
@@ -660,31 +525,17 @@ next_value-slice_bounds-add-start t c =
     let sig = c.args.self.now in
     let a = application_at c.args.bank.now c.args.value c.cell-sym.result.0 c.cell-sym.result.1.now l.0
     c.cell-sym.ensures l.1 in
-    let q = application_is sig c.args.depth c.args.sort c.args.bound c.cell-sym.result.0 a.0 l.0
-    (in_contained _ _ l.2) a.1 in
     let row = c.args.row.now.items in
     let start_is : c.len-start.result ≡ length row = omega (arith, c.len-start.ensures, c.args.row.now.ok.0) in
     let long = c.in_ok-extend_from_slice.ensures.items in
-    let i = c.info.result.now in
-    let at : info_of sig c.cell-sym.result.0 ≡ Some i = subst (λ g. info_of g c.cell-sym.result.0 ≡ Some i)
-    c.self.view_is c.info.ensures in
-    let room = room_is sig c.args.bound c.min.result c.saturating_sub-room.result c.min.ensures
-    c.saturating_sub-room.ensures in
     let us = c.as_slice-sorts.result.now in
-    let listed = arguments_listed sig c.args.depth c.args.sort c.args.bound c.cell-sym.result.0 a.0 l.0 i us
-    c.saturating_sub-room.result (in_contained _ _ l.2) a.1 at c.as_slice-sorts.ensures room in
-    let behind : drop c.len-start.result c.extend_from_slice.new.self.items ≡ c.cell-sym.result.1.now = ap
-    (λ xs. drop c.len-start.result xs) long ∙ ap (λ n. drop n (row ++ c.cell-sym.result.1.now)) start_is
-    ∙ drop_whole row c.cell-sym.result.1.now in
-    let stand : AreTerms c.args.bank.now (drop c.len-start.result c.extend_from_slice.new.self.items)
-    (trees_of a.0) = subst (λ ps. AreTerms c.args.bank.now ps (trees_of a.0)) (sym behind) a.2 in
-    let kept : take c.len-start.result c.extend_from_slice.new.self.items ≡ row = cut_back row
-    c.extend_from_slice.new.self.items c.cell-sym.result.1.now c.len-start.result long start_is in
+    let put = extended c.args.bank.now row c.extend_from_slice.new.self.items c.cell-sym.result.1.now
+    c.len-start.result a.0 long start_is a.2 in
     let after = slice_get (rows_after sig (c.args.depth - 1) us c.saturating_sub-room.result a.0) 0 in
-    let moved = c.in_ok-advance.ensures.goes a.0 stand in
+    let moved = c.in_ok-advance.ensures.goes a.0 put.stand in
     let w = goes_true c.advance.new.bank (take c.len-start.result c.extend_from_slice.new.self.items) after
     c.advance.new.row.items c.in_ok-advance.field-0 moved c.if-branch.true in
-    let row_is : c.advance.new.row.items ≡ row ++ w.places = w.row_is ∙ ap (λ xs. xs ++ w.places) kept in
+    let row_is : c.advance.new.row.items ≡ row ++ w.places = w.row_is ∙ ap (λ xs. xs ++ w.places) put.kept in
     let count : length c.advance.new.row.items ≡ length row + length w.places = ap (λ xs. length xs) row_is
     ∙ length-append row w.places in
     omega (arith, count, start_is, ap (λ xs. length xs) c.deref.ensures.value, c.advance.new.row.ok.0)
@@ -695,31 +546,17 @@ next_value-add-requires t c =
     let sig = c.args.self.now in
     let a = application_at c.args.bank.now c.args.value c.cell-sym.result.0 c.cell-sym.result.1.now l.0
     c.cell-sym.ensures l.1 in
-    let q = application_is sig c.args.depth c.args.sort c.args.bound c.cell-sym.result.0 a.0 l.0
-    (in_contained _ _ l.2) a.1 in
     let row = c.args.row.now.items in
     let start_is : c.len-start.result ≡ length row = omega (arith, c.len-start.ensures, c.args.row.now.ok.0) in
     let long = c.in_ok-extend_from_slice.ensures.items in
-    let i = c.info.result.now in
-    let at : info_of sig c.cell-sym.result.0 ≡ Some i = subst (λ g. info_of g c.cell-sym.result.0 ≡ Some i)
-    c.self.view_is c.info.ensures in
-    let room = room_is sig c.args.bound c.min.result c.saturating_sub-room.result c.min.ensures
-    c.saturating_sub-room.ensures in
     let us = c.as_slice-sorts.result.now in
-    let listed = arguments_listed sig c.args.depth c.args.sort c.args.bound c.cell-sym.result.0 a.0 l.0 i us
-    c.saturating_sub-room.result (in_contained _ _ l.2) a.1 at c.as_slice-sorts.ensures room in
-    let behind : drop c.len-start.result c.extend_from_slice.new.self.items ≡ c.cell-sym.result.1.now = ap
-    (λ xs. drop c.len-start.result xs) long ∙ ap (λ n. drop n (row ++ c.cell-sym.result.1.now)) start_is
-    ∙ drop_whole row c.cell-sym.result.1.now in
-    let stand : AreTerms c.args.bank.now (drop c.len-start.result c.extend_from_slice.new.self.items)
-    (trees_of a.0) = subst (λ ps. AreTerms c.args.bank.now ps (trees_of a.0)) (sym behind) a.2 in
-    let kept : take c.len-start.result c.extend_from_slice.new.self.items ≡ row = cut_back row
-    c.extend_from_slice.new.self.items c.cell-sym.result.1.now c.len-start.result long start_is in
+    let put = extended c.args.bank.now row c.extend_from_slice.new.self.items c.cell-sym.result.1.now
+    c.len-start.result a.0 long start_is a.2 in
     let after = slice_get (rows_after sig (c.args.depth - 1) us c.saturating_sub-room.result a.0) 0 in
-    let moved = c.in_ok-advance.ensures.goes a.0 stand in
+    let moved = c.in_ok-advance.ensures.goes a.0 put.stand in
     let w = goes_true c.advance.new.bank (take c.len-start.result c.extend_from_slice.new.self.items) after
     c.advance.new.row.items c.in_ok-advance.field-0 moved c.if-branch.true in
-    let row_is : c.advance.new.row.items ≡ row ++ w.places = w.row_is ∙ ap (λ xs. xs ++ w.places) kept in
+    let row_is : c.advance.new.row.items ≡ row ++ w.places = w.row_is ∙ ap (λ xs. xs ++ w.places) put.kept in
     subst (λ ps. AreBelow (length c.advance.new.bank) ps)
     (sym (behind_row row c.advance.new.row.items w.places c.deref.result.now c.len-start.result row_is
     start_is c.deref.ensures.value)) (terms_within c.advance.new.bank w.places (trees_of w.values) w.stand)
@@ -741,20 +578,13 @@ next_value-returns-then-branch-clause-placed t c =
     let room = room_is sig c.args.bound c.min.result c.saturating_sub-room.result c.min.ensures
     c.saturating_sub-room.ensures in
     let us = c.as_slice-sorts.result.now in
-    let listed = arguments_listed sig c.args.depth c.args.sort c.args.bound c.cell-sym.result.0 a.0 l.0 i us
-    c.saturating_sub-room.result (in_contained _ _ l.2) a.1 at c.as_slice-sorts.ensures room in
-    let behind : drop c.len-start.result c.extend_from_slice.new.self.items ≡ c.cell-sym.result.1.now = ap
-    (λ xs. drop c.len-start.result xs) long ∙ ap (λ n. drop n (row ++ c.cell-sym.result.1.now)) start_is
-    ∙ drop_whole row c.cell-sym.result.1.now in
-    let stand : AreTerms c.args.bank.now (drop c.len-start.result c.extend_from_slice.new.self.items)
-    (trees_of a.0) = subst (λ ps. AreTerms c.args.bank.now ps (trees_of a.0)) (sym behind) a.2 in
-    let kept : take c.len-start.result c.extend_from_slice.new.self.items ≡ row = cut_back row
-    c.extend_from_slice.new.self.items c.cell-sym.result.1.now c.len-start.result long start_is in
+    let put = extended c.args.bank.now row c.extend_from_slice.new.self.items c.cell-sym.result.1.now
+    c.len-start.result a.0 long start_is a.2 in
     let after = slice_get (rows_after sig (c.args.depth - 1) us c.saturating_sub-room.result a.0) 0 in
-    let moved = c.in_ok-advance.ensures.goes a.0 stand in
+    let moved = c.in_ok-advance.ensures.goes a.0 put.stand in
     let w = goes_true c.advance.new.bank (take c.len-start.result c.extend_from_slice.new.self.items) after
     c.advance.new.row.items c.in_ok-advance.field-0 moved c.if-branch.true in
-    let row_is : c.advance.new.row.items ≡ row ++ w.places = w.row_is ∙ ap (λ xs. xs ++ w.places) kept in
+    let row_is : c.advance.new.row.items ≡ row ++ w.places = w.row_is ∙ ap (λ xs. xs ++ w.places) put.kept in
     let first = value_goes sig c.args.depth c.args.sort c.args.bound c.cell-sym.result.0 a.0 l.0 i us
     c.saturating_sub-room.result w.values (app c.cell-sym.result.0 (trees_of w.values)) q.0 a.1
     at c.as_slice-sorts.ensures room w.is refl in
@@ -783,23 +613,16 @@ next_value-returns-then-branch-clause-few t c =
     let room = room_is sig c.args.bound c.min.result c.saturating_sub-room.result c.min.ensures
     c.saturating_sub-room.ensures in
     let us = c.as_slice-sorts.result.now in
-    let listed = arguments_listed sig c.args.depth c.args.sort c.args.bound c.cell-sym.result.0 a.0 l.0 i us
-    c.saturating_sub-room.result (in_contained _ _ l.2) a.1 at c.as_slice-sorts.ensures room in
-    let behind : drop c.len-start.result c.extend_from_slice.new.self.items ≡ c.cell-sym.result.1.now = ap
-    (λ xs. drop c.len-start.result xs) long ∙ ap (λ n. drop n (row ++ c.cell-sym.result.1.now)) start_is
-    ∙ drop_whole row c.cell-sym.result.1.now in
-    let stand : AreTerms c.args.bank.now (drop c.len-start.result c.extend_from_slice.new.self.items)
-    (trees_of a.0) = subst (λ ps. AreTerms c.args.bank.now ps (trees_of a.0)) (sym behind) a.2 in
-    let kept : take c.len-start.result c.extend_from_slice.new.self.items ≡ row = cut_back row
-    c.extend_from_slice.new.self.items c.cell-sym.result.1.now c.len-start.result long start_is in
+    let put = extended c.args.bank.now row c.extend_from_slice.new.self.items c.cell-sym.result.1.now
+    c.len-start.result a.0 long start_is a.2 in
     let after = slice_get (rows_after sig (c.args.depth - 1) us c.saturating_sub-room.result a.0) 0 in
-    let moved = c.in_ok-advance.ensures.goes a.0 stand in
+    let moved = c.in_ok-advance.ensures.goes a.0 put.stand in
     let w = goes_true c.advance.new.bank (take c.len-start.result c.extend_from_slice.new.self.items) after
     c.advance.new.row.items c.in_ok-advance.field-0 moved c.if-branch.true in
     let first = value_goes sig c.args.depth c.args.sort c.args.bound c.cell-sym.result.0 a.0 l.0 i us
     c.saturating_sub-room.result w.values (app c.cell-sym.result.0 (trees_of w.values)) q.0 a.1
     at c.as_slice-sorts.ensures room w.is refl in
-    let few = c.in_ok-advance.ensures.few a.0 stand in
+    let few = c.in_ok-advance.ensures.few a.0 put.stand in
     at_term c.args.bank.now c.args.value (λ v. length c.add.new.self ≤ length c.args.bank.now + value_symbols
     (slice_get (values_after sig c.args.depth c.args.sort c.args.bound v) 0)) l.0 l.1
     (omega (arith, ap value_symbols first, few, ap row_symbols w.is, c.add.ensures.few))
@@ -810,31 +633,17 @@ next_value-returns-then-branch-clause-same t c =
     let sig = c.args.self.now in
     let a = application_at c.args.bank.now c.args.value c.cell-sym.result.0 c.cell-sym.result.1.now l.0
     c.cell-sym.ensures l.1 in
-    let q = application_is sig c.args.depth c.args.sort c.args.bound c.cell-sym.result.0 a.0 l.0
-    (in_contained _ _ l.2) a.1 in
     let row = c.args.row.now.items in
     let start_is : c.len-start.result ≡ length row = omega (arith, c.len-start.ensures, c.args.row.now.ok.0) in
     let long = c.in_ok-extend_from_slice.ensures.items in
-    let i = c.info.result.now in
-    let at : info_of sig c.cell-sym.result.0 ≡ Some i = subst (λ g. info_of g c.cell-sym.result.0 ≡ Some i)
-    c.self.view_is c.info.ensures in
-    let room = room_is sig c.args.bound c.min.result c.saturating_sub-room.result c.min.ensures
-    c.saturating_sub-room.ensures in
     let us = c.as_slice-sorts.result.now in
-    let listed = arguments_listed sig c.args.depth c.args.sort c.args.bound c.cell-sym.result.0 a.0 l.0 i us
-    c.saturating_sub-room.result (in_contained _ _ l.2) a.1 at c.as_slice-sorts.ensures room in
-    let behind : drop c.len-start.result c.extend_from_slice.new.self.items ≡ c.cell-sym.result.1.now = ap
-    (λ xs. drop c.len-start.result xs) long ∙ ap (λ n. drop n (row ++ c.cell-sym.result.1.now)) start_is
-    ∙ drop_whole row c.cell-sym.result.1.now in
-    let stand : AreTerms c.args.bank.now (drop c.len-start.result c.extend_from_slice.new.self.items)
-    (trees_of a.0) = subst (λ ps. AreTerms c.args.bank.now ps (trees_of a.0)) (sym behind) a.2 in
-    let kept : take c.len-start.result c.extend_from_slice.new.self.items ≡ row = cut_back row
-    c.extend_from_slice.new.self.items c.cell-sym.result.1.now c.len-start.result long start_is in
+    let put = extended c.args.bank.now row c.extend_from_slice.new.self.items c.cell-sym.result.1.now
+    c.len-start.result a.0 long start_is a.2 in
     let after = slice_get (rows_after sig (c.args.depth - 1) us c.saturating_sub-room.result a.0) 0 in
-    let moved = c.in_ok-advance.ensures.goes a.0 stand in
+    let moved = c.in_ok-advance.ensures.goes a.0 put.stand in
     let w = goes_true c.advance.new.bank (take c.len-start.result c.extend_from_slice.new.self.items) after
     c.advance.new.row.items c.in_ok-advance.field-0 moved c.if-branch.true in
-    let row_is : c.advance.new.row.items ≡ row ++ w.places = w.row_is ∙ ap (λ xs. xs ++ w.places) kept in
+    let row_is : c.advance.new.row.items ≡ row ++ w.places = w.row_is ∙ ap (λ xs. xs ++ w.places) put.kept in
     c.truncate.ensures.items ∙ cut_back row c.advance.new.row.items w.places c.len-start.result row_is start_is
 
 pub next_value-overflow_sub-depth-2 : goal.next_value-overflow_sub-depth-2
@@ -874,17 +683,10 @@ next_value-returns-clause-placed t c =
     let room = room_is sig c.args.bound c.min.result c.saturating_sub-room.result c.min.ensures
     c.saturating_sub-room.ensures in
     let us = c.as_slice-sorts.result.now in
-    let listed = arguments_listed sig c.args.depth c.args.sort c.args.bound c.cell-sym.result.0 a.0 l.0 i us
-    c.saturating_sub-room.result (in_contained _ _ l.2) a.1 at c.as_slice-sorts.ensures room in
-    let behind : drop c.len-start.result c.extend_from_slice.new.self.items ≡ c.cell-sym.result.1.now = ap
-    (λ xs. drop c.len-start.result xs) long ∙ ap (λ n. drop n (row ++ c.cell-sym.result.1.now)) start_is
-    ∙ drop_whole row c.cell-sym.result.1.now in
-    let stand : AreTerms c.args.bank.now (drop c.len-start.result c.extend_from_slice.new.self.items)
-    (trees_of a.0) = subst (λ ps. AreTerms c.args.bank.now ps (trees_of a.0)) (sym behind) a.2 in
-    let kept : take c.len-start.result c.extend_from_slice.new.self.items ≡ row = cut_back row
-    c.extend_from_slice.new.self.items c.cell-sym.result.1.now c.len-start.result long start_is in
+    let put = extended c.args.bank.now row c.extend_from_slice.new.self.items c.cell-sym.result.1.now
+    c.len-start.result a.0 long start_is a.2 in
     let after = slice_get (rows_after sig (c.args.depth - 1) us c.saturating_sub-room.result a.0) 0 in
-    let moved = c.in_ok-advance.ensures.goes a.0 stand in
+    let moved = c.in_ok-advance.ensures.goes a.0 put.stand in
     let w = goes_false c.advance.new.bank (take c.len-start.result c.extend_from_slice.new.self.items) after
     c.advance.new.row.items c.in_ok-advance.field-0 moved c.if-branch.false in
     let e = value_ends sig c.args.depth c.args.sort c.args.bound c.cell-sym.result.0 a.0 l.0 i us
@@ -912,22 +714,15 @@ next_value-returns-clause-few t c =
     let room = room_is sig c.args.bound c.min.result c.saturating_sub-room.result c.min.ensures
     c.saturating_sub-room.ensures in
     let us = c.as_slice-sorts.result.now in
-    let listed = arguments_listed sig c.args.depth c.args.sort c.args.bound c.cell-sym.result.0 a.0 l.0 i us
-    c.saturating_sub-room.result (in_contained _ _ l.2) a.1 at c.as_slice-sorts.ensures room in
-    let behind : drop c.len-start.result c.extend_from_slice.new.self.items ≡ c.cell-sym.result.1.now = ap
-    (λ xs. drop c.len-start.result xs) long ∙ ap (λ n. drop n (row ++ c.cell-sym.result.1.now)) start_is
-    ∙ drop_whole row c.cell-sym.result.1.now in
-    let stand : AreTerms c.args.bank.now (drop c.len-start.result c.extend_from_slice.new.self.items)
-    (trees_of a.0) = subst (λ ps. AreTerms c.args.bank.now ps (trees_of a.0)) (sym behind) a.2 in
-    let kept : take c.len-start.result c.extend_from_slice.new.self.items ≡ row = cut_back row
-    c.extend_from_slice.new.self.items c.cell-sym.result.1.now c.len-start.result long start_is in
+    let put = extended c.args.bank.now row c.extend_from_slice.new.self.items c.cell-sym.result.1.now
+    c.len-start.result a.0 long start_is a.2 in
     let after = slice_get (rows_after sig (c.args.depth - 1) us c.saturating_sub-room.result a.0) 0 in
-    let moved = c.in_ok-advance.ensures.goes a.0 stand in
+    let moved = c.in_ok-advance.ensures.goes a.0 put.stand in
     let w = goes_false c.advance.new.bank (take c.len-start.result c.extend_from_slice.new.self.items) after
     c.advance.new.row.items c.in_ok-advance.field-0 moved c.if-branch.false in
     let e = value_ends sig c.args.depth c.args.sort c.args.bound c.cell-sym.result.0 a.0 l.0 i us
     c.saturating_sub-room.result q.0 a.1 at c.as_slice-sorts.ensures room w.0 in
-    let few = c.in_ok-advance.ensures.few a.0 stand in
+    let few = c.in_ok-advance.ensures.few a.0 put.stand in
     on_ok_map c.first_made.result _ _
     (λ h. at_term c.args.bank.now c.args.value (λ v. length c.first_made.new.bank ≤ length c.args.bank.now +
     value_symbols (slice_get (values_after sig c.args.depth c.args.sort c.args.bound v) 0)) l.0 l.1
@@ -939,28 +734,14 @@ next_value-returns-clause-same t c =
     let sig = c.args.self.now in
     let a = application_at c.args.bank.now c.args.value c.cell-sym.result.0 c.cell-sym.result.1.now l.0
     c.cell-sym.ensures l.1 in
-    let q = application_is sig c.args.depth c.args.sort c.args.bound c.cell-sym.result.0 a.0 l.0
-    (in_contained _ _ l.2) a.1 in
     let row = c.args.row.now.items in
     let start_is : c.len-start.result ≡ length row = omega (arith, c.len-start.ensures, c.args.row.now.ok.0) in
     let long = c.in_ok-extend_from_slice.ensures.items in
-    let i = c.info.result.now in
-    let at : info_of sig c.cell-sym.result.0 ≡ Some i = subst (λ g. info_of g c.cell-sym.result.0 ≡ Some i)
-    c.self.view_is c.info.ensures in
-    let room = room_is sig c.args.bound c.min.result c.saturating_sub-room.result c.min.ensures
-    c.saturating_sub-room.ensures in
     let us = c.as_slice-sorts.result.now in
-    let listed = arguments_listed sig c.args.depth c.args.sort c.args.bound c.cell-sym.result.0 a.0 l.0 i us
-    c.saturating_sub-room.result (in_contained _ _ l.2) a.1 at c.as_slice-sorts.ensures room in
-    let behind : drop c.len-start.result c.extend_from_slice.new.self.items ≡ c.cell-sym.result.1.now = ap
-    (λ xs. drop c.len-start.result xs) long ∙ ap (λ n. drop n (row ++ c.cell-sym.result.1.now)) start_is
-    ∙ drop_whole row c.cell-sym.result.1.now in
-    let stand : AreTerms c.args.bank.now (drop c.len-start.result c.extend_from_slice.new.self.items)
-    (trees_of a.0) = subst (λ ps. AreTerms c.args.bank.now ps (trees_of a.0)) (sym behind) a.2 in
-    let kept : take c.len-start.result c.extend_from_slice.new.self.items ≡ row = cut_back row
-    c.extend_from_slice.new.self.items c.cell-sym.result.1.now c.len-start.result long start_is in
+    let put = extended c.args.bank.now row c.extend_from_slice.new.self.items c.cell-sym.result.1.now
+    c.len-start.result a.0 long start_is a.2 in
     let after = slice_get (rows_after sig (c.args.depth - 1) us c.saturating_sub-room.result a.0) 0 in
-    let moved = c.in_ok-advance.ensures.goes a.0 stand in
+    let moved = c.in_ok-advance.ensures.goes a.0 put.stand in
     let w = goes_false c.advance.new.bank (take c.len-start.result c.extend_from_slice.new.self.items) after
     c.advance.new.row.items c.in_ok-advance.field-0 moved c.if-branch.false in
-    on_ok_map c.first_made.result _ _ (λ h. h ∙ w.1 ∙ kept) c.first_made.ensures.same
+    on_ok_map c.first_made.result _ _ (λ h. h ∙ w.1 ∙ put.kept) c.first_made.ensures.same
