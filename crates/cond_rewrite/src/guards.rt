@@ -25,12 +25,9 @@ pub(crate) fn guards_are_among(
         AllByRecursion (λ (g : GuardRecord). Among (applied_guard theta.now.terms g) premises.now)
         guards.now }
 {
-    for guard in guards {
-        if !is_among(alloc, theta, guard, premises) {
-            return false;
-        }
-    }
-    true
+    guards
+        .iter()
+        .all(|guard| is_among(alloc, theta, guard, premises))
 }
 
 /// Whether the guard's instance, equated to the constant that it wants, is among the premises.

@@ -13,12 +13,7 @@ use term_core::Name;
 pub(crate) fn further_are_proved(old: &[Goal], new: &[Goal], claims: &[Claim]) -> bool
     ensures { IsTrue result ↔ FurtherAreProved old.now new.now claims.now }
 {
-    for goal in new {
-        if !is_old_or_proved(old, goal, claims) {
-            return false;
-        }
-    }
-    true
+    new.iter().all(|goal| is_old_or_proved(old, goal, claims))
 }
 
 fn is_old_or_proved(old: &[Goal], goal: &Goal, claims: &[Claim]) -> bool

@@ -172,12 +172,7 @@ pub(crate) fn limited(clauses: Seq<Child>, refs: Seq<Reference>) -> Result<Child
 fn are_within(children: &[Child]) -> bool
     ensures { IsTrue result ↔ AllByRecursion (λ (d : ChildOf). IsWithin d.clause) children.now }
 {
-    for child in children {
-        if !within(&child.clause) {
-            return false;
-        }
-    }
-    true
+    children.iter().all(|child| within(&child.clause))
 }
 
 /// The answer of a step if this many nodes come before the children that it makes.

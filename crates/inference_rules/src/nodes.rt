@@ -2,7 +2,9 @@
 
 ghost use Rattle.std.specs.Prelude.{◌≡◌};
 ghost use Rattle.inference_rules.specs.Reasons.{error_of_rewriting, error_of_covering};
-ghost use Rattle.inference_rules.specs.declared.nodes.StepError.TheVariants.{OutOfMemory as out_of_memory};
+ghost use Rattle.inference_rules.specs.declared.nodes.StepError.TheVariants.{
+  OutOfMemory as out_of_memory,
+};
 
 use clause_core::{Clause, RewriteError, Why};
 use spec_core::Spec;

@@ -130,12 +130,10 @@ pub(crate) fn instances_are_there(
 pub(crate) fn premises_are_there(here: &Clause, instance: &Clause) -> bool
     ensures { IsTrue result ↔ PremisesAreThere here.now instance.now }
 {
-    for premise in instance.premises.as_slice() {
-        if !premise_is_there(here, premise) {
-            return false;
-        }
-    }
-    true
+    instance
+        .premises
+        .iter()
+        .all(|premise| premise_is_there(here, premise))
 }
 
 /// Whether the premise is among the premises here or has identical sides.

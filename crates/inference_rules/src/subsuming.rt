@@ -96,10 +96,5 @@ fn each_among(equations: &[Equation], others: &[Equation]) -> bool
     ensures { IsTrue result ↔
         AllByRecursion (λ (e : EquationOf). Among e others.now) equations.now }
 {
-    for equation in equations {
-        if !among(equation, others) {
-            return false;
-        }
-    }
-    true
+    equations.iter().all(|equation| among(equation, others))
 }

@@ -171,12 +171,9 @@ fn premises_are_there(here: &Clause, premises: &[Equation]) -> bool
     ensures { IsTrue result ↔ AllByRecursion
         (λ (e : EquationOf). Among e here.now.premises ⊎ IsIdentity e) premises.now }
 {
-    for premise in premises {
-        if !premise_is_there(here, premise) {
-            return false;
-        }
-    }
-    true
+    premises
+        .iter()
+        .all(|premise| premise_is_there(here, premise))
 }
 
 fn premise_is_there(here: &Clause, premise: &Equation) -> bool
@@ -190,10 +187,5 @@ fn each_among(equations: &[Equation], others: &[Equation]) -> bool
     ensures { IsTrue result ↔
         AllByRecursion (λ (e : EquationOf). Among e others.now) equations.now }
 {
-    for equation in equations {
-        if !among(equation, others) {
-            return false;
-        }
-    }
-    true
+    equations.iter().all(|equation| among(equation, others))
 }

@@ -134,34 +134,21 @@ impl Asked {
 fn children_are_less(children: &[Child]) -> bool
     ensures { IsTrue result ↔ AllByRecursion (λ (d : ChildOf). d.relation ≡ Less) children.now }
 {
-    for child in children {
-        if child.relation != Relation::Less {
-            return false;
-        }
-    }
-    true
+    children
+        .iter()
+        .all(|child| child.relation == Relation::Less)
 }
 
 fn are_less(refs: &[Reference]) -> bool
     ensures { IsTrue result ↔ AllByRecursion (λ (r : ReferenceOf). r.relation ≡ Less) refs.now }
 {
-    for reference in refs {
-        if reference.relation != Relation::Less {
-            return false;
-        }
-    }
-    true
+    refs.iter().all(|found| found.relation == Relation::Less)
 }
 
 fn are_not_neither(refs: &[Reference]) -> bool
     ensures { IsTrue result ↔ AllByRecursion IsNotNeither refs.now }
 {
-    for reference in refs {
-        if reference.relation == Relation::Neither {
-            return false;
-        }
-    }
-    true
+    refs.iter().all(|found| found.relation != Relation::Neither)
 }
 
 /// The step with what it makes at the node, if the table defines it and its relations are those

@@ -39,7 +39,7 @@ impl Limits {
 
     /// Whether no child is too large.
     pub(crate) fn has_room(self, next: &Move) -> bool {
-        for child in next.made.clauses.as_slice() {
+        for child in &next.made.clauses {
             if symbols(&child.clause) > self.size {
                 return false;
             }

@@ -79,6 +79,14 @@ struct Closing<'a> {
     spines: SideSpines,
 }
 
+/// The sides that a leading equation is to become, with their spines.
+#[derive(Clone, Copy)]
+struct Wanted<'a> {
+    left: &'a Term,
+    right: &'a Term,
+    spines: SideSpines,
+}
+
 /// The first step by an ancestor that closes the node.
 pub(crate) fn first_subsumption<O: TermOrder>(
     alloc: Global,
@@ -221,29 +229,21 @@ fn closing_either_way<'a, O: TermOrder>(
         IfOk result (IsFound (O.above order.now) at.now
         (closing_pair target clause e equation.now)) }
 {
-    let found = closing_by(
-        alloc,
-        order,
-        at,
-        matcher,
-        by,
-        &equation.left,
-        &equation.right,
-        own,
-    )?;
+    let as_written = Wanted {
+        left: &equation.left,
+        right: &equation.right,
+        spines: own,
+    };
+    let found = closing_by(alloc, order, at, matcher, by, &as_written)?;
     if found.is_some() {
         return Ok(found);
     }
-    closing_by(
-        alloc,
-        order,
-        at,
-        matcher,
-        by,
-        &equation.right,
-        &equation.left,
-        own.swapped(),
-    )
+    let swapped = Wanted {
+        left: &equation.right,
+        right: &equation.left,
+        spines: own.swapped(),
+    };
+    closing_by(alloc, order, at, matcher, by, &swapped)
 }
 
 /// The step by which the sides of the leading equation become these, whose spines are known. If
@@ -254,26 +254,25 @@ fn closing_by<'a, O: TermOrder>(
     at: &At<'a>,
     matcher: &mut Matcher<'a>,
     by: &Closing,
-    left: &'a Term,
-    right: &'a Term,
-    own: SideSpines,
+    sides: &Wanted<'a>,
 ) -> Result<Option<Move>, OutOfMemory>
     requires at { IsAt at.now }
     requires spines { by.now.spines ≡ side_spines by.now.equation.now }
-    requires own { own ≡ spines_of left.now right.now }
+    requires own { sides.now.spines ≡ spines_of sides.now.left.now sides.now.right.now }
     requires variables { let clause = by.now.clause.now in
         AreVariables (length clause.ctx) (both_sides by.now.equation.now) }
     ensures { let clause = by.now.clause.now in
         let target = target_of by.now.referral.now in
+        let wanted = sides.now in
         IfOk result (IsFound (O.above order.now) at.now
-        (closing target clause by.now.equation.now left.now right.now ∷ [])) }
+        (closing target clause by.now.equation.now wanted.left.now wanted.right.now ∷ [])) }
 {
     spines_may_become();
-    if !by.spines.may_become(&own) {
+    if !by.spines.may_become(&sides.spines) {
         return Ok(None);
     }
     let count = by.clause.ctx.len();
-    if !matcher.fitting(count, by.equation, left, right)? {
+    if !matcher.fitting(count, by.equation, sides.left, sides.right)? {
         return Ok(None);
     }
     let terms = copies(alloc, matcher.terms())?;

@@ -1,6 +1,6 @@
 -- Which closing steps are defined at a node of a block.
 use Rattle.std.specs.Prelude.{◌≡◌, ◌⊎◌, ℕ, List, [], ◌∷◌, ◌++◌, Some, slice_get, take}
-use Rattle.std.specs.List.{AllByRecursion}
+use Rattle.std.specs.List.{AllByRecursion, Any}
 use Rattle.term_core.specs.Tree.{Tree}
 use Rattle.spec_core.specs.declared.records.Equation.{Equation}
 use Rattle.spec_core.specs.declared.records.Spec.{Spec}
@@ -16,8 +16,7 @@ use Rattle.script_trim.specs.Closing.{trivials, matches, absurds, subsume_each, 
 
 -- the sides of one of the equations are one term
 abbrev pub HasIdentity : List Equation → Type 0
-HasIdentity [] = ⊥
-HasIdentity (e ∷ es) = IsIdentity e ⊎ HasIdentity es
+HasIdentity = Any IsIdentity
 
 -- the closing steps by a node's own equations, and then those by another clause
 abbrev pub own_steps : Spec → List Clause → Clause → List Step

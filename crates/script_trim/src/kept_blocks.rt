@@ -161,10 +161,5 @@ fn is_hopeful<O: TermOrder>(
 fn has_identity(equations: &[Equation]) -> bool
     ensures { IsTrue result ↔ HasIdentity equations.now }
 {
-    for equation in equations {
-        if is_identity(equation) {
-            return true;
-        }
-    }
-    false
+    equations.iter().any(|equation| is_identity(equation))
 }

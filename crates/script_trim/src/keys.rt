@@ -52,12 +52,7 @@ pub(crate) fn may_close(keys: &[u32], key: Option<u32>) -> bool
 fn has_key(keys: &[u32], key: u32) -> bool
     ensures { IsTrue result ↔ Contains keys.now key }
 {
-    for other in keys {
-        if *other == key {
-            return true;
-        }
-    }
-    false
+    keys.contains(&key)
 }
 
 /// One number for an equation and its swapped form.

@@ -23,12 +23,7 @@ fn are_there(premises: &[Equation], own: &[Equation]) -> bool
     ensures { IsTrue result ↔ AllByRecursion
         (λ (e : EquationOf). Among e own.now ⊎ IsIdentity e) premises.now }
 {
-    for premise in premises {
-        if !is_there(premise, own) {
-            return false;
-        }
-    }
-    true
+    premises.iter().all(|premise| is_there(premise, own))
 }
 
 fn is_there(premise: &Equation, own: &[Equation]) -> bool
@@ -42,10 +37,5 @@ fn are_among(conclusions: &[Equation], own: &[Equation]) -> bool
     ensures { IsTrue result ↔
         AllByRecursion (λ (e : EquationOf). Among e own.now) conclusions.now }
 {
-    for conclusion in conclusions {
-        if !among(conclusion, own) {
-            return false;
-        }
-    }
-    true
+    conclusions.iter().all(|conclusion| among(conclusion, own))
 }

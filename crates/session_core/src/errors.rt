@@ -44,7 +44,9 @@ impl Error for SessionError {}
 
 impl From<OutOfMemory> for SessionError {
     ghost use Rattle.std.specs.Prelude.{◌≡◌};
-    ghost use Rattle.session_core.specs.declared.errors.SessionError.TheVariants.{OutOfMemory as no_memory};
+    ghost use Rattle.session_core.specs.declared.errors.SessionError.TheVariants.{
+      OutOfMemory as no_memory,
+    };
 
     ghost from_gives = { λ _ e. e ≡ no_memory };
 
@@ -90,7 +92,9 @@ impl Error for CommandError {}
 
 impl From<OutOfMemory> for CommandError {
     ghost use Rattle.std.specs.Prelude.{◌≡◌};
-    ghost use Rattle.session_core.specs.declared.errors.CommandError.TheVariants.{OutOfMemory as no_memory};
+    ghost use Rattle.session_core.specs.declared.errors.CommandError.TheVariants.{
+      OutOfMemory as no_memory,
+    };
 
     ghost from_gives = { λ _ e. e ≡ no_memory };
 

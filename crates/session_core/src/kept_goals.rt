@@ -69,12 +69,7 @@ pub(crate) fn numbers_of(alloc: Global, goals: &[KeptGoal]) -> Result<Vec<u32>, 
 pub(crate) fn has_number(numbers: &[u32], number: u32) -> bool
     ensures { IsTrue result ↔ Contains numbers.now number }
 {
-    for other in numbers {
-        if *other == number {
-            return true;
-        }
-    }
-    false
+    numbers.contains(&number)
 }
 
 /// Appends the goal, or nothing.

@@ -33,13 +33,13 @@ returns-then-not-may_become g c =
     let by = c.args.by.now in
     let target = target_of by.referral.now in
     let e = by.equation.now in
-    let left = c.args.left.now in
-    let right = c.args.right.now in
+    let left = c.args.sides.now.left.now in
+    let right = c.args.sides.now.right.now in
     none_answers (SaysAt (g.O.TermOrder.above c.args.order.now) c.args.at.now)
     (asked (length by.clause.now.ctx) (both_sides e) (left ∷ right ∷ [])) (closing_step target)
     (closing_asks target)
     (no_list c.spines_may_become.ensures (length by.clause.now.ctx) e left right by.spines
-    c.args.own c.requires.spines c.requires.own
+    c.args.sides.now.spines c.requires.spines c.requires.own
     (not_is c.may_become.result _ c.if-not-may_become.true c.may_become.ensures))
 
 pub returns-then-not-branch : goal.returns-then-not-branch
@@ -47,7 +47,7 @@ returns-then-not-branch g c =
     let by = c.args.by.now in
     let target = target_of by.referral.now in
     let patterns = both_sides by.equation.now in
-    let terms = c.args.left.now ∷ c.args.right.now ∷ [] in
+    let terms = c.args.sides.now.left.now ∷ c.args.sides.now.right.now ∷ [] in
     none_answers (SaysAt (g.O.TermOrder.above c.args.order.now) c.args.at.now)
     (asked (length by.clause.now.ctx) patterns terms) (closing_step target) (closing_asks target)
     (only_answer c.len-count.result (length by.clause.now.ctx) patterns terms _ None
@@ -62,7 +62,7 @@ returns g c =
     let by = c.args.by.now in
     let target = target_of by.referral.now in
     let patterns = both_sides by.equation.now in
-    let terms = c.args.left.now ∷ c.args.right.now ∷ [] in
+    let terms = c.args.sides.now.left.now ∷ c.args.sides.now.right.now ∷ [] in
     let list = found_in c.fitting.new.self in
     let only =
     only_answer c.len-count.result (length by.clause.now.ctx) patterns terms _ (Some list)
@@ -73,7 +73,7 @@ returns g c =
     ∙ ap (λ (ts : List Tree). closing_step target ts) (c.in_ok-terms.ensures ∙ c.terms.ensures) in
     if_ok_map c.taken.result (IsTaken says c.in_ok-step.step (asks_of c.closing_asks.result))
     (IsFound above at
-    (closing target by.clause.now by.equation.now c.args.left.now c.args.right.now ∷ []))
+    (closing target by.clause.now by.equation.now c.args.sides.now.left.now c.args.sides.now.right.now ∷ []))
     (λ (found : Option Move) taken.
     answered_found says (asked (length by.clause.now.ctx) patterns terms) (closing_step target)
     (closing_asks target) list found only.0 only.1

@@ -1,9 +1,0 @@
-use Rattle.std.proofs.Common.{◌⊎◌, take}
-use Rattle.std.specs.List.{AllByRecursion}
-use Rattle.spec_core.specs.declared.records.Equation.{Equation}
-use Rattle.clause_core.specs.Equations.{Among, IsIdentity}
-use Rattle.script_trim.proofs.subsuming.are_there.Given as goal
-
-abbrev pub invariant-loop-premise : goal.invariant-loop-premise
-invariant-loop-premise l =
-    AllByRecursion (λ (e : Equation). Among e l.own ⊎ IsIdentity e) (take l.premise-index l.premises)
