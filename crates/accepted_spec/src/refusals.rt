@@ -38,7 +38,9 @@ impl fmt::Display for Refusal {
 }
 
 impl From<OutOfMemory> for Refusal {
-    ghost use Rattle.accepted_spec.specs.declared.refusals.Refusal.TheVariants.{OutOfMemory as out_of_memory};
+    ghost use Rattle.accepted_spec.specs.declared.refusals.Refusal.TheVariants.{
+      OutOfMemory as out_of_memory,
+    };
 
     ghost from_gives = { λ _ refusal. refusal ≡ out_of_memory };
 

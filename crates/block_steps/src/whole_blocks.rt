@@ -4,7 +4,9 @@ ghost use Rattle.std.specs.Prelude.{◌≡◌, List, [], ◌∷◌, IfOk, Contai
 ghost use Rattle.clause_core.specs.declared.answers.Children.{Children as ChildrenOf};
 ghost use Rattle.descent.specs.SortedChildren.{IsNode};
 ghost use Rattle.acceptance.specs.Blocks.{StepsMake};
-ghost use Rattle.inference_rules.specs.declared.nodes.StepError.TheVariants.{OutOfMemory as no_memory};
+ghost use Rattle.inference_rules.specs.declared.nodes.StepError.TheVariants.{
+  OutOfMemory as no_memory,
+};
 ghost use Rattle.block_steps.specs.Taken.{AreTaken};
 
 use crate::taken_steps::TakenSteps;

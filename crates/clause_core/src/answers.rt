@@ -1,7 +1,9 @@
 //! What a step makes, and why it isn't defined.
 
 ghost use Rattle.std.specs.Prelude.{◌≡◌};
-ghost use Rattle.clause_core.specs.declared.answers.RewriteError.TheVariants.{OutOfMemory as out_of_memory};
+ghost use Rattle.clause_core.specs.declared.answers.RewriteError.TheVariants.{
+  OutOfMemory as out_of_memory,
+};
 
 use crate::clauses::{Clause, Relation};
 use std::fmt;

@@ -1,4 +1,5 @@
--- Clauses of nodes that are kept and let go. What the table says of a step at a node depends of the nodes so far on how many they are, and on the clause of the node that the step refers to.
+-- Clauses of nodes that are kept and let go. What the table says of a step at a node depends of the nodes so far
+-- on how many they are, and on the clause of the node that the step refers to.
 use Rattle.std.proofs.Common.{◌≡◌, ◌⊎◌, ℕ, zero, suc, ◌+◌, ◌≤◌, ◌<◌, List, [], ◌∷◌, ◌++◌, Some, inl, inr, refl, sym}
 use Rattle.std.proofs.Common.{◌∙◌, ap, subst, lit≤, arith, length, set}
 use Rattle.std.specs.Prelude.{Result, slice_get, slice_index_or}

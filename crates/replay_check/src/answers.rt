@@ -1,7 +1,9 @@
 //! Whether a report is accepted, and why the tests stop.
 
 ghost use Rattle.std.specs.Prelude.{◌≡◌};
-ghost use Rattle.replay_check.specs.declared.answers.Stop.TheVariants.{OutOfMemory as out_of_memory};
+ghost use Rattle.replay_check.specs.declared.answers.Stop.TheVariants.{
+  OutOfMemory as out_of_memory,
+};
 
 use clause_core::ReplayWhy;
 use term_core::OutOfMemory;

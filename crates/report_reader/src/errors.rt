@@ -31,7 +31,9 @@ impl Error for ReportError {}
 
 impl From<OutOfMemory> for ReportError {
     ghost use Rattle.std.specs.Prelude.{◌≡◌};
-    ghost use Rattle.report_reader.specs.declared.errors.ReportError.TheVariants.{OutOfMemory as no_memory};
+    ghost use Rattle.report_reader.specs.declared.errors.ReportError.TheVariants.{
+      OutOfMemory as no_memory,
+    };
 
     ghost from_gives = { λ _ e. e ≡ no_memory };
 

@@ -33,6 +33,16 @@ written-whole xs ys n e le =
     ∙ ap (λ zs. take n zs) (append-nil xs)
     ∙ take_all n xs (omega arith)
 
+-- what is written to a vector by its slice is what it holds then, and it is as long as before
+pub slice-written :
+    {A : Type 0} (new slice old : List A) (n : ℕ) → slice ≡ old → n ≡ length slice → length new ≡ length slice →
+    (take n (new ++ drop (length new) old) ≡ new)
+    × (length (take n (new ++ drop (length new) old)) ≡ length old)
+slice-written new slice old n same whole long =
+    let as_long : length new ≡ length old = long ∙ ap (λ xs. length xs) same in
+    let is = written-whole new old n (whole ∙ sym long) (omega (arith, as_long)) in
+    (is, ap (λ xs. length xs) is ∙ as_long)
+
 pub greatest-next :
     (fs : List SymId) (i : ℕ) (f : SymId) → i < length fs →
     max (greatest (numbers_of (take i fs))) (get_or fs i f).0 ≡ greatest (numbers_of (take (i + 1) fs))

@@ -16,8 +16,12 @@ ghost use Rattle.sort_check.specs.DeclarationTests.{all_sorts, all_constructors,
 ghost use Rattle.sort_check.specs.DeclarationTests.{values_sig, declarations_tests, sig_of};
 ghost use Rattle.sort_check.specs.Signatures.{SignatureStands, sort_names};
 ghost use Rattle.sort_check.specs.declared.faults.SortFault.TheVariants.{Sort};
-ghost use Rattle.sort_check.specs.declared.faults.SortFault.TheVariants.{OutOfMemory as out_of_memory};
-ghost use Rattle.sort_check.specs.declared.faults.SortKind.TheVariants.{RepeatedName as repeated_name};
+ghost use Rattle.sort_check.specs.declared.faults.SortFault.TheVariants.{
+  OutOfMemory as out_of_memory,
+};
+ghost use Rattle.sort_check.specs.declared.faults.SortKind.TheVariants.{
+  RepeatedName as repeated_name,
+};
 
 use crate::faults::{SortFault, SortKind, fault};
 use spec_core::{BuildError, Signature, SymInfo};

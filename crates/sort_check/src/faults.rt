@@ -1,7 +1,9 @@
 //! Sort faults and their kinds.
 
 ghost use Rattle.sort_check.specs.declared.faults.SortFault.TheVariants.{Sort};
-ghost use Rattle.sort_check.specs.declared.faults.SortFault.TheVariants.{OutOfMemory as out_of_memory};
+ghost use Rattle.sort_check.specs.declared.faults.SortFault.TheVariants.{
+  OutOfMemory as out_of_memory,
+};
 ghost use Rattle.std.specs.Prelude.{◌≡◌};
 
 use std::error::Error;

@@ -10,7 +10,9 @@ ghost use Rattle.sort_check.specs.GoalTests.{bind_tests, binds_tests, bound, cla
 ghost use Rattle.sort_check.specs.GoalTests.{goal_tests};
 ghost use Rattle.sort_check.specs.Goals.{GoalStands};
 ghost use Rattle.sort_check.specs.declared.faults.SortFault.TheVariants.{Sort};
-ghost use Rattle.sort_check.specs.declared.faults.SortKind.TheVariants.{RepeatedName as repeated_name};
+ghost use Rattle.sort_check.specs.declared.faults.SortKind.TheVariants.{
+  RepeatedName as repeated_name,
+};
 
 use crate::entries::{Entry, add};
 use crate::faults::{Part, SortFault, SortKind, fault};

@@ -16,7 +16,9 @@ ghost use Rattle.sort_check.specs.OrderTests.{function_tests, name_tests, order_
 ghost use Rattle.sort_check.specs.OrderTests.{status_tests};
 ghost use Rattle.sort_check.specs.Marks.{AllAreBelow, AreMarks, numbers_of};
 ghost use Rattle.sort_check.specs.declared.faults.SortFault.TheVariants.{Sort};
-ghost use Rattle.sort_check.specs.declared.faults.SortKind.TheVariants.{NoOrderOfArguments as no_order_of_arguments};
+ghost use Rattle.sort_check.specs.declared.faults.SortKind.TheVariants.{
+  NoOrderOfArguments as no_order_of_arguments,
+};
 
 use crate::faults::{SortFault, SortKind, fault};
 use crate::marks::no_marks;

@@ -1,6 +1,8 @@
 //! Why a specification isn't admitted.
 
-ghost use Rattle.spec_admit.specs.declared.faults.AdmitFault.TheVariants.{OutOfMemory as out_of_memory};
+ghost use Rattle.spec_admit.specs.declared.faults.AdmitFault.TheVariants.{
+  OutOfMemory as out_of_memory,
+};
 ghost use Rattle.std.specs.Prelude.{◌≡◌};
 
 use spec_core::Spec;

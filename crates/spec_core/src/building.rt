@@ -10,7 +10,9 @@ ghost use Rattle.spec_core.specs.Declarations.{bool_symbol, bool_symbols, all_sy
 ghost use Rattle.spec_core.specs.Declarations.{AreDistinct, IsBelow, IsNotBool, IsDeclared};
 ghost use Rattle.spec_core.specs.Pairs.{pairs_of};
 ghost use Rattle.spec_core.specs.Small.{IsFirstWithout};
-ghost use Rattle.spec_core.specs.declared.building.BuildError.TheVariants.{OutOfMemory as out_of_memory};
+ghost use Rattle.spec_core.specs.declared.building.BuildError.TheVariants.{
+  OutOfMemory as out_of_memory,
+};
 
 use crate::records::SymInfo;
 use crate::small::first_without;

@@ -1,5 +1,6 @@
 pub mod Stacks
 pub mod Agrees
+pub mod BuiltTexts
 pub mod Means
 pub mod Whole
 pub mod Unique

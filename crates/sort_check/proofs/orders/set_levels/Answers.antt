@@ -8,7 +8,7 @@ use Rattle.sort_check.specs.Answers.{Tells}
 use Rattle.sort_check.specs.Orders.{symbol_numbers, level_in}
 use Rattle.sort_check.specs.OrderTests.{names_in, name_tests, equal_tests}
 use Rattle.sort_check.specs.Marks.{AreMarks, numbers_of}
-use Rattle.sort_check.proofs.LineLoops.{written-whole, names-next, levels-next, levels-begin, all-made}
+use Rattle.sort_check.proofs.LineLoops.{slice-written, names-next, levels-next, levels-begin, all-made}
 use Rattle.sort_check.proofs.Telling.{answer_err, after_tells}
 use Rattle.sort_check.proofs.orders.set_levels.Goals as goal
 
@@ -54,12 +54,9 @@ loop-raw-preserved c =
     let clean : Clean (equal_tests sig (take i raws) raw) =
     subst (λ ns. Clean (each_after (name_tests sig seen) [] ns)) c.as_slice.ensures found.0 in
     let new = c.take_functions.new.taken in
-    let long : length new ≡ length c.loop-raw.taken.items =
-    c.take_functions.auto.taken ∙ ap (λ ms. length ms) c.deref_mut.ensures.value in
-    let written : take c.loop-raw.taken.len (new ++ drop (length new) c.loop-raw.taken.items) ≡ new =
-    written-whole new c.loop-raw.taken.items c.loop-raw.taken.len
-    (omega (arith, c.take_functions.auto.taken, c.deref_mut.ensures.len)) (omega (arith, long))
-    in
+    let written =
+    slice-written new c.deref_mut.result.now c.loop-raw.taken.items c.loop-raw.taken.len
+    c.deref_mut.ensures.value (omega (arith, c.deref_mut.ensures.len)) c.take_functions.auto.taken in
     let taken : seen ++ symbol_numbers sig c.as_slice.result.now ≡ symbol_numbers sig (names_in (take (i + 1) raws)) =
     ap (λ ns. seen ++ symbol_numbers sig ns) c.as_slice.ensures ∙ names-next sig raws i raw lt is
     in
@@ -67,10 +64,10 @@ loop-raw-preserved c =
     ap numbers_of c.as_slice-in-loop-raw.ensures ∙ found.1.0 ∙ ap (symbol_numbers sig) c.as_slice.ensures
     in
     record {
-      long = ap (λ ms. length ms) written ∙ long ∙ c.loop-raw.invariant.long;
+      long = written.1 ∙ c.loop-raw.invariant.long;
       as_many = omega arith;
       marks =
-          subst (AreMarks (symbol_numbers sig (names_in (take (i + 1) raws)))) (sym written)
+          subst (AreMarks (symbol_numbers sig (names_in (take (i + 1) raws)))) (sym written.0)
           (subst (λ ns. AreMarks ns new) taken found.1.1);
       clean = after_next (equal_tests sig) raws i raw lt is c.loop-raw.invariant.clean clean;
       levels = λ f within.

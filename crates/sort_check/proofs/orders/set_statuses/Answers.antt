@@ -12,7 +12,7 @@ use Rattle.sort_check.specs.OrderTests.{arity, heads_of, function_tests, status_
 use Rattle.sort_check.specs.Marks.{AreMarks}
 use Rattle.sort_check.specs.declared.faults.SortFault.TheVariants.{Sort}
 use Rattle.sort_check.specs.declared.faults.SortKind.TheVariants.{StatusTwice, NoOrderOfArguments}
-use Rattle.sort_check.proofs.LineLoops.{written-whole, heads-next, statuses-next, statuses-begin, statuses-long}
+use Rattle.sort_check.proofs.LineLoops.{slice-written, heads-next, statuses-next, statuses-begin, statuses-long}
 use Rattle.sort_check.proofs.LineLoops.{all-made}
 use Rattle.sort_check.proofs.Telling.{answer_err, after_tells, tells_first, tells_then}
 use Rattle.sort_check.proofs.orders.set_statuses.Goals as goal
@@ -106,22 +106,19 @@ loop-raw-preserved c =
     c.in_ok-status.ensures.0
     in
     let new = c.take_function.new.taken in
-    let long : length new ≡ length c.loop-raw.taken.items =
-    c.take_function.auto.taken ∙ ap (λ ms. length ms) c.deref_mut.ensures.value in
-    let written : take c.loop-raw.taken.len (new ++ drop (length new) c.loop-raw.taken.items) ≡ new =
-    written-whole new c.loop-raw.taken.items c.loop-raw.taken.len
-    (omega (arith, c.take_function.auto.taken, c.deref_mut.ensures.len)) (omega (arith, long))
-    in
+    let written =
+    slice-written new c.deref_mut.result.now c.loop-raw.taken.items c.loop-raw.taken.len
+    c.deref_mut.ensures.value (omega (arith, c.deref_mut.ensures.len)) c.take_function.auto.taken in
     let within : g < length c.loop-raw.statuses =
     omega (arith, c.in_ok-function.ensures.within, c.loop-raw.invariant.as_many) in
     let unseen : is_among g seen ≡ false =
     subst (λ k. is_among k seen ≡ false) here
     (false_from_ne_true (is_among (symbol_number sig raw.head) seen) found.0.1.1) in
     record {
-      long = ap (λ ms. length ms) written ∙ long ∙ c.loop-raw.invariant.long;
+      long = written.1 ∙ c.loop-raw.invariant.long;
       as_many = length-set c.loop-raw.statuses g c.in_ok-status.status ∙ c.loop-raw.invariant.as_many;
       marks =
-          subst (AreMarks (symbol_numbers sig (heads_of (take (i + 1) raws)))) (sym written)
+          subst (AreMarks (symbol_numbers sig (heads_of (take (i + 1) raws)))) (sym written.0)
           (heads-next sig raws i raw lt is new g here found.1);
       clean = after_next (status_tests sig) raws i raw lt is c.loop-raw.invariant.clean (found.0, ordered);
       statuses = λ f inside.

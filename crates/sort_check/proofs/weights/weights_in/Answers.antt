@@ -8,7 +8,7 @@ use Rattle.sort_check.specs.Answers.{Tells}
 use Rattle.sort_check.specs.Orders.{is_among, symbol_number, symbol_numbers, weight_in}
 use Rattle.sort_check.specs.OrderTests.{weighed_names, weight_tests}
 use Rattle.sort_check.specs.Marks.{AreMarks}
-use Rattle.sort_check.proofs.LineLoops.{written-whole, weighed-next, weights-next, weights-begin, all-made}
+use Rattle.sort_check.proofs.LineLoops.{slice-written, weighed-next, weights-next, weights-begin, all-made}
 use Rattle.sort_check.proofs.Telling.{answer_err, after_tells}
 use Rattle.sort_check.proofs.weights.weights_in.Goals as goal
 
@@ -54,22 +54,19 @@ loop-raw-preserved c =
     subst (AreMarks seen) (sym c.deref_mut.ensures.value) c.loop-raw.invariant.marks in
     let found = c.in_ok-symbol.ensures.answer (take i raws) marks in
     let new = c.take_symbol.new.taken in
-    let long : length new ≡ length c.loop-raw.taken.items =
-    c.take_symbol.auto.taken ∙ ap (λ ms. length ms) c.deref_mut.ensures.value in
-    let written : take c.loop-raw.taken.len (new ++ drop (length new) c.loop-raw.taken.items) ≡ new =
-    written-whole new c.loop-raw.taken.items c.loop-raw.taken.len
-    (omega (arith, c.take_symbol.auto.taken, c.deref_mut.ensures.len)) (omega (arith, long))
-    in
+    let written =
+    slice-written new c.deref_mut.result.now c.loop-raw.taken.items c.loop-raw.taken.len
+    c.deref_mut.ensures.value (omega (arith, c.deref_mut.ensures.len)) c.take_symbol.auto.taken in
     let within : g < length c.loop-raw.weights.items =
     omega (arith, c.in_ok-symbol.ensures.within, c.loop-raw.invariant.as_many) in
     let unseen : is_among g seen ≡ false =
     subst (λ k. is_among k seen ≡ false) here
     (false_from_ne_true (is_among (symbol_number sig raw.name) seen) found.0.1.0) in
     record {
-      long = ap (λ ms. length ms) written ∙ long ∙ c.loop-raw.invariant.long;
+      long = written.1 ∙ c.loop-raw.invariant.long;
       as_many = length-set c.loop-raw.weights.items g raw.weight ∙ c.loop-raw.invariant.as_many;
       marks =
-          subst (AreMarks (symbol_numbers sig (weighed_names (take (i + 1) raws)))) (sym written)
+          subst (AreMarks (symbol_numbers sig (weighed_names (take (i + 1) raws)))) (sym written.0)
           (weighed-next sig raws i raw lt is new found.1);
       clean = after_next (weight_tests sig) raws i raw lt is c.loop-raw.invariant.clean found.0;
       weights = λ f inside.
