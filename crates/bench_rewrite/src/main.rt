@@ -1,8 +1,8 @@
 //! Normal forms, and clauses that are compared, for the figures of `bench/run`.
 //!
-//! Uses spec_syntax, sort_check, path_order, clause_core and normalization. It normalizes the left
-//! side of a file's first goal, or compares two clauses without a file. The words are `normalize
-//! FILE BUDGET TIMES` or `compare one|all EQUATIONS TIMES`.
+//! Uses case_input, path_order, clause_core and normalization. It normalizes the left side of a
+//! file's first goal, or compares two clauses without a file. The words are `normalize FILE BUDGET
+//! TIMES` or `compare one|all EQUATIONS TIMES`.
 //!
 //! Proved: It is safe and ends.
 //!
@@ -13,15 +13,13 @@
 
 mod comparing;
 
-ghost use Rattle.std.specs.Prelude.{IfOk};
 ghost use Rattle.spec_core.specs.WellSorted.{IsWellSorted};
 
 use anyhow::{Context, Result, bail};
+use case_input::specification;
 use comparing::compared;
 use normalization::{Normal, Rewriter};
-use sort_check::elaborate;
 use spec_core::Spec;
-use spec_syntax::read;
 use std::alloc::Global;
 use std::{env, fs};
 
@@ -55,19 +53,6 @@ fn normalized_file(rt: HostRuntime, file: &str, budget: &String, times: &String)
 
 fn number(word: &String) -> Result<u32> {
     word.as_str().parse::<u32>().context("reading a number")
-}
-
-/// The specification of a text.
-fn specification(alloc: Global, bytes: &[u8]) -> Result<Spec>
-    ensures sorted { IfOk result (λ spec. IsWellSorted spec) }
-{
-    match read(alloc, bytes) {
-        Ok(raw) => match elaborate(alloc, &raw) {
-            Ok(spec) => Ok(spec),
-            Err(_) => bail!("the file isn't sorted"),
-        },
-        Err(_) => bail!("the file isn't read"),
-    }
 }
 
 /// How many uses the left side of the first goal's first conclusion takes, which is normalized so

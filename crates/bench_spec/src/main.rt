@@ -1,11 +1,11 @@
 //! Sorting, searches, evaluation, left sides and orderings, for the figures of `bench/run`.
 //!
-//! Uses spec_syntax, sort_check, ground_eval, refuter, overlap_check, coverage_check, path_order
-//! and kbo_order. `search FILE DEPTH TRIES` searches for counterexamples of a file's goals, and
-//! `eval FILE TERM BUDGET TIMES` evaluates a term. `MODE FILE TIMES` with the mode `sort` sorts
-//! the specification, with `overlap` compares its left sides, with `cover` asks whether they
-//! match all values, and with `order` compares its rules' sides in the path ordering. `above
-//! SHAPE SIZE TIMES` compares terms without a file; the shape is `deep`, `paired`, `wide` or
+//! Uses case_input, spec_syntax, sort_check, ground_eval, refuter, overlap_check, coverage_check,
+//! path_order and kbo_order. `search FILE DEPTH TRIES` searches for counterexamples of a file's
+//! goals, and `eval FILE TERM BUDGET TIMES` evaluates a term. `MODE FILE TIMES` with the mode
+//! `sort` sorts the specification, with `overlap` compares its left sides, with `cover` asks
+//! whether they match all values, and with `order` compares its rules' sides in the path ordering.
+//! `above SHAPE SIZE TIMES` compares terms without a file; the shape is `deep`, `paired`, `wide` or
 //! `weights`.
 //!
 //! Proved: It is safe and ends.
@@ -23,6 +23,7 @@ ghost use Rattle.spec_core.specs.WellSorted.{IsWellSorted};
 ghost use Rattle.sort_check.specs.Counted.{HasFewDeclarations};
 
 use anyhow::{Context, Result, bail};
+use case_input::specification;
 use coverage_check::{Coverage, covers, rows_of};
 use ground_eval::{Eval, eval};
 use overlap_check::{Linear, Overlap, linear, overlap};
@@ -121,19 +122,6 @@ fn raw_specification(alloc: Global, bytes: &[u8]) -> Result<RawSpec>
 {
     match read(alloc, bytes) {
         Ok(raw) => Ok(raw),
-        Err(_) => bail!("the file isn't read"),
-    }
-}
-
-/// The specification of a text.
-fn specification(alloc: Global, bytes: &[u8]) -> Result<Spec>
-    ensures sorted { IfOk result (λ spec. IsWellSorted spec) }
-{
-    match read(alloc, bytes) {
-        Ok(raw) => match elaborate(alloc, &raw) {
-            Ok(spec) => Ok(spec),
-            Err(_) => bail!("the file isn't sorted"),
-        },
         Err(_) => bail!("the file isn't read"),
     }
 }

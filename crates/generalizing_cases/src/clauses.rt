@@ -16,7 +16,7 @@ pub fn clauses(alloc: Global, spec: &Spec, names: &[&str]) -> Result<Vec<Clause>
 
 /// The clause of the goal of this name.
 pub fn clause(alloc: Global, spec: &Spec, name: &str) -> Result<Clause> {
-    for goal in spec.goals.as_slice() {
+    for goal in &spec.goals {
         if goal.name.as_bytes() == name.as_bytes() {
             return Ok(of_goal(alloc, goal)?);
         }

@@ -1,8 +1,8 @@
 //! What samples are, and which goals they refute.
 //!
-//! Uses spec_syntax, sort_check, clause_core and sample_values. Its `stdin` has a specification, up
-//! to a line `end`. It prints twelve random values of each sort, and then which goals are refuted,
-//! with the random numbers begun again before each sort and each goal.
+//! Uses case_input, clause_core and sample_values. Its `stdin` has a specification, up to a line
+//! `end`. It prints twelve random values of each sort, and then which goals are refuted, with the
+//! random numbers begun again before each sort and each goal.
 //!
 //! Proved: It is safe and ends.
 //!
@@ -10,20 +10,20 @@
 #![tactic(auto)]
 
 mod printing;
-mod specification;
 
 use anyhow::Result;
+use case_input::{specification, text_of};
 use clause_core::of_goal;
 use sample_values::Samples;
 use spec_core::Spec;
 use std::alloc::Global;
-use std::io::{BufRead, BufReader, Lines};
+use std::io::{BufRead, BufReader};
 use term_core::SortId;
 
 fn main(rt: HostRuntime) -> Result<()> {
     let alloc = rt.alloc();
     let text = input_text(rt)?;
-    let spec = specification::specification(alloc, &text)?;
+    let spec = specification(alloc, &text)?;
     let mut samples = Samples::new(alloc, &spec)?;
     print_values(rt, &mut samples)?;
     print_goals(rt, &spec, &mut samples)
@@ -42,7 +42,7 @@ fn print_values(rt: HostRuntime, samples: &mut Samples) -> Result<()> {
 /// Prints of each goal whether it is refuted.
 fn print_goals(rt: HostRuntime, spec: &Spec, samples: &mut Samples) -> Result<()> {
     let alloc = rt.alloc();
-    for goal in spec.goals.as_slice() {
+    for goal in &spec.goals {
         let clause = of_goal(alloc, goal)?;
         samples.restart();
         let refuted = samples.refutes(alloc, &clause, 20, 300)?;
@@ -57,18 +57,4 @@ fn input_text(rt: HostRuntime) -> Result<Vec<u8>> {
     let alloc = rt.alloc();
     let mut lines = BufReader::new(alloc, rt.reader())?.lines(alloc);
     text_of(alloc, &mut lines)
-}
-
-/// The lines up to one that is `end`, which is dropped.
-fn text_of<R: BufRead + Drop>(alloc: Global, lines: &mut Lines<R>) -> Result<Vec<u8>> {
-    let mut text = Vec::new(alloc);
-    while let Some(line) = lines.next() {
-        let line = line?;
-        if line.as_str() == "end" {
-            break;
-        }
-        text.extend_from_slice(line.as_str().as_bytes())?;
-        text.push(b'\n')?;
-    }
-    Ok(text)
 }

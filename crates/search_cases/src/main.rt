@@ -1,9 +1,9 @@
 //! Searches compared with plain programs that do what the definitions of the searches say.
 //!
-//! Uses spec_syntax, sort_check, value_bank, ground_eval and refuter. It prints where they
-//! differ. Its `stdin` has specifications, each up to a line `end`. For each goal the search for
-//! a counterexample is compared with a walk of the list of substitutions (`searches.rt`), at each
-//! depth up to 5, with up to 40 tries. A line that begins with `case` is no part of a
+//! Uses case_input, spec_syntax, sort_check, value_bank, ground_eval and refuter. It prints where
+//! they differ. Its `stdin` has specifications, each up to a line `end`. For each goal the search
+//! for a counterexample is compared with a walk of the list of substitutions (`searches.rt`), at
+//! each depth up to 5, with up to 40 tries. A line that begins with `case` is no part of a
 //! specification: it has an evaluation or a verdict that was worked by hand (`cases.rt`).
 //!
 //! Proved: It is safe and ends.
@@ -16,11 +16,11 @@ mod cases;
 mod plain_values;
 mod rows;
 mod searches;
-mod specification;
 mod values;
 mod walks;
 
 use anyhow::Result;
+use case_input::specification;
 use std::alloc::Global;
 use std::io::{BufRead, BufReader, Lines};
 
@@ -78,7 +78,7 @@ fn compared_goals(
     cases: &[String],
     otherwise: &mut Vec<String>,
 ) -> Result<usize> {
-    let spec = specification::specification(alloc, text)?;
+    let spec = specification(alloc, text)?;
     searches::compare(alloc, &spec, otherwise)?;
     for case in cases {
         if !cases::holds(alloc, &spec, case.as_str())? {

@@ -1,6 +1,6 @@
 use Rattle.spec_grammar.proofs.KeepsLimits.{keeps_limits}
 use Rattle.sort_check.proofs.FewDeclarations.{few_declarations}
-use Rattle.search_cases.proofs.specification.specification.Goals as goal
+use Rattle.case_input.proofs.specifications.specification.Goals as goal
 
 pub elaborate-requires : goal.elaborate-requires
 elaborate-requires c = record {
