@@ -35,7 +35,7 @@ one_bounds rows a b are are_too =
     let steps = one_number rows _ _ a.steps b.steps are.steps are_too.steps in
     rw (depth, tries, steps) refl
 
-one_proof_bounds : (rows : List Row) (a b : ProofBounds) → AreProofBounds rows a → AreProofBounds rows b → a ≡ b
+pub one_proof_bounds : (rows : List Row) (a b : ProofBounds) → AreProofBounds rows a → AreProofBounds rows b → a ≡ b
 one_proof_bounds rows a b are are_too =
     let search_too = one_bounds rows a.search b.search are.search are_too.search in
     let plain = one_number rows _ _ a.plain b.plain are.plain are_too.plain in

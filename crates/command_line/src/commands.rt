@@ -154,7 +154,7 @@ fn asked<'a>(command: CommandWord, matches: &ArgMatches<'a>) -> Request<'a>
 }
 
 /// How far the search for counterexamples and then for proofs goes.
-fn proof_bounds_of(matches: &ArgMatches<'_>) -> ProofBounds
+pub fn proof_bounds_of(matches: &ArgMatches<'_>) -> ProofBounds
     requires { HasSomeProofBounds (rows_of (found_of matches.now)) }
     ensures { AreProofBounds (rows_of (found_of matches.now)) result }
 {

@@ -26,7 +26,7 @@ mod table;
 
 pub use arguments::{flag, is_given, number, number_of, option, word, word_of};
 pub use bounds::{ProofBounds, SearchBounds};
-pub use commands::{Command, Request, request_of};
+pub use commands::{Command, Request, proof_bounds_of, request_of};
 pub use laws::{one_request, worked_examples};
 pub use matching::{Reading, asks_for_help, reading_of};
 pub use ranges::{

@@ -1,4 +1,4 @@
 -- What the proofs of this crate share.
 mod AcceptedClaims
 mod Differences
-mod Lists
+pub mod Lists

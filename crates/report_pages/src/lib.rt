@@ -9,7 +9,7 @@
 //! asked for and how its claim ends, and a section for each claim: the tree of its proof over the
 //! goals that the claims before it prove; or the values under which it fails, and for each side its
 //! value and cost by evaluation, with the first place marked at which two values differ; or how far
-//! it was tried. `worked_examples`.
+//! it was tried. `draw_values`: a line for each variable's value. `worked_examples`.
 //!
 //! Neither: That the path to the first difference leads to terms that differ.
 #![tactic(auto, using(page_core::proofs::Pages::drawing))]
@@ -24,4 +24,5 @@ mod pages;
 mod refuting;
 
 pub use laws::worked_examples;
-pub use pages::report_page;
+pub use pages::{draw_title, is_asked, report_page};
+pub use refuting::draw_values;

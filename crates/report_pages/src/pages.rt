@@ -67,7 +67,8 @@ fn draw_page<O: TermOrder>(
     page.end(Part::Document)
 }
 
-fn draw_title(page: &mut Page, title: &str) -> Result<(), OutOfMemory>
+/// Draws the title.
+pub fn draw_title(page: &mut Page, title: &str) -> Result<(), OutOfMemory>
     ensures { OnOk result (page.new ≡ after page.old (title_events title.now)) }
 {
     page.begin(Part::Heading)?;
@@ -105,7 +106,7 @@ fn some_asked(asked: Option<&str>, claims: &[Claim]) -> bool
 }
 
 /// Whether the claim is on a goal that is asked for.
-fn is_asked(asked: Option<&str>, claim: &Claim) -> bool
+pub fn is_asked(asked: Option<&str>, claim: &Claim) -> bool
     ensures { result ≡ is_asked_for (option_map (λ name. name.now) asked.entry) claim.now }
 {
     match asked {

@@ -58,7 +58,7 @@ pub(crate) fn draw_refuted(
 }
 
 /// Draws a line with each variable's value.
-fn draw_values(
+pub fn draw_values(
     alloc: Global,
     page: &mut Page,
     sig: &Signature,

@@ -11,3 +11,5 @@ pub mod OutcomesStand
 pub mod Shown
 -- Reports of searches.
 mod SearchReports
+-- what a claim says by its outcome
+mod FoundOrNot

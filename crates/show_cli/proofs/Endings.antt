@@ -18,15 +18,27 @@ use Rattle.file_replies.specs.declared.stops.Stop.{Stop}
 use Rattle.file_replies.specs.declared.stops.Stop.TheVariants.{ReadFault, WriteFault, OutOfMemory}
 use Rattle.file_replies.specs.Parts.{AppendsPartOf}
 use Rattle.file_replies.specs.Reads.{AreTextOf}
-use Rattle.file_replies.specs.Replies.{IsFileReply, IsFileReplyText}
 use Rattle.file_replies.specs.Stops.{FinishesReading, Refuses, status_ended, status_of_stop}
-use Rattle.file_replies.proofs.Endings.{line_ends, line_told, status_of_reply}
+use Rattle.file_replies.proofs.Endings.{IsStatusOfReply, line_ends, line_told, status_of_reply}
 use Rattle.file_replies.proofs.Pieces.{part_of}
-use Rattle.show_words.specs.Words.{Task, Asks}
+use Rattle.show_words.specs.Words.{Task, View, page, open_goals, Asks}
+use Rattle.show_cli.specs.Ends.{IsEnd, IsEndText, IsView, no_goal, view}
 use Rattle.show_cli.specs.Pages.{IsPage}
 use Rattle.show_cli.specs.Runs.{MayWriteFor, refusal, on_spec, Ended, RefusedBytes, ReadsFile, MayWrite, for_file}
 use Rattle.show_cli.specs.Runs.{Means}
 use Rattle.show_cli.specs.Stops.{MeansFor}
+
+-- what is written for a specification has a status of a reply
+module _ (held : List ℕ → Option (List ℕ)) (task : Task) (spec : Spec) where
+  status_of_view :
+      (v : View) (text : List ℕ) (s : Status) → IsView held task spec v text s → IsStatusOfReply s
+  status_of_view (page form report) text s is =
+      status_of_reply (IsPage form task.file task.goal) spec (held report) text s is
+  status_of_view (open_goals bounds) text s is = subst IsStatusOfReply (sym is.1) tt
+
+  status_of_end : (text : List ℕ) (s : Status) → IsEnd held task spec text s → IsStatusOfReply s
+  status_of_end text s (no_goal none) = tt
+  status_of_end text s (view has is) = status_of_view task.view text s is
 
 module _
     (held : List ℕ → Option (List ℕ)) (task : Task) (bytes : List ℕ) (reads reads' : ℕ)
@@ -52,47 +64,47 @@ module _
       part_of (IsLineOf r) (MayWriteFor held task bytes) old new
       (λ t is. refusal (line_told (IsRefusalOf bytes) r told t is)) h
 
-  -- the reply to a report on the specification of the bytes
+  -- what is written for the specification of the bytes
   module _ (raw : RawSpec) (spec : Spec) (accepted : IsAcceptedAs bytes raw spec) where
     made :
-        (s : Status) (text : List ℕ) → IsFileReply (IsPage task) spec (held task.report) text s →
+        (s : Status) (text : List ℕ) → IsEnd held task spec text s →
         Appended old new text → Ended held task bytes old new s
     made s text is done =
         record { raw = raw; spec = spec; accepted = accepted; text = text; is_end = is; appended = done }
 
     -- written whole
     pub finished_means :
-        (s : Status) (text : List ℕ) → IsFileReply (IsPage task) spec (held task.report) text s →
+        (s : Status) (text : List ℕ) → IsEnd held task spec text s →
         Appended old new text → MeansFor held task bytes reads reads' old new writes writes' s
     finished_means status.Done text is done = made status.Done text is done
     finished_means status.Refused text is done = inr (made status.Refused text is done)
     finished_means status.No text is done = made status.No text is done
     finished_means status.Refuted text is done =
-        status_of_reply (IsPage task) spec (held task.report) text status.Refuted is
+        status_of_end held task spec text status.Refuted is
     finished_means status.Open text is done =
-        status_of_reply (IsPage task) spec (held task.report) text status.Open is
+        status_of_end held task spec text status.Open is
     finished_means status.ReadFault text is done =
-        absurd (status_of_reply (IsPage task) spec (held task.report) text status.ReadFault is)
+        absurd (status_of_end held task spec text status.ReadFault is)
     finished_means status.WriteFault text is done =
-        absurd (status_of_reply (IsPage task) spec (held task.report) text status.WriteFault is)
+        absurd (status_of_end held task spec text status.WriteFault is)
     finished_means status.Usage text is done =
-        status_of_reply (IsPage task) spec (held task.report) text status.Usage is
+        status_of_end held task spec text status.Usage is
     finished_means status.OutOfMemory text is done =
-        absurd (status_of_reply (IsPage task) spec (held task.report) text status.OutOfMemory is)
+        absurd (status_of_end held task spec text status.OutOfMemory is)
 
     part :
-        AppendsPartOf (IsFileReplyText (IsPage task) spec (held task.report)) old new →
+        AppendsPartOf (IsEndText held task spec) old new →
         AppendsPartOf (MayWriteFor held task bytes) old new
     part p =
-        part_of (IsFileReplyText (IsPage task) spec (held task.report)) (MayWriteFor held task bytes)
+        part_of (IsEndText held task spec) (MayWriteFor held task bytes)
         old new (λ t b. on_spec raw spec accepted b) p
 
     -- stopped before its end
     pub stopped_means :
         (stop : Stop) (result : Status) →
         FinishesReading old new writes writes' reads reads'
-        (IsFileReply (IsPage task) spec (held task.report))
-        (IsFileReplyText (IsPage task) spec (held task.report)) (Err stop) →
+        (IsEnd held task spec)
+        (IsEndText held task spec) (Err stop) →
         result ≡ status_of_stop stop →
         MeansFor held task bytes reads reads' old new writes writes' result
     stopped_means stop result s e =
@@ -101,8 +113,8 @@ module _
         by :
             (stop : Stop) →
             FinishesReading old new writes writes' reads reads'
-            (IsFileReply (IsPage task) spec (held task.report))
-            (IsFileReplyText (IsPage task) spec (held task.report)) (Err stop) →
+            (IsEnd held task spec)
+            (IsEndText held task spec) (Err stop) →
             MeansFor held task bytes reads reads' old new writes writes' (status_of_stop stop)
         by ReadFault s = s
         by WriteFault s = (s.0, part s.1)

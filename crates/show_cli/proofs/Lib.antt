@@ -1,2 +1,5 @@
-mod Endings
 mod Askings
+mod ClaimedGoals
+mod Endings
+mod Viewings
+mod ViewsWithin

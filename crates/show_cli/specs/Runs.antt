@@ -11,8 +11,7 @@ use Rattle.file_replies.specs.declared.statuses.Status.TheVariants.{Done, Refuse
 use Rattle.file_replies.specs.declared.statuses.Status.TheVariants.{ReadFault, WriteFault, Usage, OutOfMemory}
 use Rattle.file_replies.specs.Parts.{AppendsPartOf}
 use Rattle.file_replies.specs.Reads.{AreTextOf, PassesItsLimit}
-use Rattle.file_replies.specs.Replies.{IsFileReply, IsFileReplyText}
-use Rattle.show_cli.specs.Pages.{IsPage}
+use Rattle.show_cli.specs.Ends.{IsEnd, IsEndText, further_files}
 use Rattle.show_words.specs.Usage.{help_text, usage_line}
 use Rattle.show_words.specs.Words.{Task, Asks, AskForHelp, AskNothing}
 
@@ -25,27 +24,26 @@ module _ (held : List ℕ → Option (List ℕ)) (task : Task) (bytes : List ℕ
   pub data MayWriteFor : List ℕ → Type 0 where
     refusal : {line : List ℕ} → IsRefusalOf bytes line → MayWriteFor line
     on_spec : (raw : RawSpec) (spec : Spec) {text : List ℕ}
-        → IsAcceptedAs bytes raw spec → IsFileReplyText (IsPage task) spec (held task.report) text
-        → MayWriteFor text
+        → IsAcceptedAs bytes raw spec → IsEndText held task spec text → MayWriteFor text
 
   module _ (old new : Option (List ℕ)) where
-    -- the reply to the report on the bytes' specification was appended, with this status: the page if
-    -- the report is accepted
+    -- what is written for the bytes' specification was appended, with this status
     pub record Ended (status : Status) : Type 0 where
       pub raw : RawSpec
       pub spec : Spec
       pub accepted : IsAcceptedAs bytes raw spec
       pub text : List ℕ
-      pub is_end : IsFileReply (IsPage task) spec (held task.report) text status
+      pub is_end : IsEnd held task spec text status
       pub appended : Appended old new text
 
-    -- the line for bytes that aren't accepted was appended, or the one for a report that is too long
+    -- the line for bytes that aren't accepted was appended, or the one for a goal that isn't there or for a
+    -- report that is too long
     abbrev pub RefusedBytes : Type 0
     RefusedBytes =
         ((line : List ℕ) × IsRefusalOf bytes line × Appended old new line) ⊎ Ended Refused
 
 module _ (words : List (List ℕ)) (held : List ℕ → Option (List ℕ)) where
-  -- the words ask for a page on a file that isn't too long, and this is so of the page and the bytes
+  -- the words ask for a task on a file that isn't too long, and this is so of the task and the bytes
   pub record ReadsFile (Holds : Task → List ℕ → Type 0) : Type 0 where
     pub task : Task
     pub asked : Asks words task
@@ -53,7 +51,7 @@ module _ (words : List (List ℕ)) (held : List ℕ → Option (List ℕ)) where
     pub read : AreTextOf (held task.file) bytes
     pub holds : Holds task bytes
 
-  -- the words ask for a page on a file that is too long
+  -- the words ask for a task on a file that is too long
   abbrev pub IsTooLong : Type 0
   IsTooLong = (task : Task) × Asks words task × PassesItsLimit (held task.file)
 
@@ -83,14 +81,14 @@ module _ (words : List (List ℕ)) (held : List ℕ → Option (List ℕ)) where
   Means reads reads' old new writes writes' OutOfMemory = AppendsPartOf MayWrite old new
   Means reads reads' old new writes writes' _ = ⊥
 
-  -- the names that a call asks for, in their order: none; the file; or the file and the report, if the
-  -- file's text is accepted
+  -- the names that a call asks for, in their order: none; the file; or the file and those that are read
+  -- beside it, if the file's text is accepted
   pub data AreAsked : List (List ℕ) → Type 0 where
     no_file : AreAsked []
     one_file : (task : Task) → Asks words task → AreAsked (task.file ∷ [])
-    both_files : (task : Task) (bytes : List ℕ) → Asks words task
+    all_files : (task : Task) (bytes : List ℕ) → Asks words task
         → AreTextOf (held task.file) bytes → IsAccepted bytes
-        → AreAsked (task.file ∷ task.report ∷ [])
+        → AreAsked (task.file ∷ further_files task.view)
 
   -- such names were added to those that were asked for before
   abbrev pub AsksFiles : List (List ℕ) → List (List ℕ) → Type 0

@@ -4,6 +4,7 @@ pub mod ClaimLemmas
 pub mod TrueClaims
 pub mod AcceptedClaims
 pub mod ReportedClaims
+pub mod NextClaims
 pub mod Unproved
 pub mod CheckLines
 pub mod Endings

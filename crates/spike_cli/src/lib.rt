@@ -21,12 +21,14 @@
 //! number of goals lead to is one thing: `one_ending`, `one_replay`, `one_trim`, `one_session`,
 //! `one_load`, `one_right_report`. `search_alone_proves_nothing`, `finished_reports_are_accepted`,
 //! `finished_runs_are_replayed`, `upgrades_keep_meaning`, `upgraded_runs_answer_the_same`.
-//! `usual_report`: the report of `prove` with the usual numbers, in memory. `Status::code`.
+//! `usual_report`: the report of `prove` with the usual numbers, in memory. `claims_of`: the claims
+//! of `prove`, in memory. `Status::code`.
 //!
 //! Tested: Reports and refusals byte by byte, faults in mid-stream, words.
 #![tactic(auto)]
 
 mod checking;
+mod claiming;
 mod claims;
 mod evaluating;
 mod laws;
@@ -36,6 +38,7 @@ mod reporting;
 mod running;
 mod sessions;
 
+pub use claiming::claims_of;
 pub use file_replies::{MAX_REPORT_BYTES, Status};
 pub use laws::{
     finished_reports_are_accepted, finished_runs_are_replayed, one_ending, one_load, one_replay,

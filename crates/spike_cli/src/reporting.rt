@@ -140,7 +140,7 @@ fn with_claim(status: Status, outcome: &Outcome) -> Status
 }
 
 /// Adds the number of a goal if its claim proves it.
-fn add_proved(proved: &mut Vec<u32>, number: u32, outcome: &Outcome) -> Result<(), OutOfMemory>
+pub fn add_proved(proved: &mut Vec<u32>, number: u32, outcome: &Outcome) -> Result<(), OutOfMemory>
     ensures { OnOk result (proved.new.items ≡
         proved.old.items ++ number_proved number outcome.now) }
 {

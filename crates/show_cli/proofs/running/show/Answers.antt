@@ -6,8 +6,9 @@ use Rattle.show_words.specs.Requests.{task_of}
 use Rattle.show_words.specs.Words.{Asks}
 use Rattle.show_cli.specs.Runs.{IsTooLong, too_long, too_long_line}
 use Rattle.show_cli.specs.Stops.{MeansFor}
-use Rattle.show_cli.proofs.Askings.{asked_both, asked_first, asked_or_not}
+use Rattle.show_cli.proofs.Askings.{asked_all, asked_first, asked_or_not}
 use Rattle.show_cli.proofs.Endings.{file_means, line_means}
+use Rattle.show_cli.proofs.ViewsWithin.{view_within}
 use Rattle.show_cli.proofs.running.show.Goals as goal
 
 pub returns-in-Ok-clause-means : goal.returns-in-Ok-clause-means
@@ -22,13 +23,13 @@ returns-in-Ok-clause-means g c =
     let read = read_bytes held task.file task.file c.in-Ok.bytes.items c.deref.result.now refl
     c.deref.ensures.value c.in-Ok.ensures.told c.in-Ok.ensures.within in
     let means = subst (λ (h : List ℕ → Option (List ℕ)). MeansFor h task c.deref.result.now
-    (g.F.Files.faults c.read_text.new.files) (g.F.Files.faults c.show_report.new.files)
-    (g.S.Sink.written c.args.out.now) (g.S.Sink.written c.show_report.new.out)
-    (g.S.Sink.faults c.args.out.now) (g.S.Sink.faults c.show_report.new.out)
-    c.show_report.result) same c.show_report.ensures.means in
+    (g.F.Files.faults c.read_text.new.files) (g.F.Files.faults c.show_bytes.new.files)
+    (g.S.Sink.written c.args.out.now) (g.S.Sink.written c.show_bytes.new.out)
+    (g.S.Sink.faults c.args.out.now) (g.S.Sink.faults c.show_bytes.new.out)
+    c.show_bytes.result) same c.show_bytes.ensures.means in
     file_means words held (g.F.Files.faults c.args.files.now)
-    (g.F.Files.faults c.show_report.new.files) _ _ _ _ task c.deref.result.now asks read
-    (g.F.Files.faults c.read_text.new.files) c.in-Ok.ensures.counts c.show_report.result means
+    (g.F.Files.faults c.show_bytes.new.files) _ _ _ _ task c.deref.result.now asks read
+    (g.F.Files.faults c.read_text.new.files) c.in-Ok.ensures.counts c.show_bytes.result means
 
 pub returns-in-Ok-clause-asked : goal.returns-in-Ok-clause-asked
 returns-in-Ok-clause-asked g c =
@@ -37,8 +38,8 @@ returns-in-Ok-clause-asked g c =
     let held : List ℕ → Option (List ℕ) = λ name. g.F.Files.held c.args.files.now name in
     let read = read_bytes held task.file task.file c.in-Ok.bytes.items c.deref.result.now refl
     c.deref.ensures.value c.in-Ok.ensures.told c.in-Ok.ensures.within in
-    asked_both words held task c.requires _ _ _ c.deref.result.now read c.in-Ok.ensures.asks
-    c.show_report.ensures.asked
+    asked_all words held task c.requires _ _ _ c.deref.result.now read c.in-Ok.ensures.asks
+    c.show_bytes.ensures.asked
 
 pub returns-in-Err-TooLong-clause-means : goal.returns-in-Err-TooLong-clause-means
 returns-in-Err-TooLong-clause-means g c =
@@ -73,3 +74,7 @@ returns-in-Err-OutOfMemory-clause-asked g c =
     asked_or_not words (g.F.Files.held c.args.files.now) (task_of c.args.command.now) c.requires
     (g.F.Files.asked c.args.files.now) (g.F.Files.asked c.read_text.new.files)
     (c.in-Err-OutOfMemory.ensures.asks_memory (ap (λ e. Err e) c.in-Err-OutOfMemory.field-0-is))
+
+pub show_bytes-requires-clause-within : goal.show_bytes-requires-clause-within
+show_bytes-requires-clause-within g c =
+    view_within (map string_bytes c.args.words.now) (task_of c.args.command.now) c.requires

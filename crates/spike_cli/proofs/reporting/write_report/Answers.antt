@@ -23,8 +23,8 @@ use Rattle.file_replies.specs.declared.stops.Stop.TheVariants.{OutOfMemory}
 use Rattle.search_claims.proofs.FirstClaims.{claims_more, first_claims}
 use Rattle.spike_cli.proofs.AcceptedClaims.{lemmas_of_next, report_accepted}
 use Rattle.spike_cli.proofs.ClaimLemmas.{status_more, status_of_goals}
-use Rattle.spike_cli.proofs.ProvedGoals.{proved-append}
-use Rattle.spike_cli.proofs.ReportedClaims.{as_many, report_stands, report_short}
+use Rattle.spike_cli.proofs.NextClaims.{listed, proved_next}
+use Rattle.spike_cli.proofs.ReportedClaims.{report_stands, report_short}
 use Rattle.file_replies.specs.Reads.{most_report_bytes}
 use Rattle.proof_script.specs.Texts.{IsReportText}
 use Rattle.spike_cli.proofs.BegunTexts.{begun_text-more, begun_text-whole}
@@ -58,13 +58,6 @@ loop-number-init g c = rw (← c.admitted.view_is) (
   c.in_ok-write_header.ensures.writes,
   c.new-proved.ensures.items,
 )
-
--- the goal that is read, as one of the specification's
-listed :
-    (goals items : List Goal) (i : ℕ) (one : Goal) → items ≡ goals → i < length items →
-    one ≡ get_or items i one → slice_get goals i ≡ Some one
-listed goals items i one same h is =
-    subst (λ gs. slice_get gs i ≡ Some one) same (slice_get_read items _ i one refl h is)
 
 pub write_claim-requires-clause-listed : goal.write_claim-requires-clause-listed
 write_claim-requires-clause-listed g c =
@@ -184,18 +177,7 @@ loop-number-preserved g c =
     (c.deref.ensures.value ∙ i.5) is_claim in
     let lt : number < length spec.goals =
     subst (λ gs. number < length gs) c.as_slice-goal-items.ensures c.loop-number-test.true in
-    let count : length i.0 ≡ number =
-    omega (
-      arith,
-      as_many (IsNextClaim bounds spec) [] (take number spec.goals) i.0 i.1,
-      length-take number spec.goals,
-      lt,
-    ) in
-    let kept : proved_goals i.0 ++ number_proved number claim.outcome ≡ proved_goals
-    (i.0 ++ claim ∷ []) =
-    let n : number ≡ 0 + length i.0 = omega (arith, count) in
-    ap (λ k. proved_goals i.0 ++ number_proved k claim.outcome) n
-    ∙ sym (proved-append 0 i.0 claim) in
+    let kept = proved_next (IsNextClaim bounds spec) spec.goals number i.0 claim lt i.1 in
     rw (← c.admitted.view_is) (
       i.0 ++ claim ∷ [],
       claims_more (IsNextClaim bounds spec) spec.goals number c.goal-item.result [] i.0 claim at
