@@ -85,6 +85,7 @@ fn bounds_of(command: &Command) -> ExploreBounds {
         work: u64::from(command.work),
         size: command.size,
         samples: command.samples,
+        with_lemmas: !command.no_lemmas,
     }
 }
 

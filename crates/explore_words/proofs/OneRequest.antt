@@ -30,6 +30,7 @@ one_said rows task other form says says_too =
     let work = one_number rows _ _ task.work other.work says.work says_too.work in
     let size = one_number rows _ _ task.size other.size says.size says_too.size in
     let samples = one_number rows _ _ task.samples other.samples says.samples says_too.samples in
+    let no_lemmas = one_flag _ task.no_lemmas other.no_lemmas says.no_lemmas says_too.no_lemmas in
     let quiet = one_flag _ task.quiet other.quiet says.quiet says_too.quiet in
     λ i. record {
       form = form i;
@@ -38,6 +39,7 @@ one_said rows task other form says says_too =
       work = work i;
       size = size i;
       samples = samples i;
+      no_lemmas = no_lemmas i;
       quiet = quiet i;
     }
 

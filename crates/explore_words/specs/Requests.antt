@@ -14,6 +14,7 @@ task_of command = record {
   work = command.work;
   size = command.size;
   samples = command.samples;
+  no_lemmas = command.no_lemmas;
   quiet = command.quiet;
 }
 

@@ -19,6 +19,7 @@ pub record Task : Type 0 where
   pub work : ℕ
   pub size : ℕ
   pub samples : ℕ
+  pub no_lemmas : Bool
   pub quiet : Bool
 
 abbrev pub work_range : NumberRange
@@ -30,14 +31,15 @@ size_range = record { least = 1; most = 12 }
 abbrev pub samples_range : NumberRange
 samples_range = record { least = 1; most = 200 }
 
--- `text FILE [--goal NAME] [--work W] [--size S] [--samples N] [--quiet]`, with this command word in the
--- place of `text`
+-- `text FILE [--goal NAME] [--work W] [--size S] [--samples N] [--no-lemmas] [--quiet]`, with this
+-- command word in the place of `text`
 abbrev pub app_named : Text → App
 app_named name = with_rules (new_app name)
     (word_rule (codes "FILE") ∷ option_rule (codes "goal")
     ∷ number_rule (codes "work") work_range (codes "1000000")
     ∷ number_rule (codes "size") size_range (codes "7")
-    ∷ number_rule (codes "samples") samples_range (codes "30") ∷ flag_rule (codes "quiet") ∷ [])
+    ∷ number_rule (codes "samples") samples_range (codes "30") ∷ flag_rule (codes "no-lemmas")
+    ∷ flag_rule (codes "quiet") ∷ [])
 
 abbrev pub command_word : Form → Text
 command_word WholeText = codes "text"
@@ -53,6 +55,7 @@ pub record Say (rows : List Row) (task : Task) : Type 0 where
   pub work : HasNumber rows (codes "work") work_range task.work
   pub size : HasNumber rows (codes "size") size_range task.size
   pub samples : HasNumber rows (codes "samples") samples_range task.samples
+  pub no_lemmas : IsTrue task.no_lemmas ↔ IsGiven rows (codes "no-lemmas")
   pub quiet : IsTrue task.quiet ↔ IsGiven rows (codes "quiet")
 
 -- the words ask for this exploration

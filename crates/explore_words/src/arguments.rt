@@ -19,6 +19,7 @@ pub fn app<'a>(alloc: Global, name: &'a str) -> Result<clap::Command<'a>, OutOfM
         .arg(number(alloc, "work", WORK, USUAL_WORK))?
         .arg(number(alloc, "size", SIZES, USUAL_SIZE))?
         .arg(number(alloc, "samples", SAMPLES, USUAL_SAMPLES))?
+        .arg(flag(alloc, "no-lemmas"))?
         .arg(flag(alloc, "quiet"))?;
     Ok(app)
 }

@@ -2,7 +2,7 @@
 
 use command_line::NumberRange;
 
-/// How many units of work a phase may take.
+/// How many units of work a stage may take.
 pub const WORK: NumberRange = NumberRange {
     least: 0,
     most: 1_000_000_000,

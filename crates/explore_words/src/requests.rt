@@ -38,12 +38,14 @@ pub struct Command<'a> {
     pub file: &'a str,
     /// The name of the goal for which lemmas are looked for; none: for all goals.
     pub goal: Option<&'a str>,
-    /// How many units of work each phase may take.
+    /// How many units of work each stage may take.
     pub work: u32,
     /// The size of the greatest terms that are compared.
     pub size: u32,
     /// On how many random values terms are compared.
     pub samples: u32,
+    /// Whether no lemmas are looked for: each goal is tried alone.
+    pub no_lemmas: bool,
     /// Whether nothing is said of the progress.
     pub quiet: bool,
 }
@@ -101,6 +103,7 @@ fn command_of<'a>(form: Form, matches: &ArgMatches<'a>) -> Command<'a>
         work: number_of(matches, "work", WORK),
         size: number_of(matches, "size", SIZES),
         samples: number_of(matches, "samples", SAMPLES),
+        no_lemmas: is_given(matches, "no-lemmas"),
         quiet: is_given(matches, "quiet"),
     }
 }

@@ -4,29 +4,33 @@ ghost use Rattle.spec_core.specs.WellSorted.{IsWellSorted};
 
 use crate::finder::Finder;
 use anyhow::{Context, Result, bail};
+use case_input::Case;
 use path_order::Lpo;
 use spec_core::Spec;
 use std::alloc::Global;
 use term_core::Name;
 
-/// Whether the case comes out as it is written. It is one of these, where terms and clauses are
-/// written without blanks, with `x0`, `x1` and so on for variables:
-///
-/// - `case scope GOAL 0 -> SYMBOL ..`
-/// - `case terms GOAL SIZE -> TERM ..`, the representatives of this size
-/// - `case candidates GOAL SIZE -> CLAUSE ..`, those that terms of this size give
-/// - `case given GOAL SIZE -> yes`, or `no`: whether the goal is one of these
-/// - `case conditional GOAL SIZE -> yes`, or `no`: whether it is one with a premise, once this size
-///   is done
-pub fn holds(alloc: Global, spec: &Spec, words: &[&str]) -> Result<bool>
-    requires fine { IsWellSorted spec.now }
-{
-    let ["case", question, name, size, "->", answer @ ..] = words else {
-        bail!("this is no case");
-    };
-    let size = size.parse::<u32>()?;
-    let found = found(alloc, spec, name, question, size)?;
-    Ok(are_same(&found, answer))
+/// Cases of finding lemmas.
+pub struct Finding;
+
+impl Case for Finding {
+    /// Whether the case comes out as it is written. It is one of these, where terms and clauses are
+    /// written without blanks, with `x0`, `x1` and so on for variables:
+    ///
+    /// - `case scope GOAL 0 -> SYMBOL ..`
+    /// - `case terms GOAL SIZE -> TERM ..`, the representatives of this size
+    /// - `case candidates GOAL SIZE -> CLAUSE ..`, those that terms of this size give
+    /// - `case given GOAL SIZE -> yes`, or `no`: whether the goal is one of these
+    /// - `case conditional GOAL SIZE -> yes`, or `no`: whether it is one with a premise, once this
+    ///   size is done
+    fn holds(alloc: Global, spec: &Spec, words: &[&str]) -> Result<bool> {
+        let ["case", question, name, size, "->", answer @ ..] = words else {
+            bail!("this is no case");
+        };
+        let size = size.parse::<u32>()?;
+        let found = found(alloc, spec, name, question, size)?;
+        Ok(are_same(&found, answer))
+    }
 }
 
 /// What comes out for the goal of this name.

@@ -22,7 +22,7 @@ pub fn term_text(alloc: Global, sig: &Signature, term: &Term) -> Result<String> 
 /// The premises, `=>` after each of them, and the conclusions with `|` between them.
 pub fn clause_text(alloc: Global, sig: &Signature, clause: &Clause) -> Result<String> {
     let mut text = String::new(alloc);
-    for premise in clause.premises.as_slice() {
+    for premise in &clause.premises {
         add_equation(sig, premise, &mut text)?;
         text.push_str("=>")?;
     }

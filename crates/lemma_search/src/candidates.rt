@@ -3,6 +3,7 @@
 use crate::bounds::{MOST_LEMMAS, ROUNDS};
 use crate::exploring::Explorer;
 use crate::progress::Progress;
+use spec_core::Goal;
 use std::alloc::Global;
 use term_classes::Candidate;
 use term_core::OutOfMemory;
@@ -20,44 +21,58 @@ pub(crate) struct Waiting {
 }
 
 impl<'a> Explorer<'a> {
-    /// Tries the candidates, and then those that wait as long as lemmas appear. Answers how many
-    /// lemmas there are more.
+    /// Tries the candidates, then those that wait as long as lemmas appear, and then the goal.
+    /// Answers what waits now.
     pub(crate) fn try_all<P: Progress>(
         &mut self,
         alloc: Global,
+        goal: &Goal,
         fresh: Vec<Candidate>,
         waiting: Vec<Waiting>,
         progress: &mut P,
-    ) -> Result<(usize, Vec<Waiting>), OutOfMemory> {
+    ) -> Result<Vec<Waiting>, OutOfMemory> {
         let before = self.library.active.len();
         let mut fresh = fresh;
         fresh.sort_by_key(|candidate| rank(candidate))?;
-        let mut waiting = self.try_fresh(alloc, fresh, waiting, progress)?;
+        let mut waiting = self.try_fresh(alloc, goal, fresh, waiting, progress)?;
         for _round in 0..ROUNDS {
+            if self.is_proved {
+                break;
+            }
             let known = self.library.active.len();
             waiting = self.try_waiting(alloc, waiting, progress)?;
             if self.library.active.len() == known {
                 break;
             }
         }
-        Ok((self.library.active.len().saturating_sub(before), waiting))
+        if !self.is_proved && self.library.active.len() > before {
+            self.is_proved = self.goal_again(alloc, goal)?;
+        }
+        Ok(waiting)
     }
 
-    /// Tries new candidates. Those that aren't proved wait.
+    /// Tries new candidates. Those that aren't proved wait. Where one is the goal, this is tried at
+    /// once with the lemmas that are new.
     fn try_fresh<P: Progress>(
         &mut self,
         alloc: Global,
+        goal: &Goal,
         fresh: Vec<Candidate>,
         waiting: Vec<Waiting>,
         progress: &mut P,
     ) -> Result<Vec<Waiting>, OutOfMemory> {
         let mut waiting = waiting;
+        let before = self.library.active.len();
         for candidate in fresh {
-            if self.is_over() || self.library.active.len() >= MOST_LEMMAS {
+            if self.is_proved || self.is_over() || self.library.active.len() >= MOST_LEMMAS {
                 break;
             }
-            if self.is_own(&candidate.clause)
-                || self.library.known.is_redundant(alloc, &candidate.clause)?
+            if self.is_own(&candidate.clause) {
+                self.is_proved = self.library.active.len() > before
+                    && self.goal_again(alloc, goal)?;
+                continue;
+            }
+            if self.library.known.is_redundant(alloc, &candidate.clause)?
                 || self
                     .samples
                     .refutes(alloc, &candidate.clause, RANDOM_TESTS, SMALL_TESTS)?

@@ -1,15 +1,16 @@
 //! `explore`: the goals of a file in their order, and lemmas for those that stay open.
 
-use crate::bounds::{DEEPEST, ExploreBounds, goal_again, whole_goal};
-use crate::directed::{Target, Tried};
+use crate::bounds::{ExploreBounds, Strength, goal_again, usual, whole_goal};
 use crate::goals::{are_same, both_ways};
 use crate::library::{Library, copy_numbers};
-use crate::naming::SortNames;
 use crate::places::ReportParts;
 use crate::progress::{End, Progress, Way, append_way, begin_line, end_line};
-use crate::writing::{Proposal, goal_line, written};
+use crate::writing::{Proposal, written};
 use accepted_spec::Accepted;
-use clause_core::{Claim, Clause, Outcome, of_goal};
+use clause_core::{Claim, Clause, Outcome};
+use freer_search::FREER_GOAL;
+use goal_lines::{SortNames, goal_line};
+use proof_ladder::Prover;
 use sample_values::Samples;
 use spec_admit::Admitted;
 use spec_core::{Goal, Spec};
@@ -33,8 +34,11 @@ pub(crate) struct Explorer<'a> {
     /// What the goal says for which lemmas are looked for, from either side. A lemma that says the
     /// same would tell a reader nothing.
     own: Vec<Clause>,
-    /// The way that is gone now, and the work before it.
+    /// The way that is gone now, which provers are asked, and the work before it.
     pub(crate) way: Way,
+    pub(crate) strength: Strength,
+    /// Whether the goal is proved by candidates from below.
+    pub(crate) is_proved: bool,
     work_before: u64,
 }
 
@@ -92,7 +96,9 @@ impl<'a> Explorer<'a> {
             samples,
             bounds,
             own: Vec::new(alloc),
-            way: Way::StuckClauses,
+            way: Way::Alone,
+            strength: Strength::Routine,
+            is_proved: false,
             work_before: 0,
         })
     }
@@ -145,7 +151,9 @@ impl<'a> Explorer<'a> {
 
     /// How many units of work are left to it.
     pub(crate) fn left(&self) -> u64 {
-        self.bounds.work.saturating_sub(self.spent())
+        self.bounds
+            .work_of(self.strength)
+            .saturating_sub(self.spent())
     }
 
     /// Whether no work is left.
@@ -154,7 +162,7 @@ impl<'a> Explorer<'a> {
     }
 
     /// Begins to look for lemmas for the goal in a way.
-    fn begin<P: Progress>(
+    pub(crate) fn begin<P: Progress>(
         &mut self,
         alloc: Global,
         goal: &Goal,
@@ -163,8 +171,9 @@ impl<'a> Explorer<'a> {
     ) -> Result<(), OutOfMemory> {
         self.way = way;
         self.work_before = self.work();
+        self.is_proved = false;
         self.samples.restart();
-        progress.tell(&begin_line(alloc, goal, way)?);
+        progress.tell(&begin_line(alloc, goal, way, self.strength)?);
         Ok(())
     }
 
@@ -180,7 +189,10 @@ impl<'a> Explorer<'a> {
         let Told { goal, claim, lines } = told;
         match &claim.outcome {
             Outcome::Proved(block) => self.library.keep(alloc, goal, block, lines),
-            Outcome::Refuted { .. } => self.library.leave(alloc, goal, lines),
+            Outcome::Refuted { .. } => {
+                progress.tell(&end_line(alloc, goal, End::Refuted)?);
+                self.library.leave(alloc, goal, lines)
+            }
             Outcome::Open(_) => {
                 let found = self.by_lemmas(alloc, goal)?
                     || (asked.is_none_or(|name| goal.has_name(name))
@@ -200,10 +212,11 @@ impl<'a> Explorer<'a> {
             return Ok(false);
         }
         let lemmas = copy_numbers(alloc, &self.library.active)?;
-        self.library.prove_given(alloc, goal, &lemmas, whole_goal())
+        let provers = usual(alloc, whole_goal())?;
+        self.library.prove_given(alloc, goal, &lemmas, &provers)
     }
 
-    /// Looks for lemmas for the goal. If it is proved by some, these are kept.
+    /// Looks for a proof of the goal, with lemmas for it. Those that it needs are kept.
     fn explored<P: Progress>(
         &mut self,
         alloc: Global,
@@ -212,12 +225,7 @@ impl<'a> Explorer<'a> {
     ) -> Result<bool, OutOfMemory> {
         let mark = self.library.mark();
         self.own = both_ways(alloc, goal)?;
-        let found = if self.from_below(alloc, goal, progress)? {
-            true
-        } else {
-            self.library.reset(alloc, mark);
-            self.from_goal(alloc, goal, progress)?
-        };
+        let found = self.by_stages(alloc, goal, mark, progress)?;
         let end = if found { End::Proved } else { End::Open };
         progress.tell(&end_line(alloc, goal, end)?);
         if found {
@@ -227,37 +235,11 @@ impl<'a> Explorer<'a> {
         Ok(false)
     }
 
-    /// Looks for lemmas among equations of terms.
-    fn from_below<P: Progress>(
-        &mut self,
-        alloc: Global,
-        goal: &Goal,
-        progress: &mut P,
-    ) -> Result<bool, OutOfMemory> {
-        self.begin(alloc, goal, Way::Terms(0), progress)?;
-        let clause = of_goal(alloc, goal)?;
-        self.bottom_up(alloc, goal, &clause, progress)
-    }
-
-    /// Looks for lemmas among generalizations of stuck clauses.
-    fn from_goal<P: Progress>(
-        &mut self,
-        alloc: Global,
-        goal: &Goal,
-        progress: &mut P,
-    ) -> Result<bool, OutOfMemory> {
-        self.begin(alloc, goal, Way::StuckClauses, progress)?;
-        let mut tried = Tried {
-            seen: Vec::new(alloc),
-            tries: 0,
-        };
-        self.directed(alloc, Target::Given(goal), &mut tried, DEEPEST, progress)
-    }
-
     /// Tries a goal of the file again: by all that is known, and by those that are small.
     pub(crate) fn goal_again(&mut self, alloc: Global, goal: &Goal) -> Result<bool, OutOfMemory> {
+        let provers = usual(alloc, goal_again())?;
         let all = copy_numbers(alloc, &self.library.active)?;
-        if self.library.prove_given(alloc, goal, &all, goal_again())? {
+        if self.library.prove_given(alloc, goal, &all, &provers)? {
             return Ok(true);
         }
         for size in CHOSEN_SIZES {
@@ -265,14 +247,21 @@ impl<'a> Explorer<'a> {
             if chosen.len() == all.len() {
                 break;
             }
-            if self
-                .library
-                .prove_given(alloc, goal, &chosen, goal_again())?
-            {
+            if self.library.prove_given(alloc, goal, &chosen, &provers)? {
                 return Ok(true);
             }
         }
-        Ok(false)
+        match self.strength {
+            Strength::Routine => Ok(false),
+            Strength::Freer => self.goal_freely(alloc, goal),
+        }
+    }
+
+    /// Tries a goal of the file by the freer search, with all that is known.
+    pub(crate) fn goal_freely(&mut self, alloc: Global, goal: &Goal) -> Result<bool, OutOfMemory> {
+        let all = copy_numbers(alloc, &self.library.active)?;
+        let freer = [Prover::Freer(FREER_GOAL)];
+        self.library.prove_given(alloc, goal, &all, &freer)
     }
 
     /// Tries to prove the clause as a lemma, and tells of it.
@@ -282,7 +271,8 @@ impl<'a> Explorer<'a> {
         clause: &Clause,
         progress: &mut P,
     ) -> Result<bool, OutOfMemory> {
-        let proved = self.library.prove_lemma(alloc, clause)?;
+        let strength = self.strength;
+        let proved = self.library.prove_lemma(alloc, clause, strength)?;
         if proved && let Some(goal) = self.library.admitted.spec.goals.as_slice().last() {
             let mut line = goal_line(alloc, &self.sorts, &self.spec.sig, goal)?;
             append_way(self.way, self.spent(), &mut line)?;

@@ -1,7 +1,7 @@
 //! Goals of clauses, and what is asked of clauses.
 
-use crate::naming::variables;
 use clause_core::{Clause, copy_equations, into_tidied, of_goal};
+use goal_lines::variables;
 use spec_core::{Equation, Goal, Signature};
 use spec_grammar::{MAX_CONCLUSIONS, MAX_DEPTH, MAX_PREMISES};
 use std::alloc::Global;

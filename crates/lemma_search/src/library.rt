@@ -1,19 +1,22 @@
 //! What is known: goals and lemmas in their order, each with its claim.
 
-use crate::bounds::{LEMMA_WORK, TRY_WORK, candidate};
+use crate::bounds::{SMALL_LEMMAS, SMALL_SIZE, Strength, provers, try_work};
 use crate::entries::{Entry, Origin, uses_of};
 use crate::goals::{fits_in_text, goal_of, size};
-use crate::naming::lemma_name;
 use crate::proving::proof_of_last;
+use crate::renaming::{Renamed, with_new_names};
 use clause_core::{Block, Clause, of_goal};
+use goal_lines::lemma_name;
 use growing_specs::{add_goal, copy_goal, keep_first};
 use known_equations::Known;
+use proof_ladder::Prover;
 use proof_search::{Limits, stuck_clauses};
 use spec_admit::Admitted;
 use spec_core::{Goal, Spec};
 use spec_grammar::MAX_GOALS;
 use spec_order::AnyOrder;
 use std::alloc::Global;
+use std::mem;
 use term_core::OutOfMemory;
 
 /// How much is known at some time.
@@ -21,6 +24,7 @@ use term_core::OutOfMemory;
 pub(crate) struct Mark {
     entries: usize,
     active: usize,
+    next_lemma: usize,
 }
 
 /// The goals and lemmas so far.
@@ -80,10 +84,10 @@ impl<'a> Library<'a> {
         alloc: Global,
         goal: &Goal,
         lemmas: &[u32],
-        limits: Limits,
+        provers: &[Prover],
     ) -> Result<bool, OutOfMemory> {
         let goal = copy_goal(alloc, goal)?;
-        self.prove(alloc, goal, Origin::File, lemmas, limits)
+        self.prove(alloc, goal, Origin::File, lemmas, provers)
     }
 
     /// Tries to prove the clause as a lemma, by all that is known. If it is proved, it is the last
@@ -92,6 +96,7 @@ impl<'a> Library<'a> {
         &mut self,
         alloc: Global,
         clause: &Clause,
+        strength: Strength,
     ) -> Result<bool, OutOfMemory> {
         if !fits_in_text(clause) {
             return Ok(false);
@@ -100,8 +105,8 @@ impl<'a> Library<'a> {
         let (name, number) = lemma_name(alloc, spec, self.given, self.next_lemma)?;
         let goal = goal_of(alloc, &spec.sig, name, clause)?;
         let lemmas = copy_numbers(alloc, &self.active)?;
-        let limits = candidate(size(clause));
-        let proved = self.prove(alloc, goal, Origin::Found, &lemmas, limits)?;
+        let provers = provers(alloc, size(clause), strength)?;
+        let proved = self.prove(alloc, goal, Origin::Found, &lemmas, &provers)?;
         if proved {
             self.next_lemma = number.saturating_add(1);
         }
@@ -114,15 +119,16 @@ impl<'a> Library<'a> {
         goal: Goal,
         origin: Origin,
         lemmas: &[u32],
-        limits: Limits,
+        provers: &[Prover],
     ) -> Result<bool, OutOfMemory> {
         let clause = of_goal(alloc, &goal)?;
         let count = self.entries.len();
         if !add_goal(alloc, &mut self.admitted, goal)? {
             return Ok(false);
         }
-        self.count_try(lemmas);
-        let Some(proved) = proof_of_last(alloc, &self.admitted, lemmas, limits)? else {
+        let work = try_work(provers, lemmas.len());
+        self.tries = self.tries.saturating_add(work);
+        let Some(proved) = proof_of_last(alloc, &self.admitted, lemmas, provers)? else {
             keep_first(alloc, &mut self.admitted, count);
             return Ok(false);
         };
@@ -136,12 +142,6 @@ impl<'a> Library<'a> {
             },
         )?;
         Ok(true)
-    }
-
-    /// Counts one try to prove something by these entries.
-    fn count_try(&mut self, lemmas: &[u32]) {
-        let cost = LEMMA_WORK.saturating_mul(lemmas.len() as u64);
-        self.tries = self.tries.saturating_add(TRY_WORK.saturating_add(cost));
     }
 
     /// Adds an entry that is proved, whose goal is the last one.
@@ -230,6 +230,7 @@ impl<'a> Library<'a> {
         Mark {
             entries: self.entries.len(),
             active: self.active.len(),
+            next_lemma: self.next_lemma,
         }
     }
 
@@ -239,6 +240,30 @@ impl<'a> Library<'a> {
         self.entries.truncate(mark.entries);
         self.active.truncate(mark.active);
         self.known.truncate(mark.active);
+        self.next_lemma = mark.next_lemma;
+    }
+
+    /// Of what was found since then only the first small entries may be used from now on.
+    pub(crate) fn use_small(&mut self, alloc: Global, mark: Mark) -> Result<(), OutOfMemory> {
+        let later = match self.active.get(mark.active..) {
+            Some(later) => copy_numbers(alloc, later)?,
+            None => Vec::new(alloc),
+        };
+        let most = mark.active.saturating_add(SMALL_LEMMAS);
+        self.active.truncate(mark.active);
+        self.known.truncate(mark.active);
+        for number in &later {
+            if self.active.len() >= most {
+                break;
+            }
+            if let Some(entry) = self.entries.get(*number as usize)
+                && size(&entry.clause) <= SMALL_SIZE
+            {
+                self.known.add(alloc, &entry.clause)?;
+                self.active.push(*number)?;
+            }
+        }
+        Ok(())
     }
 
     /// Keeps of what was found since then the last entry, which is a goal of the file, and the
@@ -287,7 +312,7 @@ impl<'a> Library<'a> {
     }
 
     /// Adds those of the later entries that are needed, with their goals. Their numbers begin with
-    /// `first`.
+    /// `first`. The lemmas get the next names, without gaps.
     fn add_needed(
         &mut self,
         alloc: Global,
@@ -297,13 +322,38 @@ impl<'a> Library<'a> {
         first: usize,
     ) -> Result<(), OutOfMemory> {
         let mut goals = goals.into_iter();
+        let mut names = Vec::new(alloc);
         for (number, entry) in later.into_iter().enumerate() {
             if needed.get(number.saturating_add(first)) == Some(&true)
                 && let Some(goal) = goals.next()
-                && add_goal(alloc, &mut self.admitted, goal)?
             {
-                self.push_known(alloc, entry)?;
+                self.add_renamed(alloc, goal, entry, &mut names)?;
             }
+        }
+        Ok(())
+    }
+
+    /// Adds the entry, with its goal. A lemma gets the next name, which its claim has, and all
+    /// later ones.
+    fn add_renamed(
+        &mut self,
+        alloc: Global,
+        goal: Goal,
+        entry: Entry,
+        names: &mut Vec<Renamed>,
+    ) -> Result<(), OutOfMemory> {
+        let mut goal = goal;
+        let mut entry = entry;
+        if entry.origin == Origin::Found {
+            let spec = &self.admitted.spec;
+            let (new, number) = lemma_name(alloc, spec, self.given, self.next_lemma)?;
+            self.next_lemma = number.saturating_add(1);
+            let old = mem::replace(&mut goal.name, new.copy(alloc)?);
+            names.push(Renamed { old, new })?;
+        }
+        entry.claim = with_new_names(alloc, &entry.claim, names.as_slice())?;
+        if add_goal(alloc, &mut self.admitted, goal)? {
+            self.push_known(alloc, entry)?;
         }
         Ok(())
     }

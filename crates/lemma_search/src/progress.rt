@@ -1,5 +1,6 @@
 //! Who hears of an exploration while it goes on, and what is said.
 
+use crate::bounds::Strength;
 use spec_core::{Goal, append_decimal};
 use std::alloc::Global;
 use term_core::OutOfMemory;
@@ -17,22 +18,34 @@ pub(crate) enum Way {
     Terms(u32),
     /// From the goal, among generalizations of clauses at which it is stuck.
     StuckClauses,
+    /// Nowhere: the goal alone is tried.
+    Alone,
 }
 
 /// How a goal ended.
 #[derive(Clone, Copy)]
 pub(crate) enum End {
     Proved,
+    Refuted,
     Open,
 }
 
-/// The line on a goal when the search for its lemmas begins.
-pub(crate) fn begin_line(alloc: Global, goal: &Goal, way: Way) -> Result<Vec<u8>, OutOfMemory> {
+/// The line on a goal when a stage of the search begins.
+pub(crate) fn begin_line(
+    alloc: Global,
+    goal: &Goal,
+    way: Way,
+    strength: Strength,
+) -> Result<Vec<u8>, OutOfMemory> {
     let mut line = line_of(alloc, goal)?;
     line.extend_from_slice(match way {
         Way::Terms(_) => b"looking for lemmas from below".as_slice(),
         Way::StuckClauses => b"looking for lemmas from its stuck clauses".as_slice(),
+        Way::Alone => b"looking for a proof".as_slice(),
     })?;
+    if strength == Strength::Freer {
+        line.extend_from_slice(b", with the freer search")?;
+    }
     Ok(line)
 }
 
@@ -41,6 +54,7 @@ pub(crate) fn end_line(alloc: Global, goal: &Goal, end: End) -> Result<Vec<u8>, 
     let mut line = line_of(alloc, goal)?;
     line.extend_from_slice(match end {
         End::Proved => b"proved".as_slice(),
+        End::Refuted => b"refuted".as_slice(),
         End::Open => b"open".as_slice(),
     })?;
     Ok(line)
@@ -62,6 +76,7 @@ pub(crate) fn append_way(way: Way, units: u64, line: &mut Vec<u8>) -> Result<(),
             append_decimal(size as usize, line)?;
         }
         Way::StuckClauses => line.extend_from_slice(b"from a stuck clause")?,
+        Way::Alone => line.extend_from_slice(b"alone")?,
     }
     line.extend_from_slice(b", ")?;
     if let Ok(units) = usize::try_from(units) {

@@ -1,15 +1,14 @@
-//! The claim that proves a goal, if the provers of `prove` find a proof.
+//! The claim that proves a goal, if one of several provers finds a proof.
 
 ghost use Rattle.std.specs.Prelude.{◌<◌, length};
 ghost use Rattle.proof_script.specs.Ranges.{ClaimIsInRange};
-ghost use Rattle.lemma_search.specs.ProvedClaims.{proved_by as claim_of};
+ghost use Rattle.proof_search.specs.Guided.{proved_by as claim_of};
 
-use crate::bounds::PLAIN_LENGTH;
 use crate::entries::uses_of;
 use clause_core::{Block, Claim, Outcome};
-use plain_search::plain;
+use proof_ladder::{Prover, first_proof};
 use proof_script::print_claim;
-use proof_search::{Guided, Limits, proof_within};
+use proof_search::Guided;
 use spec_admit::Admitted;
 use spec_core::Goal;
 use spec_order::AnyOrder;
@@ -25,16 +24,17 @@ pub(crate) struct Proved {
     pub(crate) uses: Vec<u32>,
 }
 
-/// The claim that proves the last goal over the goals of these numbers as lemmas.
+/// The claim that proves the last goal over the goals of these numbers as lemmas, if one of the
+/// provers finds a proof.
 pub(crate) fn proof_of_last(
     alloc: Global,
     admitted: &Admitted<AnyOrder>,
     lemmas: &[u32],
-    limits: Limits,
+    provers: &[Prover],
 ) -> Result<Option<Proved>, OutOfMemory> {
     let count = admitted.spec.goals.len();
     match u32::try_from(count.saturating_sub(1)) {
-        Ok(last) if (last as usize) < count => proof_of(alloc, admitted, last, lemmas, limits),
+        Ok(last) if (last as usize) < count => proof_of(alloc, admitted, last, lemmas, provers),
         _ => Ok(None),
     }
 }
@@ -45,16 +45,13 @@ fn proof_of(
     admitted: &Admitted<AnyOrder>,
     number: u32,
     lemmas: &[u32],
-    limits: Limits,
+    provers: &[Prover],
 ) -> Result<Option<Proved>, OutOfMemory>
     requires { number < length admitted.now.spec.goals }
 {
     let goals = admitted.spec.goals.as_slice();
     let goal = &goals[number as usize];
-    if let Some(block) = plain(alloc, admitted, goal, PLAIN_LENGTH)? {
-        return Ok(Some(proved_by(alloc, admitted, goal, block)?));
-    }
-    match proof_within(alloc, admitted, number, lemmas, limits)? {
+    match first_proof(alloc, admitted, number, lemmas, provers)? {
         Guided::Block(block) => Ok(Some(proved_by(alloc, admitted, goal, block)?)),
         Guided::Unfinished => Ok(None),
     }

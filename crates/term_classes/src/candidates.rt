@@ -8,7 +8,7 @@ use spec_core::Equation;
 use std::alloc::Global;
 use term_core::{OutOfMemory, Seq, SortId, Term};
 
-/// A clause that holds at the samples, so that it may be a lemma: an equation, with a premise at
+/// A clause that holds at the samples, so that it may be a lemma: an equation, with two premises at
 /// most. Its variables are numbered by first occurrence.
 #[derive(Drop)]
 pub struct Candidate {

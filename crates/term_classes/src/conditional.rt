@@ -143,7 +143,7 @@ fn lacking(alloc: Global, test: &Term, conclusion: &Equation) -> Result<Option<u
 fn variables_of(alloc: Global, equation: &Equation) -> Result<Seq<VarId>, OutOfMemory> {
     let mut vars = equation.left.vars(alloc)?;
     let others = equation.right.vars(alloc)?;
-    for var in others.as_slice() {
+    for var in &others {
         if !vars.as_slice().contains(var) {
             vars.push(*var)?;
         }

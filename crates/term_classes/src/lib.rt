@@ -4,7 +4,8 @@
 //! already. [`scope_of`] chooses symbols for a clause. [`Classes`] take in the terms over them by
 //! size. The first term of a class represents it, and arguments are representatives alone. A
 //! further term of a class is a candidate: it may equal the representative. A [`Candidate`] may
-//! also have a premise, under which classes are put together that differ without it.
+//! also have a premise, under which classes are put together that differ without it, or two, which
+//! together imply a third test.
 //!
 //! Proved: It is safe and ends. The symbols of a scope are declared, and each is there once. A
 //! candidate has one conclusion, its variables are numbered by first occurrence, and it says how
@@ -23,6 +24,7 @@ mod conditional;
 mod drawing;
 mod evaluating;
 mod growing;
+mod implications;
 mod premises;
 mod regrouping;
 mod rows;

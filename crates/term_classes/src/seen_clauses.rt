@@ -24,7 +24,7 @@ impl SeenClauses {
     /// Adds the clause, and says whether it wasn't there.
     pub(crate) fn add(&mut self, alloc: Global, clause: &Clause) -> Result<bool, OutOfMemory> {
         let mut numbers = Vec::new(alloc);
-        for sort in clause.ctx.as_slice() {
+        for sort in &clause.ctx {
             numbers.push(sort.0)?;
         }
         add_equations(clause.premises.as_slice(), &mut numbers)?;

@@ -17,4 +17,6 @@ returns c =
     let and_samples =
     c.in_ok-arg-5.ensures.shape c.number-3.ensures.local
     ∙ ap₂ with_rule and_size c.number-3.ensures.rule in
-    c.in_ok-app.ensures.shape c.flag.ensures.local ∙ ap₂ with_rule and_samples c.flag.ensures.rule
+    let and_no_lemmas =
+    c.in_ok-arg-6.ensures.shape c.flag.ensures.local ∙ ap₂ with_rule and_samples c.flag.ensures.rule in
+    c.in_ok-app.ensures.shape c.flag-2.ensures.local ∙ ap₂ with_rule and_no_lemmas c.flag-2.ensures.rule

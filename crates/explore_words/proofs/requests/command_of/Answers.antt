@@ -29,5 +29,6 @@ returns-clause-says c =
       work = c.number_of.ensures;
       size = c.number_of-2.ensures;
       samples = c.number_of-3.ensures;
-      quiet = c.is_given.ensures;
+      no_lemmas = c.is_given.ensures;
+      quiet = c.is_given-2.ensures;
     }

@@ -1,16 +1,10 @@
-use Rattle.std.proofs.Common.{◌≡◌, ◌∙◌, ◌<◌, [], List, Some, ap, length, refl, slice_get, subst, sym}
+use Rattle.std.proofs.Common.{◌≡◌, ◌∙◌, ◌<◌, List, Some, ap, length, refl, slice_get, subst, sym}
 use Rattle.std.proofs.lemmas.Option.{slice_get_read}
 use Rattle.spec_core.specs.declared.records.Goal.{Goal}
-use Rattle.lemma_search.proofs.PrintedProofs.{proof_in_range}
 use Rattle.lemma_search.proofs.proving.proof_of.Goals as goal
 
 pub proved_by-requires : goal.proved_by-requires
 proved_by-requires c =
-    let found = rw c.in-Some.is at c.in_ok-block.ensures in
-    proof_in_range _ _ _ c.index-goals-number.result c.in-Some.block (found.proves [])
-
-pub proved_by-requires-in-Block : goal.proved_by-requires-in-Block
-proved_by-requires-in-Block c =
     let slice = c.as_slice-goals.result.now in
     let number = c.args.number in
     let goal = c.index-goals-number.result in
@@ -18,5 +12,5 @@ proved_by-requires-in-Block c =
     let within = subst (λ (xs : List Goal). number < length xs) (sym same) c.requires in
     let at = slice_get_read slice (length slice) number goal refl within c.index-goals-number.is in
     let listed = subst (λ (xs : List Goal). slice_get xs number ≡ Some goal) same at in
-    let found = rw c.in-Block.is at c.in_ok-block-2.ensures.routine goal listed in
-    proof_in_range _ _ _ goal c.in-Block.block found.2.proves
+    let found = rw c.in-Block.is at c.in_ok-block.ensures goal listed in
+    found.0

@@ -1,0 +1,2 @@
+-- The nodes of a tree stay nodes of a block.
+mod KeptNodes

@@ -1,0 +1,2 @@
+-- The nodes of a tree.
+pub mod Trees

@@ -1,0 +1,3 @@
+-- What is found is a proof.
+mod Checked
+mod ListedGoals

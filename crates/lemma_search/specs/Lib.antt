@@ -1,2 +1,0 @@
--- What is said of a proof that was found.
-pub mod ProvedClaims

@@ -1,0 +1,2 @@
+-- What the provers answer.
+pub mod Reportable
